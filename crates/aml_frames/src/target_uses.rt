@@ -16,7 +16,9 @@ use crate::frames::{Frame, Next};
 use crate::references::begin_found;
 use crate::uses::{Inquiry, Reading, TargetUse};
 use crate::values::integer_of;
-use aml_meaning::{Count, Flow, Held, Referent, Running, StoreTarget, Stored, WorldState};
+use aml_meaning::{
+    Count, EventChange, Flow, Held, Referent, Running, StoreTarget, Stored, WorldState,
+};
 use aml_objects::{Field, Value};
 use ar_space::{Refusal, Space};
 use std::alloc::Global;
@@ -73,16 +75,45 @@ pub(crate) fn use_target<S: Space>(
             begin_found(run, act, levels, found)
         }
         TargetUse::Notify(levels) => Ok(Next::Term(levels, Frame::Pause)),
-        TargetUse::Event(change) => {
-            let event = run.world.event_named(&target)?;
-            run.world.change_event(change, event)?;
-            Ok(Next::Flow(Flow::Next))
-        }
-        TargetUse::Wait(levels) => {
-            let event = run.world.event_named(&target)?;
-            Ok(Next::Term(levels, Frame::Wait(event)))
-        }
+        TargetUse::Event(change) => change_event(run, act, &target, change),
+        TargetUse::Wait(levels) => begin_wait(run, act, &target, levels),
     }
+}
+
+/// Signal and Reset of the event that a target names.
+#[tactic(auto, using(crate::proofs::Using::using_targets))]
+fn change_event<S: Space>(
+    run: &mut Running<S>,
+    act: &Activation,
+    target: &StoreTarget,
+    change: EventChange,
+) -> Result<Next, Refusal>
+    ensures spent { run.new.1 ≤ run.old.1 }
+    ensures falls { IfOk result (λ n. next_weight n < use_weight (uses.Event change)) }
+    ensures means { Leads S.accesses (meaning S.accesses) result act.now run.new
+        (used S.accesses (meaning S.accesses) (uses.Event change) act.now target.now) run.old }
+    ensures ends { EndsAt result act.now act.now }
+{
+    let event = run.world.event_named(target)?;
+    run.world.change_event(change, event)?;
+    Ok(Next::Flow(Flow::Next))
+}
+
+/// Wait: the event is found before the timeout is evaluated.
+#[tactic(auto, using(crate::proofs::Using::using_targets, crate::proofs::WideSteps::waiting))]
+fn begin_wait<S: Space>(
+    run: &Running<S>,
+    act: &Activation,
+    target: &StoreTarget,
+    levels: u8,
+) -> Result<Next, Refusal>
+    ensures falls { IfOk result (λ n. next_weight n < use_weight (uses.Wait levels)) }
+    ensures means { Leads S.accesses (meaning S.accesses) result act.now run.now
+        (used S.accesses (meaning S.accesses) (uses.Wait levels) act.now target.now) run.now }
+    ensures ends { EndsAt result act.now (use_ends (uses.Wait levels) act.now) }
+{
+    let event = run.world.event_named(target)?;
+    Ok(Next::Term(levels, Frame::Wait(event)))
 }
 
 /// A value is stored to a target, and is the value of the term.
