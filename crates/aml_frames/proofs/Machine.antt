@@ -1,5 +1,5 @@
 -- Steps of the machine: each keeps what the machine means.
-use Rattle.std.specs.Prelude.{◌≡◌, ℕ, ◌+◌, ◌-◌, ◌<◌, Bool, true, false, List, [], ◌∷◌, ◌++◌, length, Ok, Err, IsErr, IsErrAnd, refl}
+use Rattle.std.specs.Prelude.{◌≡◌, ℕ, ◌+◌, ◌-◌, ◌<◌, ◌≤◌, Bool, true, false, List, [], ◌∷◌, ◌++◌, length, Ok, Err, IfOk, IsErr, IsErrAnd, refl}
 use Rattle.std.proofs.Common.{◌∙◌, ap, sym, arith}
 use Rattle.ar_space.specs.Accesses.{Accesses}
 use Rattle.ar_space.specs.declared.refusal.Refusal.{Refusal}
@@ -42,10 +42,11 @@ use Rattle.aml_meaning.specs.declared.term_kind.Count.{Count}
 use Rattle.aml_frames.specs.Uses.{optional, target_ends, target_run, access_run}
 use Rattle.aml_meaning.specs.Meaning.{meaning}
 use Rattle.aml_frames.proofs.Stepping.{leads_goes_on, leads_goes_off, leads_item, leads_no_item, leads_end}
-use Rattle.aml_frames.proofs.Weighing.{falling}
+use Rattle.aml_frames.proofs.Weighing.{charged_step, falling}
 use Rattle.aml_frames.specs.Places.{Site, behind_term}
 use Rattle.aml_frames.specs.Data.{package_run}
 use Rattle.aml_frames.specs.Follow.{at_position, ends, turn_items, read_access, term_run, items_run, list_run, all_left, body_run, resumed, next_run, next_ends, Leads}
+use Rattle.aml_frames.specs.Weights.{step_weight, charged}
 use Rattle.aml_frames.specs.Stack.{Rest, whole, met, unwinding, at_bottom, then_all, machine, Goes, entry_weight, stack_weight, control_weight}
 
 -- ---- the newest entry meets the outcome first
@@ -170,21 +171,6 @@ module _ {S : Type 0} {ac : Accesses S} where
   pub item_last : {s : State S × ℕ} (c d : Site) (xs : List Entry) (i : Items) (f : Flow) (on : Bool) → on ≡ goes_on f → on ≡ false → d ≡ at_position c i.outer → Goes ac (meaning ac) (Ok (control.Flow f)) d xs s (machine ac (meaning ac) (control.Flow f) c (xs ++ entry.Frame (frames.Items i) ∷ [])) s
   item_last c d xs i f on e h j = goes_frame c xs (frames.Items i) f (goes_leads (next.Flow f) d (at_position c i.outer) xs _ (leads_goes_off c d i f on e h) j (goes_flow f))
 
-  -- no item is left
-  pub item_none : {s : State S × ℕ} (c d : Site) (xs : List Entry) (i : Items) (f : Flow) (on : Bool) → on ≡ goes_on f → on ≡ true → i.left ≡ 0 → d ≡ at_position c i.outer → Goes ac (meaning ac) (Ok (control.Flow flow.Next)) d xs s (machine ac (meaning ac) (control.Flow f) c (xs ++ entry.Frame (frames.Items i) ∷ [])) s
-  item_none c d xs i f on e h none j = goes_frame c xs (frames.Items i) f (goes_leads (next.Items i) c (at_position c i.outer) xs _ (leads_goes_on c c i f on e h refl) refl (goes_leads (next.Flow flow.Next) d (at_position c i.outer) xs _ (leads_no_item c d i none) j (goes_flow flow.Next)))
-
-  pub item_over : {s : State S × ℕ} (c d : Site) (xs : List Entry) (i : Items) (f : Flow) (on : Bool) → on ≡ goes_on f → on ≡ true → length c.place.rest ≡ 0 → d ≡ at_position c i.outer → Goes ac (meaning ac) (Ok (control.Flow flow.Next)) d xs s (machine ac (meaning ac) (control.Flow f) c (xs ++ entry.Frame (frames.Items i) ∷ [])) s
-  item_over c d xs i f on e h over j = goes_frame c xs (frames.Items i) f (goes_leads (next.Items i) c (at_position c i.outer) xs _ (leads_goes_on c c i f on e h refl) refl (goes_leads (next.Flow flow.Next) d (at_position c i.outer) xs _ (leads_end c d i over) j (goes_flow flow.Next)))
-
-  -- the next item
-  pub item_next : {s : State S × ℕ} (c : Site) (xs ys : List Entry) (i : Items) (n : ℕ) (f : Flow) (on : Bool) → on ≡ goes_on f → on ≡ true → 0 < i.left → 0 < length c.place.rest → n ≡ i.left - 1 → ys ≡ xs ++ entry.Frame (frames.Items (record { left = n; levels = i.levels; outer = i.outer })) ∷ [] → Goes ac (meaning ac) (Ok (control.Term i.levels)) c ys s (machine ac (meaning ac) (control.Flow f) c (xs ++ entry.Frame (frames.Items i) ∷ [])) s
-  item_next c xs ys i n f on e h some left one j =
-      let x = frames.Items (record { left = n; levels = i.levels; outer = i.outer }) in
-      goes_frame c xs (frames.Items i) f (goes_leads (next.Items i) c (at_position c i.outer) xs _ (leads_goes_on c c i f on e h refl) refl (goes_leads (next.Term i.levels x) c (at_position c i.outer) xs _ (leads_item c i n some left one) refl (goes_term xs ys i.levels x j)))
-
-pub ruleset listing_on = (weight_on, item_last, item_none, item_over, item_next, goes_memory)
-
 -- ---- the loop
 
 pub falls_popped : (n m : ℕ) (xs ys : List Entry) (y : Entry) (x : Control) (f : Flow) → n < m + (stack_weight ys + entry_weight y + 3) → xs ≡ ys ++ y ∷ [] → x ≡ control.Flow f → n < m + (stack_weight xs + control_weight x)
@@ -222,6 +208,56 @@ module _ {S : Type 0} (ac : Accesses S) (ev : Task → Run S Flow) where
   pub unwound_end : (e : Refusal) (c : Site) (xs : List Entry) (s : State S × ℕ) → xs ≡ [] → then_all ac ev (stop e) c xs s ≡ (Err e, s)
   unfolding then_all unwinding stop settle
   unwound_end e c xs s i = rw i refl
+
+module _ {S : Type 0} {ac : Accesses S} where
+  -- the list goes on
+  pub item_on : {s : State S × ℕ} (c : Site) (xs : List Entry) (i : Items) (f : Flow) (on : Bool) → on ≡ goes_on f → on ≡ true → Goes ac (meaning ac) (Ok (control.Items i)) c xs s (machine ac (meaning ac) (control.Flow f) c (xs ++ entry.Frame (frames.Items i) ∷ [])) s
+  item_on c xs i f on e h = goes_frame c xs (frames.Items i) f (goes_leads (next.Items i) c (at_position c i.outer) xs _ (leads_goes_on c c i f on e h refl) refl (goes_items i))
+
+  -- ---- a list begins
+
+  -- no item is left
+  pub item_none : {s : State S × ℕ} (c d : Site) (xs : List Entry) (i : Items) → i.left ≡ 0 → d ≡ at_position c i.outer → Goes ac (meaning ac) (Ok (control.Flow flow.Next)) d xs s (machine ac (meaning ac) (control.Items i) c xs) s
+  item_none c d xs i none j = goes_leads (next.Flow flow.Next) d (at_position c i.outer) xs _ (leads_no_item c d i none) j (goes_flow flow.Next)
+
+  pub item_over : {s : State S × ℕ} (c d : Site) (xs : List Entry) (i : Items) → length c.place.rest ≡ 0 → d ≡ at_position c i.outer → Goes ac (meaning ac) (Ok (control.Flow flow.Next)) d xs s (machine ac (meaning ac) (control.Items i) c xs) s
+  item_over c d xs i over j = goes_leads (next.Flow flow.Next) d (at_position c i.outer) xs _ (leads_end c d i over) j (goes_flow flow.Next)
+
+  -- an item begins, and the items behind it wait
+  item_waits : {s : State S × ℕ} (c : Site) (xs : List Entry) (i : Items) (n : ℕ) → 0 < i.left → 0 < length c.place.rest → n ≡ i.left - 1 → Goes ac (meaning ac) (Ok (control.Term i.levels)) c (xs ++ entry.Frame (frames.Items (record { left = n; levels = i.levels; outer = i.outer })) ∷ []) s (machine ac (meaning ac) (control.Items i) c xs) s
+  item_waits c xs i n some left one =
+      let x = frames.Items (record { left = n; levels = i.levels; outer = i.outer }) in
+      goes_leads (next.Term i.levels x) c (at_position c i.outer) xs _ (leads_item c i n some left one) refl (goes_term xs _ i.levels x refl)
+
+  goes_then : {m : Run S Flow} {r : Outcome Control} {d e : Site} {ys zs : List Entry} {s s1 s2 : State S × ℕ} (x : Control) → Goes ac (meaning ac) (Ok x) d ys s1 m s → Goes ac (meaning ac) r e zs s2 (machine ac (meaning ac) x d ys) s1 → Goes ac (meaning ac) r e zs s2 m s
+  goes_then x h i = record { is = λ ne. h.is tt ∙ i.is ne }
+
+  pub item_next : {r : Outcome Control} {e : Site} {ys : List Entry} {s s1 s2 : State S × ℕ} (x : Next) (c b d : Site) (xs : List Entry) (i : Items) (n : ℕ) → 0 < i.left → 0 < length c.place.rest → n ≡ i.left - 1 → Leads ac (meaning ac) (Ok x) d s1 (term_run ac (meaning ac) b i.levels) s → b ≡ c → next_ends x d ≡ behind_term b i.levels
+      → Goes ac (meaning ac) r e ys s2 (then_all ac (meaning ac) (next_run ac (meaning ac) x d) (next_ends x d) (xs ++ entry.Frame (frames.Items (record { left = n; levels = i.levels; outer = i.outer })) ∷ [])) s1
+      → Goes ac (meaning ac) r e ys s2 (machine ac (meaning ac) (control.Items i) c xs) s
+  item_next x c b d xs i n some left one l same ends g =
+      let ys = xs ++ entry.Frame (frames.Items (record { left = n; levels = i.levels; outer = i.outer })) ∷ [] in
+      goes_then (control.Term i.levels) (item_waits c xs i n some left one) (goes_leads x d (behind_term c i.levels) ys _ (rw same at l) (rw same at ends) g)
+
+  -- an item that is refused passes the items behind it
+  pub item_refused : {e : Refusal} {r : Outcome Control} {s s1 : State S × ℕ} (c b d : Site) (xs : List Entry) (i : Items) → 0 < i.left → 0 < length c.place.rest → Leads ac (meaning ac) (Err e) d s1 (term_run ac (meaning ac) b i.levels) s → b ≡ c → IsErr r × IsErrAnd r (λ x. x ≡ e) → Goes ac (meaning ac) r d xs s1 (machine ac (meaning ac) (control.Items i) c xs) s
+  item_refused {r = Ok y} c b d xs i some left l same h = absurd (cc h.0)
+  item_refused {r = Err y} {s1 = s1} c b d xs i some left l same h =
+      let x = frames.Items (record { left = i.left - 1; levels = i.levels; outer = i.outer }) in
+      let g = goes_then {r = Err y} (control.Term i.levels) (item_waits c xs i (i.left - 1) some left refl) (goes_leads_err d (behind_term c i.levels) (xs ++ entry.Frame x ∷ []) _ (rw same at l) h) in
+      record { is = λ ne. g.is ne ∙ unwound_frame ac (meaning ac) y d xs x s1 }
+
+-- an item pays a step, and the items behind it may wait
+pub falls_item : (r : Outcome Control) (a b w n x y : ℕ) → a < b → w < step_weight → IfOk r (λ c. n + (x + control_weight c) ≤ charged a + (y + 3 + w)) → IfOk r (λ c. n + (x + control_weight c) < charged b + (y + 4))
+falls_item (Ok c) a b w n x y h i j = let p = charged_step a b h in omega (arith, p, i, j)
+falls_item (Err z) a b w n x y h i j = tt
+
+-- an item that leaves nothing to do
+pub falls_done : (r : Outcome Control) (a x y : ℕ) → IfOk r (λ c. x + control_weight c < y + 6) → IfOk r (λ c. charged a + (x + control_weight c) ≤ charged a + (y + 3 + 3))
+falls_done (Ok c) a x y h = omega (arith, h)
+falls_done (Err z) a x y h = tt
+
+pub ruleset listing_on = (weight_on, falls_item, falls_done, item_last, item_on, item_none, item_over, item_next, item_refused, goes_memory)
 
 pub ruleset going = (weight_on, goes_flow, goes_items, goes_package, goes_term, goes_turn, goes_scope, goes_body, goes_body_then, goes_target, goes_division, goes_found, goes_read, goes_counted, goes_access_then, goes_flow_then, goes_memory)
 

@@ -15,6 +15,8 @@ use Rattle.aml_frames.specs.declared.frames.Control.TheVariants as control
 use Rattle.aml_frames.specs.declared.frames.Entry.{Entry}
 use Rattle.aml_frames.specs.declared.frames.Entry.TheVariants as entry
 use Rattle.aml_frames.specs.declared.frames.Items.{Items}
+use Rattle.aml_frames.specs.declared.frames.Next.{Next}
+use Rattle.aml_frames.specs.declared.frames.Next.TheVariants as next
 use Rattle.aml_frames.specs.Places.{Site, behind_term}
 use Rattle.aml_frames.specs.Data.{package_run}
 use Rattle.aml_frames.specs.Follow.{at_position, ends, read_access, term_run, items_run, resumed}
@@ -77,6 +79,12 @@ module _ {S : Type 0} (accesses : Accesses S) (ev : Task → Run S Flow) where
 
   pub record Goes (r : Outcome Control) (c : Site) (xs : List Entry) (after : State S × ℕ) (m : Run S Flow) (before : State S × ℕ) : Type 0 where
     pub is : NotMemory r → m before ≡ gone r c xs after
+
+-- what a step leaves to do is given up: a call ends that it has begun
+abbrev pub given_up : {S : Type 0} → Next → State S × ℕ → State S × ℕ
+given_up (next.Body b) s = (left b.scope s.0, s.1)
+given_up (next.BodyThen b x) s = (left b.scope s.0, s.1)
+given_up _ s = s
 
 -- ---- how much entries may ask for without a step being paid
 

@@ -59,7 +59,6 @@ pub use frames::{
 pub use indexed::{
     IndexedField, UnitReads, UnitWrites, UnitsLeft, is_kept, merge_unit, put_unit, zeros,
 };
-pub use lists::begin_items;
 pub use names::begin_name;
 pub use operators::begin_operator;
 pub use regions::begin_region_term;

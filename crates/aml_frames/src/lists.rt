@@ -1,34 +1,150 @@
-//! Lists of terms (ACPI 6.5, 20.2.5).
-ghost use Rattle.std.specs.Prelude.{◌≡◌, ◌<◌, Ok};
+//! Lists of terms (ACPI 6.5, 20.2.5). An item that leaves nothing to do pushes nothing.
+ghost use Rattle.std.specs.Prelude.{◌≡◌, ◌≤◌, ◌<◌, ◌+◌, [], ◌∷◌, ◌++◌, OnOk, IfOk, IfErr};
+ghost use Rattle.ar_space.specs.declared.refusal.Refusal.TheVariants.{OutOfMemory};
 ghost use Rattle.aml_meaning.specs.Meaning.{meaning};
-ghost use Rattle.aml_frames.specs.Follow.{at_position, items_run, next_ends, Leads};
-ghost use Rattle.aml_frames.specs.Weights.{next_weight};
+ghost use Rattle.aml_frames.specs.declared.frames.Control.TheVariants as control;
+ghost use Rattle.aml_frames.specs.declared.frames.Entry.TheVariants as entry;
+ghost use Rattle.aml_frames.specs.declared.frames.Frame.TheVariants as frames;
+ghost use Rattle.aml_frames.specs.Follow.{next_run, next_ends};
+ghost use Rattle.aml_frames.specs.Stack.{then_all, machine, given_up, Goes, stack_weight, control_weight};
+ghost use Rattle.aml_frames.specs.Weights.{next_weight, charged};
 
-use crate::activation::Activation;
-use crate::frames::{Frame, Items, Next};
+use crate::frames::{Control, Entry, Frame, Items, Next};
+use crate::stack::{end_call, follow};
+use crate::terms::begin_term;
+use crate::waiting::{Stack, go_to_flow, go_to_items};
 use aml_meaning::{Flow, Running};
-use ar_space::Space;
+use ar_space::{Refusal, Space};
+use std::alloc::Global;
 
-/// A list.
-#[tactic(auto, using(crate::proofs::Stepping::listing))]
-pub fn begin_items<S: Space>(run: &Running<S>, act: &mut Activation, items: Items) -> Next
-    ensures falls { next_weight result < 4 }
-    ensures means { Leads S.accesses (meaning S.accesses) (Ok result) act.new run.now
-        (items_run S.accesses (meaning S.accesses) items act.old) run.now }
-    ensures ends { next_ends result act.new ≡ at_position act.old items.outer }
+/// The next item of a list is begun, or the list ends. What is left of the list waits only for an item that leaves
+/// something to do.
+#[inline(always)]
+#[tactic(auto, using(crate::proofs::Machine::listing_on))]
+pub(crate) fn step_items<S: Space>(
+    alloc: Global,
+    run: &mut Running<S>,
+    stack: &mut Stack,
+    items: Items,
+) -> Result<Control, Refusal>
+    ensures falls { IfOk result (λ c. charged run.new.1 + (stack_weight stack.new.entries.items + control_weight c) <
+        charged run.old.1 + (stack_weight stack.old.entries.items + 4)) }
+    ensures means { Goes S.accesses (meaning S.accesses) result stack.new.act stack.new.entries.items run.new
+        (machine S.accesses (meaning S.accesses) (control.Items items) stack.old.act stack.old.entries.items) run.old }
 {
-    let rest = act.rest().len();
-    if items.left == 0 || rest == 0 {
-        act.go_to(items.outer);
-        Next::Flow(Flow::Next)
-    } else {
-        act.begin_item();
-        Next::Term(
-            items.levels,
-            Frame::Items(Items {
-                left: items.left - 1,
-                ..items
-            }),
-        )
+    if items.left == 0 {
+        stack.act.go_to(items.outer);
+        return go_to_flow(Flow::Next);
+    }
+    let rest = stack.act.rest().len();
+    if rest == 0 {
+        stack.act.go_to(items.outer);
+        return go_to_flow(Flow::Next);
+    }
+    stack.act.begin_item();
+    let behind = Items {
+        left: items.left - 1,
+        ..items
+    };
+    let next = begin_term(alloc, run, &mut stack.act, items.levels)?;
+    follow_item(run, stack, behind, next)
+}
+
+/// What an item leaves to do is put on the stack, above the items behind it; where it leaves nothing, the list goes on.
+#[inline(always)]
+#[tactic(auto, using(crate::proofs::Machine::listing_on))]
+fn follow_item<S: Space>(
+    run: &mut Running<S>,
+    stack: &mut Stack,
+    behind: Items,
+    next: Next,
+) -> Result<Control, Refusal>
+    ensures falls { IfOk result (λ c. charged run.new.1 + (stack_weight stack.new.entries.items + control_weight c) ≤
+        charged run.old.1 + (stack_weight stack.old.entries.items + 3 + next_weight next)) }
+    ensures means { Goes S.accesses (meaning S.accesses) result stack.new.act stack.new.entries.items run.new
+        (then_all S.accesses (meaning S.accesses) (next_run S.accesses (meaning S.accesses) next stack.old.act)
+        (next_ends next stack.old.act) (stack.old.entries.items ++ entry.Frame (frames.Items behind) ∷ [])) run.old }
+{
+    match next {
+        Next::Flow(flow) => next_item(run, stack, behind, flow),
+        next => follow_above(run, stack, behind, next),
+    }
+}
+
+/// What an item leaves to do is put on the stack, above the items behind it.
+#[inline(always)]
+#[tactic(auto, using(crate::proofs::Machine::listing_on))]
+fn follow_above<S: Space>(
+    run: &mut Running<S>,
+    stack: &mut Stack,
+    behind: Items,
+    next: Next,
+) -> Result<Control, Refusal>
+    ensures falls { IfOk result (λ c. charged run.new.1 + (stack_weight stack.new.entries.items + control_weight c) ≤
+        charged run.old.1 + (stack_weight stack.old.entries.items + 3 + next_weight next)) }
+    ensures means { Goes S.accesses (meaning S.accesses) result stack.new.act stack.new.entries.items run.new
+        (then_all S.accesses (meaning S.accesses) (next_run S.accesses (meaning S.accesses) next stack.old.act)
+        (next_ends next stack.old.act) (stack.old.entries.items ++ entry.Frame (frames.Items behind) ∷ [])) run.old }
+{
+    wait_for_item(run, stack, behind, &next)?;
+    follow(run, stack, next)
+}
+
+/// A flow meets the list that it is an item of: the list goes on, or it ends.
+#[inline(always)]
+#[tactic(auto, using(crate::proofs::Machine::listing_on))]
+pub(crate) fn next_item<S: Space>(
+    run: &Running<S>,
+    stack: &mut Stack,
+    items: Items,
+    flow: Flow,
+) -> Result<Control, Refusal>
+    ensures falls { IfOk result (λ c. stack_weight stack.new.entries.items + control_weight c <
+        stack_weight stack.old.entries.items + 6) }
+    ensures means { Goes S.accesses (meaning S.accesses) result stack.new.act stack.new.entries.items run.now
+        (machine S.accesses (meaning S.accesses) (control.Flow flow) stack.old.act
+        (stack.old.entries.items ++ entry.Frame (frames.Items items) ∷ [])) run.now }
+{
+    if flow.goes_on() {
+        return go_to_items(items);
+    }
+    stack.act.go_to(items.outer);
+    go_to_flow(flow)
+}
+
+/// The items behind one that leaves something to do are put on the stack. Without memory for them a call ends that the
+/// item has begun.
+#[inline(always)]
+fn wait_for_item<S: Space>(
+    run: &mut Running<S>,
+    stack: &mut Stack,
+    behind: Items,
+    next: &Next,
+) -> Result<(), Refusal>
+    ensures kept { OnOk result (run.new ≡ run.old) }
+    ensures act { stack.new.act ≡ stack.old.act }
+    ensures pushed { OnOk result (stack.new.entries.items ≡ stack.old.entries.items ++
+        entry.Frame (frames.Items behind) ∷ []) }
+    ensures ended { IfErr result (λ e. run.new ≡ given_up next.now run.old) }
+    ensures memory { IfErr result (λ e. e ≡ OutOfMemory) }
+{
+    match stack.entries.push(Entry::Frame(Frame::Items(behind))) {
+        Ok(()) => Ok(()),
+        Err(failed) => {
+            give_up_begun(run, next);
+            Err(Refusal::from(failed))
+        }
+    }
+}
+
+/// What a step leaves to do is given up: a call ends that it has begun.
+#[cold]
+fn give_up_begun<S: Space>(run: &mut Running<S>, next: &Next)
+    ensures { run.new ≡ given_up next.now run.old }
+{
+    match next {
+        Next::Body(body) => end_call(run, body.scope().path),
+        Next::BodyThen(body, _) => end_call(run, body.scope().path),
+        _ => {}
     }
 }

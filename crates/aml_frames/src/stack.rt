@@ -25,8 +25,8 @@ use crate::activation::{Activation, MethodPath, Position};
 use crate::addresses::PciAccess;
 use crate::boxed::Boxed;
 use crate::field_access::begin_access;
-use crate::frames::{Control, Entry, Frame, Items, Loop, Next, Package};
-use crate::lists::begin_items;
+use crate::frames::{Control, Entry, Frame, Items, Next, Package};
+use crate::lists::{next_item, step_items};
 use crate::packages::begin_element;
 use crate::resuming::resume;
 use crate::targets::begin_target;
@@ -135,7 +135,7 @@ fn execute<S: Space>(
                 Ok(after) => control = after,
                 Err(refusal) => return Err(unwind(alloc, run, &mut stack, refusal)),
             },
-            Control::Items(items) => match step_items(run, &mut stack, items) {
+            Control::Items(items) => match step_items(alloc, run, &mut stack, items) {
                 Ok(after) => control = after,
                 Err(refusal) => return Err(unwind(alloc, run, &mut stack, refusal)),
             },
@@ -183,23 +183,6 @@ fn step_term<S: Space>(
         (machine S.accesses (meaning S.accesses) (control.Term levels) stack.old.act stack.old.entries.items) run.old }
 {
     let next = begin_term(alloc, run, &mut stack.act, levels)?;
-    follow(run, stack, next)
-}
-
-/// A list begins.
-#[inline(always)]
-#[tactic(auto, using(crate::proofs::Machine::taking))]
-fn step_items<S: Space>(
-    run: &mut Running<S>,
-    stack: &mut Stack,
-    items: Items,
-) -> Result<Control, Refusal>
-    ensures falls { IfOk result (λ c. charged run.new.1 + (stack_weight stack.new.entries.items + control_weight c) <
-        charged run.old.1 + (stack_weight stack.old.entries.items + 4)) }
-    ensures means { Goes S.accesses (meaning S.accesses) result stack.new.act stack.new.entries.items run.new
-        (machine S.accesses (meaning S.accesses) (control.Items items) stack.old.act stack.old.entries.items) run.old }
-{
-    let next = begin_items(run, &mut stack.act, items);
     follow(run, stack, next)
 }
 
@@ -312,47 +295,14 @@ fn step_entry<S: Space>(
     }
 }
 
-/// A flow meets the list that it is an item of: the next item begins at once, or the list ends.
-#[inline(always)]
-#[tactic(auto, using(crate::proofs::Machine::listing_on))]
-fn next_item<S: Space>(
-    run: &Running<S>,
-    stack: &mut Stack,
-    items: Items,
-    flow: Flow,
-) -> Result<Control, Refusal>
-    ensures falls { IfOk result (λ c. stack_weight stack.new.entries.items + control_weight c <
-        stack_weight stack.old.entries.items + 6) }
-    ensures means { Goes S.accesses (meaning S.accesses) result stack.new.act stack.new.entries.items run.now
-        (machine S.accesses (meaning S.accesses) (control.Flow flow) stack.old.act
-        (stack.old.entries.items ++ entry.Frame (frames.Items items) ∷ [])) run.now }
-{
-    if !flow.goes_on() {
-        stack.act.go_to(items.outer);
-        return go_to_flow(flow);
-    }
-    if items.left == 0 {
-        stack.act.go_to(items.outer);
-        return go_to_flow(Flow::Next);
-    }
-    let rest = stack.act.rest().len();
-    if rest == 0 {
-        stack.act.go_to(items.outer);
-        return go_to_flow(Flow::Next);
-    }
-    stack.act.begin_item();
-    let next = Items {
-        left: items.left - 1,
-        ..items
-    };
-    stack.entries.push(Entry::Frame(Frame::Items(next)))?;
-    Ok(Control::Term(items.levels))
-}
-
 /// What is left to do is put on the stack.
 #[inline(always)]
 #[tactic(auto, using(crate::proofs::Machine::going))]
-fn follow<S: Space>(run: &mut Running<S>, stack: &mut Stack, next: Next) -> Result<Control, Refusal>
+pub(crate) fn follow<S: Space>(
+    run: &mut Running<S>,
+    stack: &mut Stack,
+    next: Next,
+) -> Result<Control, Refusal>
     ensures falls { IfOk result (λ c. charged run.new.1 + (stack_weight stack.new.entries.items + control_weight c) ≤
         charged run.old.1 + (stack_weight stack.old.entries.items + next_weight next)) }
     ensures means { Goes S.accesses (meaning S.accesses) result stack.new.act stack.new.entries.items run.new
@@ -486,7 +436,7 @@ fn unwind<S: Space>(
 }
 
 /// The call of the control method at a path ends: its frame of slots, and the names below it.
-fn end_call<S: Space>(run: &mut Running<S>, method: &Path)
+pub(crate) fn end_call<S: Space>(run: &mut Running<S>, method: &Path)
     ensures { run.new ≡ (left method.now run.old.0, run.old.1) }
 {
     run.world.leave(method);

@@ -22,6 +22,7 @@ use crate::targets::begin_target;
 use crate::uses::{Target, TargetUse};
 use aml_convert::is_true;
 use aml_meaning::{Flow, Running, StatementKind};
+use aml_objects::Value;
 use aml_terms::ELSE;
 use ar_space::{Refusal, Space};
 use std::alloc::Global;
@@ -73,8 +74,8 @@ pub fn begin_statement<S: Space>(
     }
 }
 
-/// Return: its argument is evaluated.
-#[tactic(auto, using(crate::proofs::Stepping::stepping), unfolding(aml_meaning::specs::StatementTerms::return_rule))]
+/// Return: its argument is evaluated, or it is there already.
+#[tactic(auto, using(crate::proofs::Stepping::stepping, crate::proofs::Knowing::going_on), unfolding(aml_meaning::specs::StatementTerms::return_rule))]
 fn begin_return<S: Space>(
     run: &mut Running<S>,
     act: &mut Activation,
@@ -87,7 +88,28 @@ fn begin_return<S: Space>(
         (statement_run S.accesses (meaning S.accesses) statements.Return act.old levels) run.old }
     ensures ends { EndsAt result act.new (behind_statement_at statements.Return act.old levels) }
 {
-    Ok(Next::Term(levels, Frame::Return))
+    return_value(run, act, levels)
+}
+
+/// The argument of a Return, which stands next: an integer that is there already is returned at once.
+#[inline(always)]
+#[tactic(auto, using(crate::proofs::Knowing::taking_known))]
+fn return_value<S: Space>(
+    run: &mut Running<S>,
+    act: &mut Activation,
+    levels: u8,
+) -> Result<Next, Refusal>
+    ensures spent { run.new.1 ≤ run.old.1 }
+    ensures falls { IfOk result (λ n. next_weight n < 6) }
+    ensures memory { NotMemory result }
+    ensures means { Leads S.accesses (meaning S.accesses) result act.new run.new
+        (next_run S.accesses (meaning S.accesses) (next.Term levels frames.Return) act.old) run.old }
+    ensures ends { EndsAt result act.new (next_ends (next.Term levels frames.Return) act.old) }
+{
+    match known_integer(run, act, levels)? {
+        Some(number) => Ok(Next::Flow(Flow::Return(Value::Integer(number)))),
+        None => Ok(Next::Term(levels, Frame::Return)),
+    }
 }
 
 /// Stall and Sleep: the time is evaluated.
