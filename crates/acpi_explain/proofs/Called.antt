@@ -1,8 +1,8 @@
 -- The calls of initializing, made one after another, up to the first that is refused.
 use Rattle.std.proofs.Common.{◌≡◌, ◌∙◌, ap, refl, sym, subst}
-use Rattle.std.specs.Prelude.{ℕ, List, [], ◌∷◌, Bool, true, false, None, Ok, Err, if◌then◌else◌}
+use Rattle.std.specs.Prelude.{List, [], ◌∷◌, Bool, true, false, None, Ok, Err, if◌then◌else◌}
 use Rattle.ar_space.specs.Accesses.{Accesses}
-use Rattle.ar_space.specs.Change.{Change, Does, give, stop, settle, go_on, ◌>>=◌, ◌>>◌}
+use Rattle.ar_space.specs.Change.{Change, Does, give, stop, settle, go_on, ◌>>=◌}
 use Rattle.ar_space.specs.Outcome.{Outcome}
 use Rattle.ar_space.specs.declared.refusal.Refusal.{Refusal}
 use Rattle.ar_space.specs.declared.refusal.Refusal.TheVariants as refusal

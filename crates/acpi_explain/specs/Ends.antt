@@ -1,5 +1,5 @@
 -- How a run of a machine ended whose tables are loaded: where it was refused, by what, and the machine then.
-use Rattle.std.specs.Prelude.{◌≡◌, ◌≢◌, List, Option, Some, None, Ok, Err}
+use Rattle.std.specs.Prelude.{◌≡◌, ◌≢◌, List, Some, None, Ok, Err}
 use Rattle.ar_space.specs.Accesses.{Accesses}
 use Rattle.ar_space.specs.declared.refusal.Refusal.{Refusal}
 use Rattle.ar_space.specs.declared.refusal.Refusal.TheVariants.{OutOfMemory}
@@ -10,7 +10,6 @@ use Rattle.acpi_machine.specs.Calls.{initialized, evaluated_object}
 use Rattle.acpi_machine.specs.MachineStates.{MachineState, sci_of}
 use Rattle.acpi_configure.specs.Options.{RunOptions}
 use Rattle.acpi_configure.specs.WithOptions.{found_by, IsReportWith}
-use Rattle.route_report.specs.Reports.{RoutingReport}
 use Rattle.acpi_explain.specs.declared.end.End.{End}
 use Rattle.acpi_explain.specs.declared.end.End.TheVariants.{Initializing, Running, Done}
 
