@@ -23,9 +23,9 @@ pub fn evaluation_keeps_the_profile<S>()
         w.profile ≡ profile }
 {}
 
-/// What the core profile answers, the wide one answers too: where an evaluation isn't refused for a term that the
-/// profile leaves out (`Unsupported`), it gives the same in the wide profile, with as many steps left, and leaves the
-/// same world.
+/// What the core profile answers, the wide one answers too: where an evaluation isn't refused for what the profile
+/// leaves out (a term, `Unsupported`, or what lies behind a bridge, `DeepPci`), it gives the same in the wide profile,
+/// with as many steps left, and leaves the same world.
 #[tactic(auto, using(crate::proofs::Widening::term_widened, crate::proofs::Widening::table_widened, crate::proofs::Widening::value_widened, crate::proofs::Widening::answer_widened, crate::proofs::Widening::predefined_widened))]
 pub fn the_wide_profile_answers_what_the_core_one_does<S>()
     ensures terms { (accesses : Accesses S) (t : Task) (s : State S × ℕ) →

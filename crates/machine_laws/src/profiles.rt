@@ -22,9 +22,9 @@ ghost use Rattle.route_report.specs.Reports.{RoutingReport};
 ghost use Rattle.machine_laws.specs.Widened.{machine_widened, call_widened, IsWithheld, TellsNothingLeftOut};
 
 /// What a machine of the core profile answers, the same machine of the wide one answers too: where loading its
-/// tables, initializing it, an object, what a link is set to or setting it isn't refused for a term that the profile
-/// leaves out (`Unsupported`), it comes to the same in the wide profile, and leaves the same machine with the same
-/// registers.
+/// tables, initializing it, an object, what a link is set to or setting it isn't refused for what the profile leaves
+/// out (a term, `Unsupported`, or what lies behind a bridge, `DeepPci`), it comes to the same in the wide profile, and
+/// leaves the same machine with the same registers.
 #[tactic(auto, using(crate::proofs::MachinesWidened::tables_widened, crate::proofs::MachinesWidened::initialization_widened, crate::proofs::MachinesWidened::object_widened, crate::proofs::MachinesWidened::current_widened, crate::proofs::MachinesWidened::setting_widened))]
 pub fn the_wide_profile_calls_as_the_core_one_does<S>()
     ensures tables { (accesses : Accesses S) (t : Tables) (steps : ℕ) (osi : List (List ℕ)) (w : State S) →
@@ -64,7 +64,7 @@ pub fn the_wide_profile_gathers_what_the_core_one_does<S>()
         (gathered accesses avoid (machine_widened s) ≡ call_widened (gathered accesses avoid s)) }
 {}
 
-/// A report of a machine is one of the same machine in the wide profile, if no line of it tells of a term that the
+/// A report of a machine is one of the same machine in the wide profile, if no line of it tells of what the
 /// profile leaves out, and it leaves the same machine with the same registers: with options, and without.
 #[tactic(auto, using(crate::proofs::ReportsWidened::report_widened, crate::proofs::ReportsWidened::report_with_options_widened))]
 pub fn the_wide_profile_reports_what_the_core_one_does<S>()

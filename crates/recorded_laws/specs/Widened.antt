@@ -27,7 +27,7 @@ LeavesNothingOut (Err e) = IsWithheld {A = RoutingReport} (Err e) → ⊥
 abbrev pub evaluation_widened : Evaluation → Evaluation
 evaluation_widened evaluation = record { profile = profile.Wide; steps = evaluation.steps }
 
--- a text is that of a report of a machine, and no line of it tells of a term that the profile leaves out
+-- a text is that of a report of a machine, and no line of it tells of what the profile leaves out
 abbrev pub IsWholeReport : RunOptions → Outcome (MachineState Bytes) → Written → Type 0
 IsWholeReport o (Ok m) w = (is : IsReportOf o m w) × TellsNothingLeftOut is.report
 IsWholeReport o (Err e) w = ⊥
