@@ -1,6 +1,6 @@
 -- Resource descriptors, routing tables and links are no faults of the register space.
 use Rattle.route_model.specs.Avoided.{are_all_avoided}
-use Rattle.std.specs.Prelude.{Bool, List, None, Ok, Option, Some, [], false, if◌then◌else◌, length, nat_le, nat_lt, not, ok_or, option_to_list, true, ℕ, ◌*◌, ◌++◌, ◌+◌, ◌==◌, ◌^◌, ◌||◌, ◌∷◌}
+use Rattle.std.specs.Prelude.{Bool, List, None, Ok, Option, Some, [], false, if◌then◌else◌, length, nat_le, nat_lt, ok_or, option_to_list, true, ℕ, ◌*◌, ◌++◌, ◌+◌, ◌==◌, ◌^◌, ◌||◌, ◌∷◌}
 use Rattle.acpi_links.specs.Answered.{bytes_in}
 use Rattle.acpi_links.specs.Links.{PresentLink, few_links, few_pins, mixed, one_polarity, some_left}
 use Rattle.acpi_links.specs.Presence.{presence}

@@ -1,16 +1,22 @@
 -- The lemmas. `x_clean`, `x_explains` and `x_together` say of x what they say in `aml_laws`: x answers with no fault of the register
 -- space; a fault of the register space that x is refused by is what its last access answered; x goes the same way over two spaces that
--- answer alike. `x_unnoted`: noting the accesses of x changes nothing.
+-- answer alike, and in two profiles. `x_unnoted`: noting the accesses of x changes nothing. `x_widened`, `x_widens`: x comes to the same
+-- in the wide profile, or leaves something out in the core one.
 pub mod CleanLinks
 pub mod FaultsOfCalls
 pub mod FaultsOfLinks
 pub mod FaultsOfLoading
+pub mod LinesWidened
 pub mod LinksTogether
 pub mod MachineFaults
 pub mod MachineNotes
 pub mod MachineNoting
 pub mod MachinesTogether
+pub mod MachinesWidened
 pub mod NumbersTold
+pub mod OthersTogether
+pub mod ProfilesAsked
 pub mod ReportsCarried
 pub mod ReportsTold
+pub mod ReportsWidened
 pub mod SettingsTogether

@@ -1,53 +1,105 @@
--- Routing tables and link devices, over two register spaces.
-use Rattle.std.specs.Prelude.{ℕ, List, [], ◌∷◌, Bool, true, false, Option, refl}
+-- Routing tables and link devices of machines side by side.
+use Rattle.std.specs.Prelude.{◌≡◌, ℕ, List, [], ◌∷◌, Bool, true, false, Option, refl}
 use Rattle.ar_space.specs.Accesses.{Accesses}
 use Rattle.ar_space.specs.Change.{Change}
 use Rattle.aml_path.specs.declared.segment.Seg.{Seg}
 use Rattle.aml_meaning.specs.Given.{Given}
 use Rattle.aml_meaning.specs.Given as given
+use Rattle.acpi_resources.specs.Offers.{possible_as}
 use Rattle.acpi_resources.specs.Records.{InterruptOffer}
 use Rattle.acpi_prt.specs.declared.pin.Pin.{Pin}
 use Rattle.acpi_prt.specs.Entries.{list_of}
+use Rattle.acpi_prt.specs.Finding.{id_in}
 use Rattle.acpi_prt.specs.Links.{device_at, id_at, link_at}
 use Rattle.acpi_prt.specs.RoutingTables.{linked, route_of, pin_with, pin_among, pin_of, pins_from, routing_table}
 use Rattle.acpi_links.specs.Answered.{stands, buffer_at}
 use Rattle.acpi_links.specs.Folds.{folded}
 use Rattle.acpi_links.specs.Devices.{devices, devices_listed, pins_at, pins_of_device}
 use Rattle.acpi_links.specs.Presence.{status_at, presence_at, is_present}
-use Rattle.acpi_links.specs.Resources.{offer_in, offer_at, possible_at, possible_resources, numbers_at, current_at, current_resources}
+use Rattle.acpi_links.specs.Resources.{exclusives_in, offer_in, offer_at, possible_at, possible_resources, numbers_at, current_at, current_resources}
 use Rattle.acpi_links.specs.Settings.{setting_handed, set_at, resources_set}
 use Rattle.acpi_links.specs.Links.{link_found, link_if, link_asked}
 use Rattle.acpi_links.specs.Gatherings.{sci_shown, pins_found, links_found, gathered}
-use Rattle.aml_laws.proofs.Together.{SideBySide, Shape, Together, plain, give_together, settle_together, stop_together, then_together, choice_together, alike}
-use Rattle.machine_laws.proofs.MachinesTogether.{machines, evaluated_object_together}
+use Rattle.aml_laws.proofs.Together.{Sides, Shape, Together, plain, give_together, settle_together, stop_together, then_together, choice_together}
+use Rattle.machine_laws.proofs.MachinesTogether.{machines, told_together, evaluated_object_together}
+use Rattle.machine_laws.proofs.ProfilesAsked.{Asks, profile_asked, id_withheld, offer_withheld}
 
 -- what changes for each of a list add
-pub folded_together : {S T X Y A B R : Type 0} {accesses : Accesses S} {accesses2 : Accesses T} {side : SideBySide accesses accesses2} {shape : Shape S T X Y} (add : R → B → R) {f : A → Change X B} {g : A → Change Y B}
-    → ((a : A) → Together (alike side) shape (f a) (g a)) → (xs : List A) (done : R) → Together (alike side) shape (folded add f xs done) (folded add g xs done)
+pub folded_together : {S T X Y A B R : Type 0} {accesses : Accesses S} {accesses2 : Accesses T} {side : Sides accesses accesses2} {shape : Shape S T X Y} (add : R → B → R) {f : A → Change X B} {g : A → Change Y B}
+    → ((a : A) → Together side shape (f a) (g a)) → (xs : List A) (done : R) → Together side shape (folded add f xs done) (folded add g xs done)
 unfolding folded
 folded_together add h [] done = give_together _
 folded_together add h (x ∷ xs) done = then_together (h x) (λ more. folded_together add h xs (add done more))
 
-module _ {S T : Type 0} {accesses : Accesses S} {accesses2 : Accesses T} {side : SideBySide accesses accesses2} where
+-- same: the right one has as many steps
+module _ {S T : Type 0} {accesses : Accesses S} {accesses2 : Accesses T} {side : Sides accesses accesses2} (same : (n : ℕ) → side.more n ≡ n) where
+  -- ---- resources that are set
+
+  buffer_at_together : (p : List Seg) → Together side machines (buffer_at accesses p) (buffer_at accesses2 p)
+  unfolding buffer_at
+  buffer_at_together p = then_together (evaluated_object_together same p _) (λ answer. settle_together _)
+
+  numbers_at_together : (p : List Seg) → Together side machines (numbers_at accesses p) (numbers_at accesses2 p)
+  unfolding numbers_at
+  numbers_at_together p = then_together (buffer_at_together p) (λ bytes. then_together (settle_together _) (λ numbers. give_together _))
+
+  current_at_together : (p : List Seg) → Together side machines (current_at accesses p) (current_at accesses2 p)
+  unfolding current_at
+  current_at_together p = choice_together (stands p) (stands p) (λ s t. refl) (numbers_at_together p) (plain (λ s. refl) (λ s. refl) (λ s t. refl))
+
+  pub current_resources_together : (link : List Seg) → Together side machines (current_resources accesses link) (current_resources accesses2 link)
+  unfolding current_resources
+  current_resources_together link = then_together (settle_together _) (λ crs. current_at_together crs)
+
+  -- ---- settings
+
+  setting_handed_together : (p : List Seg) (offer : InterruptOffer) (n : ℕ) → Together side machines (setting_handed accesses p offer n) (setting_handed accesses2 p offer n)
+  unfolding setting_handed
+  setting_handed_together p offer n = then_together (give_together _) (λ arguments. then_together (evaluated_object_together same p arguments) (λ answer. give_together _))
+
+  set_at_together : (p : List Seg) (offer : InterruptOffer) (n : ℕ) → Together side machines (set_at accesses p offer n) (set_at accesses2 p offer n)
+  unfolding set_at
+  set_at_together p offer n = choice_together (stands p) (stands p) (λ s t. refl) (setting_handed_together p offer n) (plain (λ s. refl) (λ s. refl) (λ s t. refl))
+
+  pub resources_set_together : (link : List Seg) (offer : InterruptOffer) (n : ℕ) → Together side machines (resources_set accesses link offer n) (resources_set accesses2 link offer n)
+  unfolding resources_set
+  resources_set_together link offer n = then_together (settle_together _) (λ srs. set_at_together srs offer n)
+
+  -- ---- presence
+
+  status_at_together : (p : List Seg) → Together side machines (status_at accesses p) (status_at accesses2 p)
+  unfolding status_at
+  status_at_together p = then_together (evaluated_object_together same p _) (λ answer. settle_together _)
+
+  presence_at_together : (p : List Seg) → Together side machines (presence_at accesses p) (presence_at accesses2 p)
+  unfolding presence_at
+  presence_at_together p = choice_together (stands p) (stands p) (λ s t. refl) (status_at_together p) (plain (λ s. refl) (λ s. refl) (λ s t. refl))
+
+  pub is_present_together : (link : List Seg) → Together side machines (is_present accesses link) (is_present accesses2 link)
+  unfolding is_present
+  is_present_together link = then_together (settle_together _) (λ sta. presence_at_together sta)
+
+-- asks: what links are and offer is the same in both profiles, or ends the likeness
+module _ {S T : Type 0} {accesses : Accesses S} {accesses2 : Accesses T} {side : Sides accesses accesses2} (same : (n : ℕ) → side.more n ≡ n) (asks : Asks side) where
   -- ---- routing tables
 
-  device_at_together : (p : List Seg) → Together (alike side) machines (device_at p) (device_at p)
+  device_at_together : (p : List Seg) → Together side machines (device_at p) (device_at p)
   unfolding device_at
   device_at_together p = plain (λ s. refl) (λ s. refl) (λ s t. refl)
 
-  id_at_together : (p : List Seg) → Together (alike side) machines (id_at p) (id_at p)
+  id_at_together : (p : List Seg) → Together side machines (id_at p) (id_at p)
   unfolding id_at
-  id_at_together p = plain (λ s. refl) (λ s. refl) (λ s t. refl)
+  id_at_together p = told_together (λ s. id_in s.world.profile s.world.names.map p) (λ s. id_in s.world.profile s.world.names.map p) (λ s t. profile_asked side asks (λ r. id_in r s.world.names.map p) (λ ends. id_withheld side.Ends s.world.names.map p ends.0) s.world.profile)
 
-  link_at_together : (p : List Seg) → Together (alike side) machines (link_at accesses p) (link_at accesses2 p)
+  link_at_together : (p : List Seg) → Together side machines (link_at accesses p) (link_at accesses2 p)
   unfolding link_at
-  link_at_together p = then_together (device_at_together p) (λ device. then_together (settle_together _) (λ hid. then_together (id_at_together hid) (λ name. then_together (evaluated_object_together name _) (λ id. then_together (settle_together _) (λ is. give_together _)))))
+  link_at_together p = then_together (device_at_together p) (λ device. then_together (settle_together _) (λ hid. then_together (id_at_together hid) (λ name. then_together (evaluated_object_together same name _) (λ id. then_together (settle_together _) (λ is. give_together _)))))
 
-  linked_together : (p : List Seg) (index : ℕ) → Together (alike side) machines (linked accesses p index) (linked accesses2 p index)
+  linked_together : (p : List Seg) (index : ℕ) → Together side machines (linked accesses p index) (linked accesses2 p index)
   unfolding linked
   linked_together p index = then_together (link_at_together p) (λ link. then_together (settle_together _) (λ none. give_together _))
 
-  route_of_together : (g : Given) (index : ℕ) → Together (alike side) machines (route_of accesses g index) (route_of accesses2 g index)
+  route_of_together : (g : Given) (index : ℕ) → Together side machines (route_of accesses g index) (route_of accesses2 g index)
   route_of_together given.Nothing index = stop_together _
   route_of_together (given.Integer n) index = give_together _
   route_of_together (given.Text bytes) index = stop_together _
@@ -56,12 +108,12 @@ module _ {S T : Type 0} {accesses : Accesses S} {accesses2 : Accesses T} {side :
   route_of_together (given.Named p) index = linked_together p index
   route_of_together given.Reference index = stop_together _
 
-  pin_with_together : (a p s i : Given) → Together (alike side) machines (pin_with accesses a p s i) (pin_with accesses2 a p s i)
+  pin_with_together : (a p s i : Given) → Together side machines (pin_with accesses a p s i) (pin_with accesses2 a p s i)
   unfolding pin_with
   pin_with_together a p s i = then_together (settle_together _) (λ address. then_together (settle_together _) (λ pin. then_together (settle_together _) (λ tested. then_together (settle_together _) (λ index. then_together (settle_together _) (λ letter.
       then_together (route_of_together s index) (λ route. give_together _))))))
 
-  pin_among_together : (gs : List Given) → Together (alike side) machines (pin_among accesses gs) (pin_among accesses2 gs)
+  pin_among_together : (gs : List Given) → Together side machines (pin_among accesses gs) (pin_among accesses2 gs)
   pin_among_together [] = stop_together _
   pin_among_together (a ∷ []) = stop_together _
   pin_among_together (a ∷ p ∷ []) = stop_together _
@@ -69,7 +121,7 @@ module _ {S T : Type 0} {accesses : Accesses S} {accesses2 : Accesses T} {side :
   pin_among_together (a ∷ p ∷ s ∷ i ∷ []) = pin_with_together a p s i
   pin_among_together (a ∷ p ∷ s ∷ i ∷ x ∷ xs) = stop_together _
 
-  pin_of_together : (g : Given) → Together (alike side) machines (pin_of accesses g) (pin_of accesses2 g)
+  pin_of_together : (g : Given) → Together side machines (pin_of accesses g) (pin_of accesses2 g)
   pin_of_together given.Nothing = give_together _
   pin_of_together (given.Integer n) = stop_together _
   pin_of_together (given.Text bytes) = stop_together _
@@ -78,120 +130,76 @@ module _ {S T : Type 0} {accesses : Accesses S} {accesses2 : Accesses T} {side :
   pin_of_together (given.Named p) = stop_together _
   pin_of_together given.Reference = stop_together _
 
-  pins_from_together : (entries : List Given) (pins : List Pin) → Together (alike side) machines (pins_from accesses entries pins) (pins_from accesses2 entries pins)
+  pins_from_together : (entries : List Given) (pins : List Pin) → Together side machines (pins_from accesses entries pins) (pins_from accesses2 entries pins)
   unfolding pins_from
   pins_from_together [] pins = give_together _
   pins_from_together (entry ∷ entries) pins = then_together (pin_of_together entry) (λ pin. pins_from_together entries _)
 
-  pub routing_table_together : (device : List Seg) → Together (alike side) machines (routing_table accesses device) (routing_table accesses2 device)
+  pub routing_table_together : (device : List Seg) → Together side machines (routing_table accesses device) (routing_table accesses2 device)
   unfolding routing_table
-  routing_table_together device = then_together (settle_together _) (λ name. then_together (evaluated_object_together name _) (λ answer. then_together (settle_together _) (λ entries. pins_from_together entries _)))
+  routing_table_together device = then_together (settle_together _) (λ name. then_together (evaluated_object_together same name _) (λ answer. then_together (settle_together _) (λ entries. pins_from_together entries _)))
 
   -- ---- devices
 
-  devices_listed_together : Together (alike side) machines devices_listed devices_listed
+  devices_listed_together : Together side machines devices_listed devices_listed
   unfolding devices_listed devices
   devices_listed_together = plain (λ s. refl) (λ s. refl) (λ s t. refl)
 
-  pins_at_together : (device p : List Seg) → Together (alike side) machines (pins_at accesses device p) (pins_at accesses2 device p)
+  pins_at_together : (device p : List Seg) → Together side machines (pins_at accesses device p) (pins_at accesses2 device p)
   unfolding pins_at
   pins_at_together device p = choice_together (stands p) (stands p) (λ s t. refl) (routing_table_together device) (plain (λ s. refl) (λ s. refl) (λ s t. refl))
 
-  pins_of_device_together : (device : List Seg) → Together (alike side) machines (pins_of_device accesses device) (pins_of_device accesses2 device)
+  pins_of_device_together : (device : List Seg) → Together side machines (pins_of_device accesses device) (pins_of_device accesses2 device)
   unfolding pins_of_device
   pins_of_device_together device = then_together (settle_together _) (λ prt. then_together (pins_at_together device prt) (λ pins. give_together _))
 
-  -- ---- resources
+  -- ---- offers
 
-  buffer_at_together : (p : List Seg) → Together (alike side) machines (buffer_at accesses p) (buffer_at accesses2 p)
-  unfolding buffer_at
-  buffer_at_together p = then_together (evaluated_object_together p _) (λ answer. settle_together _)
-
-  offer_in_together : (bytes : List ℕ) → Together (alike side) machines (offer_in bytes) (offer_in bytes)
+  offer_in_together : (bytes : List ℕ) → Together side machines (offer_in bytes) (offer_in bytes)
   unfolding offer_in
-  offer_in_together bytes = plain (λ s. refl) (λ s. refl) (λ s t. refl)
+  offer_in_together bytes = told_together (λ s. possible_as (exclusives_in s.world.profile) bytes) (λ s. possible_as (exclusives_in s.world.profile) bytes) (λ s t. profile_asked side asks (λ p. possible_as (exclusives_in p) bytes) (λ ends. offer_withheld side.Ends bytes ends.1) s.world.profile)
 
-  offer_at_together : (p : List Seg) → Together (alike side) machines (offer_at accesses p) (offer_at accesses2 p)
+  offer_at_together : (p : List Seg) → Together side machines (offer_at accesses p) (offer_at accesses2 p)
   unfolding offer_at
-  offer_at_together p = then_together (buffer_at_together p) (λ bytes. offer_in_together bytes)
+  offer_at_together p = then_together (buffer_at_together same p) (λ bytes. offer_in_together bytes)
 
-  possible_at_together : (link p : List Seg) → Together (alike side) machines (possible_at accesses link p) (possible_at accesses2 link p)
+  possible_at_together : (link p : List Seg) → Together side machines (possible_at accesses link p) (possible_at accesses2 link p)
   unfolding possible_at
   possible_at_together link p = choice_together (stands p) (stands p) (λ s t. refl) (offer_at_together p) (plain (λ s. refl) (λ s. refl) (λ s t. refl))
 
-  pub possible_resources_together : (link : List Seg) → Together (alike side) machines (possible_resources accesses link) (possible_resources accesses2 link)
+  pub possible_resources_together : (link : List Seg) → Together side machines (possible_resources accesses link) (possible_resources accesses2 link)
   unfolding possible_resources
   possible_resources_together link = then_together (settle_together _) (λ prs. possible_at_together link prs)
 
-  numbers_at_together : (p : List Seg) → Together (alike side) machines (numbers_at accesses p) (numbers_at accesses2 p)
-  unfolding numbers_at
-  numbers_at_together p = then_together (buffer_at_together p) (λ bytes. then_together (settle_together _) (λ numbers. give_together _))
-
-  current_at_together : (p : List Seg) → Together (alike side) machines (current_at accesses p) (current_at accesses2 p)
-  unfolding current_at
-  current_at_together p = choice_together (stands p) (stands p) (λ s t. refl) (numbers_at_together p) (plain (λ s. refl) (λ s. refl) (λ s t. refl))
-
-  pub current_resources_together : (link : List Seg) → Together (alike side) machines (current_resources accesses link) (current_resources accesses2 link)
-  unfolding current_resources
-  current_resources_together link = then_together (settle_together _) (λ crs. current_at_together crs)
-
-  -- ---- settings
-
-  setting_handed_together : (p : List Seg) (offer : InterruptOffer) (n : ℕ) → Together (alike side) machines (setting_handed accesses p offer n) (setting_handed accesses2 p offer n)
-  unfolding setting_handed
-  setting_handed_together p offer n = then_together (give_together _) (λ arguments. then_together (evaluated_object_together p arguments) (λ answer. give_together _))
-
-  set_at_together : (p : List Seg) (offer : InterruptOffer) (n : ℕ) → Together (alike side) machines (set_at accesses p offer n) (set_at accesses2 p offer n)
-  unfolding set_at
-  set_at_together p offer n = choice_together (stands p) (stands p) (λ s t. refl) (setting_handed_together p offer n) (plain (λ s. refl) (λ s. refl) (λ s t. refl))
-
-  pub resources_set_together : (link : List Seg) (offer : InterruptOffer) (n : ℕ) → Together (alike side) machines (resources_set accesses link offer n) (resources_set accesses2 link offer n)
-  unfolding resources_set
-  resources_set_together link offer n = then_together (settle_together _) (λ srs. set_at_together srs offer n)
-
-  -- ---- presence
-
-  status_at_together : (p : List Seg) → Together (alike side) machines (status_at accesses p) (status_at accesses2 p)
-  unfolding status_at
-  status_at_together p = then_together (evaluated_object_together p _) (λ answer. settle_together _)
-
-  presence_at_together : (p : List Seg) → Together (alike side) machines (presence_at accesses p) (presence_at accesses2 p)
-  unfolding presence_at
-  presence_at_together p = choice_together (stands p) (stands p) (λ s t. refl) (status_at_together p) (plain (λ s. refl) (λ s. refl) (λ s t. refl))
-
-  is_present_together : (link : List Seg) → Together (alike side) machines (is_present accesses link) (is_present accesses2 link)
-  unfolding is_present
-  is_present_together link = then_together (settle_together _) (λ sta. presence_at_together sta)
-
   -- ---- links
 
-  link_found_together : (avoid : List ℕ) (link : List Seg) → Together (alike side) machines (link_found accesses avoid link) (link_found accesses2 avoid link)
+  link_found_together : (avoid : List ℕ) (link : List Seg) → Together side machines (link_found accesses avoid link) (link_found accesses2 avoid link)
   unfolding link_found
-  link_found_together avoid link = then_together (possible_resources_together link) (λ offer. then_together (settle_together _) (λ left. then_together (current_resources_together link) (λ now. give_together _)))
+  link_found_together avoid link = then_together (possible_resources_together link) (λ offer. then_together (settle_together _) (λ left. then_together (current_resources_together same link) (λ now. give_together _)))
 
-  link_if_together : (avoid : List ℕ) (present : Bool) (link : List Seg) → Together (alike side) machines (link_if accesses avoid present link) (link_if accesses2 avoid present link)
+  link_if_together : (avoid : List ℕ) (present : Bool) (link : List Seg) → Together side machines (link_if accesses avoid present link) (link_if accesses2 avoid present link)
   unfolding link_if
   link_if_together avoid true link = link_found_together avoid link
   link_if_together avoid false link = give_together _
 
-  link_asked_together : (avoid : List ℕ) (link : List Seg) → Together (alike side) machines (link_asked accesses avoid link) (link_asked accesses2 avoid link)
+  link_asked_together : (avoid : List ℕ) (link : List Seg) → Together side machines (link_asked accesses avoid link) (link_asked accesses2 avoid link)
   unfolding link_asked
-  link_asked_together avoid link = then_together (is_present_together link) (λ present. link_if_together avoid present link)
+  link_asked_together avoid link = then_together (is_present_together same link) (λ present. link_if_together avoid present link)
 
   -- ---- what is gathered
 
-  sci_shown_together : Together (alike side) machines sci_shown sci_shown
+  sci_shown_together : Together side machines sci_shown sci_shown
   unfolding sci_shown
   sci_shown_together = plain (λ s. refl) (λ s. refl) (λ s t. refl)
 
-  pins_found_together : (sci : Option ℕ) → Together (alike side) machines (pins_found accesses sci) (pins_found accesses2 sci)
+  pins_found_together : (sci : Option ℕ) → Together side machines (pins_found accesses sci) (pins_found accesses2 sci)
   unfolding pins_found
   pins_found_together sci = then_together devices_listed_together (λ list. then_together (folded_together _ pins_of_device_together list _) (λ pins. then_together (settle_together _) (λ few. give_together _)))
 
-  links_found_together : (avoid : List ℕ) (pins : List (List Seg × Pin)) → Together (alike side) machines (links_found accesses avoid pins) (links_found accesses2 avoid pins)
+  links_found_together : (avoid : List ℕ) (pins : List (List Seg × Pin)) → Together side machines (links_found accesses avoid pins) (links_found accesses2 avoid pins)
   unfolding links_found
   links_found_together avoid pins = then_together (give_together _) (λ named. then_together (settle_together _) (λ few. then_together (folded_together _ (link_asked_together avoid) named _) (λ links. then_together (settle_together _) (λ one. give_together _))))
 
-  pub gathered_together : (avoid : List ℕ) → Together (alike side) machines (gathered accesses avoid) (gathered accesses2 avoid)
+  pub gathered_together : (avoid : List ℕ) → Together side machines (gathered accesses avoid) (gathered accesses2 avoid)
   unfolding gathered
   gathered_together avoid = then_together sci_shown_together (λ sci. then_together (pins_found_together sci) (λ pins. then_together (links_found_together avoid pins) (λ links. give_together _)))

@@ -1,102 +1,122 @@
--- Changes of machines: tables that are loaded, objects that are evaluated, and initializing.
-use Rattle.std.specs.Prelude.{ℕ, List, [], ◌∷◌, refl}
+-- Changes of machines side by side: tables that are loaded, objects that are evaluated, and initializing.
+use Rattle.std.specs.Prelude.{◌≡◌, ◌⊎◌, ℕ, List, [], ◌∷◌, refl}
 use Rattle.std.specs.FinMap.{contains_key}
-use Rattle.std.proofs.Common.{inl, inr, ap}
+use Rattle.std.proofs.Common.{inl, inr, subst, ap}
 use Rattle.ar_space.specs.Accesses.{Accesses}
 use Rattle.ar_space.specs.Outcome.{Outcome}
 use Rattle.ar_space.specs.Change.{Change}
 use Rattle.ar_tables.specs.declared.mode.Mode.{Mode}
 use Rattle.ar_tables.specs.declared.tables.Tables.{Tables}
 use Rattle.aml_path.specs.declared.segment.Seg.{Seg}
+use Rattle.aml_meaning.specs.declared.profile.Profile.{Profile}
 use Rattle.aml_meaning.specs.Given as given
 use Rattle.aml_meaning.specs.State.{State}
 use Rattle.acpi_machine.specs.MachineStates.{MachineState}
 use Rattle.acpi_machine.specs.Loading.{table_loaded, each_loaded, all_loaded, loaded_tables}
 use Rattle.acpi_machine.specs.Calls.{on_world, unless_spent, object_answered, evaluated_object, object_called, called_where_it_stands, initial_calls, started, initialized}
-use Rattle.aml_laws.proofs.Together.{SideBySide, Shape, Together, Comes, alike, plain, give_together, settle_together, stop_together, then_together, choice_together}
+use Rattle.aml_meaning.specs.Calling.{answered}
+use Rattle.aml_laws.proofs.Together.{Sides, Shape, Together, Comes, IsEnded, plain, give_together, settle_together, stop_together, then_together, choice_together}
 use Rattle.aml_laws.proofs.WorldsTogether.{world_over, worlds}
 use Rattle.aml_laws.proofs.EvaluationsTogether.{loaded_together, answered_together, predefined_together}
 
+-- a machine over another space, in another profile; it evaluates within as many steps
+abbrev pub machine_beside : {S T : Type 0} → (Profile → Profile) → MachineState S → T → MachineState T
+machine_beside raise m t = record { world = world_over raise m.world t; tables = m.tables; mode = m.mode; steps = m.steps; spent = m.spent }
+
 -- a machine over another space
 abbrev pub machine_over : {S T : Type 0} → MachineState S → T → MachineState T
-machine_over m t = record { world = world_over (λ r. r) m.world t; tables = m.tables; mode = m.mode; steps = m.steps; spent = m.spent }
+machine_over m t = machine_beside (λ r. r) m t
 
 abbrev pub machines : {S T : Type 0} → Shape S T (MachineState S) (MachineState T)
-machines = record { left = λ m. m.world.space; right = λ m. m.world.space; over = λ raise more m t. machine_over m t }
+machines = record { left = λ m. m.world.space; right = λ m. m.world.space; over = λ raise more m t. machine_beside raise m t }
 
 -- a machine with another world over another space
 abbrev with_world : {S T : Type 0} → MachineState S → State T → MachineState T
 with_world s w = record { world = w; tables = s.tables; mode = s.mode; steps = s.steps; spent = s.spent }
 
 -- what two changes of the worlds came to, in machines that are the same else
-world_goes : {S T A : Type 0} {accesses : Accesses S} {accesses2 : Accesses T} (side : SideBySide accesses accesses2) (s : MachineState S) (p : Outcome A × State S) (q : Outcome A × State T) → Comes (alike side) worlds p q
-    → Comes (alike side) machines (p.0, with_world s p.1) (q.0, with_world s q.1)
+world_goes : {S T A : Type 0} {accesses : Accesses S} {accesses2 : Accesses T} (side : Sides accesses accesses2) (s : MachineState S) (p : Outcome A × State S) (q : Outcome A × State T) → Comes side worlds p q
+    → Comes side machines (p.0, with_world s p.1) (q.0, with_world s q.1)
 world_goes side s p q (inl parted) = inl parted
 world_goes side s p q (inr (inl ended)) = inr (inl ended)
 world_goes {T = T} side s p q (inr (inr (t, same, i))) = inr (inr (t, ap (λ (x : Outcome _ × State T). (x.0, with_world s x.1)) same, i))
 
-module _ {S T : Type 0} {accesses : Accesses S} {accesses2 : Accesses T} {side : SideBySide accesses accesses2} where
+-- what two machines are asked that nothing changes: the left one ends the likeness, or the right one says the same
+told_goes : {S T A : Type 0} {accesses : Accesses S} {accesses2 : Accesses T} (side : Sides accesses accesses2) (s : MachineState S) (t : T) (r q : Outcome A) → IsEnded side.Ends r ⊎ (q ≡ r) → side.beside.InStep s.world.space t
+    → Comes side machines (r, s) (q, machine_beside side.raise s t)
+told_goes side s t r q (inl ended) i = inr (inl ended)
+told_goes side s t r q (inr same) i = inr (inr (t, ap (λ (x : Outcome _). (x, machine_beside side.raise s t)) same, i))
+
+pub told_together : {S T A : Type 0} {accesses : Accesses S} {accesses2 : Accesses T} {side : Sides accesses accesses2} (f : MachineState S → Outcome A) (g : MachineState T → Outcome A)
+    → ((s : MachineState S) (t : T) → IsEnded side.Ends (f s) ⊎ (g (machine_beside side.raise s t) ≡ f s)) → Together side machines (λ s. (f s, s)) (λ s. (g s, s))
+told_together {side = side} f g told = record { left_parted = λ s t h. h; right_parted = λ s u h. h; goes = λ s t i. told_goes side s t (f s) (g (machine_beside side.raise s t)) (told s t) i }
+
+-- same: the right one has as many steps
+module _ {S T : Type 0} {accesses : Accesses S} {accesses2 : Accesses T} {side : Sides accesses accesses2} (same : (n : ℕ) → side.more n ≡ n) where
   -- ---- tables
 
-  table_loaded_together : (steps : ℕ) (table : List ℕ) → Together (alike side) worlds (table_loaded accesses steps table) (table_loaded accesses2 steps table)
+  table_loaded_together : (steps : ℕ) (table : List ℕ) → Together side worlds (table_loaded accesses steps table) (table_loaded accesses2 steps table)
   unfolding table_loaded
-  table_loaded_together steps table = loaded_together _ steps
+  table_loaded_together steps table = subst (λ n. Together side worlds (table_loaded accesses steps table) (table_loaded accesses2 n table)) (same steps) (loaded_together _ steps)
 
-  each_loaded_together : (steps : ℕ) (tables : List (List ℕ)) → Together (alike side) worlds (each_loaded accesses steps tables) (each_loaded accesses2 steps tables)
+  each_loaded_together : (steps : ℕ) (tables : List (List ℕ)) → Together side worlds (each_loaded accesses steps tables) (each_loaded accesses2 steps tables)
   unfolding each_loaded
   each_loaded_together steps [] = give_together _
   each_loaded_together steps (table ∷ tables) = then_together (table_loaded_together steps table) (λ u. each_loaded_together steps tables)
 
-  all_loaded_together : (t : Tables) (steps : ℕ) → Together (alike side) worlds (all_loaded accesses t steps) (all_loaded accesses2 t steps)
+  all_loaded_together : (t : Tables) (steps : ℕ) → Together side worlds (all_loaded accesses t steps) (all_loaded accesses2 t steps)
   unfolding all_loaded
   all_loaded_together t steps = then_together (table_loaded_together steps t.dsdt) (λ u. each_loaded_together steps t.ssdts)
 
-  pub loaded_tables_together : (t : Tables) (steps : ℕ) (osi : List (List ℕ)) → Together (alike side) worlds (loaded_tables accesses t steps osi) (loaded_tables accesses2 t steps osi)
+  pub loaded_tables_together : (t : Tables) (steps : ℕ) (osi : List (List ℕ)) → Together side worlds (loaded_tables accesses t steps osi) (loaded_tables accesses2 t steps osi)
   unfolding loaded_tables
   loaded_tables_together t steps osi = then_together (settle_together _) (λ few. then_together predefined_together (λ u. all_loaded_together t steps))
 
   -- ---- objects that are evaluated
 
-  on_world_together : {A : Type 0} {m : Change (State S) A} {n : Change (State T) A} → Together (alike side) worlds m n → Together (alike side) machines (on_world m) (on_world n)
+  on_world_together : {A : Type 0} {m : Change (State S) A} {n : Change (State T) A} → Together side worlds m n → Together side machines (on_world m) (on_world n)
   unfolding on_world
   on_world_together {m = m} {n = n} h = record {
     left_parted = λ s t p. h.left_parted s.world t p;
     right_parted = λ s u p. h.right_parted s u.world p;
-    goes = λ s t i. world_goes side s (m s.world) (n (world_over (λ r. r) s.world t)) (h.goes s.world t i);
+    goes = λ s t i. world_goes side s (m s.world) (n (world_over side.raise s.world t)) (h.goes s.world t i);
   }
 
-  unless_spent_together : {A : Type 0} {m : Change (MachineState S) A} {n : Change (MachineState T) A} → Together (alike side) machines m n → Together (alike side) machines (unless_spent m) (unless_spent n)
+  unless_spent_together : {A : Type 0} {m : Change (MachineState S) A} {n : Change (MachineState T) A} → Together side machines m n → Together side machines (unless_spent m) (unless_spent n)
   unfolding unless_spent
   unless_spent_together h = choice_together (λ s. s.spent) (λ s. s.spent) (λ s t. refl) (stop_together _) h
 
-  object_answered_together : (p : List Seg) (arguments : List given.Given) → Together (alike side) machines (object_answered accesses p arguments) (object_answered accesses2 p arguments)
+  answered_in_steps : (p : List Seg) (arguments : List given.Given) (steps : ℕ) → Together side worlds (answered accesses p arguments steps) (answered accesses2 p arguments steps)
+  answered_in_steps p arguments steps = subst (λ n. Together side worlds (answered accesses p arguments steps) (answered accesses2 p arguments n)) (same steps) (answered_together p arguments steps)
+
+  object_answered_together : (p : List Seg) (arguments : List given.Given) → Together side machines (object_answered accesses p arguments) (object_answered accesses2 p arguments)
   unfolding object_answered
   object_answered_together p arguments = record {
-    left_parted = λ s t h. (on_world_together (answered_together p arguments s.steps)).left_parted s t h;
-    right_parted = λ s u h. (on_world_together (answered_together p arguments u.steps)).right_parted s u h;
-    goes = λ s t i. (on_world_together (answered_together p arguments s.steps)).goes s t i;
+    left_parted = λ s t h. (on_world_together (answered_in_steps p arguments s.steps)).left_parted s t h;
+    right_parted = λ s u h. (on_world_together (answered_in_steps p arguments u.steps)).right_parted s u h;
+    goes = λ s t i. (on_world_together (answered_in_steps p arguments s.steps)).goes s t i;
   }
 
-  pub evaluated_object_together : (p : List Seg) (arguments : List given.Given) → Together (alike side) machines (evaluated_object accesses p arguments) (evaluated_object accesses2 p arguments)
+  pub evaluated_object_together : (p : List Seg) (arguments : List given.Given) → Together side machines (evaluated_object accesses p arguments) (evaluated_object accesses2 p arguments)
   unfolding evaluated_object
   evaluated_object_together p arguments = unless_spent_together (object_answered_together p arguments)
 
   -- ---- initializing
 
-  object_called_together : (p : List Seg) (arguments : List given.Given) → Together (alike side) machines (object_called accesses p arguments) (object_called accesses2 p arguments)
+  object_called_together : (p : List Seg) (arguments : List given.Given) → Together side machines (object_called accesses p arguments) (object_called accesses2 p arguments)
   unfolding object_called
   object_called_together p arguments = then_together (object_answered_together p arguments) (λ answer. give_together _)
 
-  called_where_it_stands_together : (p : List Seg) (arguments : List given.Given) → Together (alike side) machines (called_where_it_stands accesses p arguments) (called_where_it_stands accesses2 p arguments)
+  called_where_it_stands_together : (p : List Seg) (arguments : List given.Given) → Together side machines (called_where_it_stands accesses p arguments) (called_where_it_stands accesses2 p arguments)
   unfolding called_where_it_stands
   called_where_it_stands_together p arguments = choice_together (λ s. contains_key s.world.names.map p) (λ s. contains_key s.world.names.map p) (λ s t. refl) (object_called_together p arguments) (plain (λ s. refl) (λ s. refl) (λ s t. refl))
 
-  initial_calls_together : (mode : Mode) → Together (alike side) machines (initial_calls accesses mode) (initial_calls accesses2 mode)
+  initial_calls_together : (mode : Mode) → Together side machines (initial_calls accesses mode) (initial_calls accesses2 mode)
   unfolding initial_calls
   initial_calls_together mode = then_together (settle_together _) (λ root. then_together (called_where_it_stands_together root _) (λ a. then_together (settle_together _) (λ bus. then_together (called_where_it_stands_together bus _) (λ b.
       then_together (settle_together _) (λ pic. called_where_it_stands_together pic _)))))
 
-  started_together : (mode : Mode) → Together (alike side) machines (started accesses mode) (started accesses2 mode)
+  started_together : (mode : Mode) → Together side machines (started accesses mode) (started accesses2 mode)
   unfolding started
   started_together mode = record {
     left_parted = λ s t p. (initial_calls_together mode).left_parted (record s { mode = mode }) t p;
@@ -104,6 +124,6 @@ module _ {S T : Type 0} {accesses : Accesses S} {accesses2 : Accesses T} {side :
     goes = λ s t i. (initial_calls_together mode).goes (record s { mode = mode }) t i;
   }
 
-  pub initialized_together : (mode : Mode) → Together (alike side) machines (initialized accesses mode) (initialized accesses2 mode)
+  pub initialized_together : (mode : Mode) → Together side machines (initialized accesses mode) (initialized accesses2 mode)
   unfolding initialized
   initialized_together mode = unless_spent_together (started_together mode)

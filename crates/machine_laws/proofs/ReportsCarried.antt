@@ -4,7 +4,7 @@ use Rattle.std.proofs.Common.{inl, inr, sym, subst}
 use Rattle.ar_space.specs.Accesses.{Accesses}
 use Rattle.ar_space.specs.Outcome.{Outcome}
 use Rattle.aml_laws.specs.Noted.{WithNotes, noted}
-use Rattle.aml_laws.proofs.Together.{SideBySide, Goes, goes_from}
+use Rattle.aml_laws.proofs.Together.{SideBySide, Goes, alike, goes_from}
 use Rattle.aml_laws.proofs.Noting.{noting}
 use Rattle.acpi_machine.specs.MachineStates.{MachineState}
 use Rattle.acpi_links.specs.Gathering.{Gathering}
@@ -82,4 +82,4 @@ module _ {S : Type 0} (accesses : Accesses S) (dry : Bool) (avoid : List ℕ) wh
   report_noted before after report is =
       with_notes before after report (report_carried (noting accesses) dry avoid (machine_without_notes before) after report before.world.space is
       (subst (λ (x : Outcome Gathering × MachineState S). Goes (noting accesses) machines x (gathered (noted accesses) avoid before)) is.is_found
-      (goes_from (noting accesses) machines _ _ ((gathered_together {side = noting accesses} avoid).goes (machine_without_notes before) before.world.space refl))))
+      (goes_from (noting accesses) machines _ _ ((gathered_together {side = alike (noting accesses)} (λ n. refl) (inl refl) avoid).goes (machine_without_notes before) before.world.space refl))))

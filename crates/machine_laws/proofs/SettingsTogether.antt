@@ -19,7 +19,7 @@ module _ {S T : Type 0} {accesses : Accesses S} {accesses2 : Accesses T} {side :
 
   link_set_together : (link : PresentLink) (n : ℕ) → Together (alike side) machines (link_set accesses link n) (link_set accesses2 link n)
   unfolding link_set
-  link_set_together link n = then_together (attempted_together _ (resources_set_together link.0 link.1 n)) (λ came. give_together _)
+  link_set_together link n = then_together (attempted_together _ (resources_set_together {side = alike side} (λ n. refl) link.0 link.1 n)) (λ came. give_together _)
 
   links_set_together : (links : List PresentLink) (ns : List ℕ) (done : List SetLine) → Together (alike side) machines (links_set accesses links ns done) (links_set accesses2 links ns done)
   unfolding links_set
@@ -29,7 +29,7 @@ module _ {S T : Type 0} {accesses : Accesses S} {accesses2 : Accesses T} {side :
 
   link_read_together : (link : PresentLink) → Together (alike side) machines (link_read accesses link) (link_read accesses2 link)
   unfolding link_read
-  link_read_together link = then_together (attempted_together _ (current_resources_together link.0)) (λ state. give_together _)
+  link_read_together link = then_together (attempted_together _ (current_resources_together {side = alike side} (λ n. refl) link.0)) (λ state. give_together _)
 
   settled_together : (links : List PresentLink) (ns : List ℕ) → Together (alike side) machines (settled accesses links ns) (settled accesses2 links ns)
   unfolding settled

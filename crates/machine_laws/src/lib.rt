@@ -3,12 +3,17 @@
 
 mod faults;
 mod notes;
+mod profiles;
 mod reports;
 
 pub use faults::{machine_faults_are_reached_by_accesses, routing_faults_are_reached_by_accesses};
 pub use notes::{
     machine_faults_are_answers_of_the_last_access, noting_changes_no_call,
     routing_faults_are_answers_of_the_last_access,
+};
+pub use profiles::{
+    the_wide_profile_calls_as_the_core_one_does, the_wide_profile_gathers_what_the_core_one_does,
+    the_wide_profile_reports_what_the_core_one_does,
 };
 pub use reports::{
     a_line_of_a_report_tells_of_its_accesses, noting_changes_no_report,

@@ -12,3 +12,5 @@ mod Streamless
 mod StreamlessAnswers
 pub mod StreamsTold
 pub mod StreamLines
+pub mod RunsWidened
+pub mod TextsWidened

@@ -18,7 +18,7 @@ use Rattle.route_solve.specs.Problems.{RoutingProblem, RoutingAnswer}
 use Rattle.route_report.specs.Reports.{RoutingReport}
 use Rattle.recorded_route.specs.declared.settings.Settings.{Settings}
 use Rattle.recorded_route.specs.Runs.{Description, described, IsConfigured, IsConfiguredIf, IsStarted, IsMachineRun, IsLoadedRun, IsRunOver, IsDescribedRun, IsRun, world_over as first_world}
-use Rattle.aml_laws.proofs.Together.{SideBySide, Goes, goes_from}
+use Rattle.aml_laws.proofs.Together.{SideBySide, Goes, alike, goes_from}
 use Rattle.aml_laws.proofs.WorldsTogether.{world_over, worlds}
 use Rattle.machine_laws.proofs.MachinesTogether.{machine_over, machines, loaded_tables_together, initialized_together}
 use Rattle.machine_laws.proofs.LinksTogether.{gathered_together}
@@ -69,12 +69,12 @@ module _ {S T : Type 0} {accesses : Accesses S} {accesses2 : Accesses T} (side :
       configured_meet : (m after : MachineState S) (outcome : Outcome RoutingReport) (t : T) (outcome2 : Outcome RoutingReport) (after2 : MachineState T) → IsConfigured accesses settings avoid m outcome after
           → IsConfigured accesses2 settings avoid (machine_over m t) outcome2 after2 → side.InStep m.world.space t → Meet side after.world.space after2.world.space
       configured_meet m after (Ok report) t (Ok report2) after2 is is2 i =
-          reports_meet m after report report2 t after2 is is2 (subst (λ (x : Outcome Gathering × MachineState S). Goes side machines x (gathered accesses2 avoid (machine_over m t))) is.is_found (goes_from side machines _ _ ((gathered_together {side = side} avoid).goes m t i)))
+          reports_meet m after report report2 t after2 is is2 (subst (λ (x : Outcome Gathering × MachineState S). Goes side machines x (gathered accesses2 avoid (machine_over m t))) is.is_found (goes_from side machines _ _ ((gathered_together {side = alike side} (λ n. refl) (inl refl) avoid).goes m t i)))
       configured_meet m after (Ok report) t (Err e) after2 is is2 i =
-          refused_beside m after report e t after2 is is2 (subst (λ (x : Outcome Gathering × MachineState S). Goes side machines x (gathered accesses2 avoid (machine_over m t))) is.is_found (goes_from side machines _ _ ((gathered_together {side = side} avoid).goes m t i)))
+          refused_beside m after report e t after2 is is2 (subst (λ (x : Outcome Gathering × MachineState S). Goes side machines x (gathered accesses2 avoid (machine_over m t))) is.is_found (goes_from side machines _ _ ((gathered_together {side = alike side} (λ n. refl) (inl refl) avoid).goes m t i)))
       configured_meet m after (Err e) t (Ok report2) after2 is is2 i =
-          beside_refused m after e report2 t after2 is2 (subst (λ (x : Outcome Gathering × MachineState S). Goes side machines x (gathered accesses2 avoid (machine_over m t))) is (goes_from side machines _ _ ((gathered_together {side = side} avoid).goes m t i)))
-      configured_meet m after (Err e) t (Err e2) after2 is is2 i = both_meet _ (Err e, after) _ (Err e2, after2) is is2 (goes_from side machines _ _ ((gathered_together {side = side} avoid).goes m t i))
+          beside_refused m after e report2 t after2 is2 (subst (λ (x : Outcome Gathering × MachineState S). Goes side machines x (gathered accesses2 avoid (machine_over m t))) is (goes_from side machines _ _ ((gathered_together {side = alike side} (λ n. refl) (inl refl) avoid).goes m t i)))
+      configured_meet m after (Err e) t (Err e2) after2 is is2 i = both_meet _ (Err e, after) _ (Err e2, after2) is is2 (goes_from side machines _ _ ((gathered_together {side = alike side} (λ n. refl) (inl refl) avoid).goes m t i))
 
       configured_if_meet : (r : Outcome (Unit {0})) (m after : MachineState S) (outcome : Outcome RoutingReport) (t : T) (outcome2 : Outcome RoutingReport) (after2 : MachineState T) → IsConfiguredIf accesses settings avoid r m outcome after
           → IsConfiguredIf accesses2 settings avoid r (machine_over m t) outcome2 after2 → side.InStep m.world.space t → Meet side after.world.space after2.world.space
@@ -94,7 +94,7 @@ module _ {S T : Type 0} {accesses : Accesses S} {accesses2 : Accesses T} (side :
           → IsMachineRun accesses2 settings avoid (machine_over m t) outcome2 space2 → side.InStep m.world.space t → Meet side space space2
       machine_runs_meet m outcome space t outcome2 space2 is is2 i =
           subst (λ s. Meet side s space2) is.is_space (subst (λ v. Meet side is.after.world.space v) is2.is_space
-          (started_meet m is.after outcome t outcome2 is2.after is.is_started is2.is_started (goes_from side machines _ _ ((initialized_together {side = side} settings.mode).goes m t i))))
+          (started_meet m is.after outcome t outcome2 is2.after is.is_started is2.is_started (goes_from side machines _ _ ((initialized_together {side = alike side} (λ n. refl) settings.mode).goes m t i))))
 
       loaded_runs_meet : (tables : Tables) (r : Outcome (Unit {0})) (w : State S) (outcome : Outcome RoutingReport) (space : S) (t : T) (outcome2 : Outcome RoutingReport) (space2 : T) → IsLoadedRun accesses settings avoid tables r w outcome space
           → IsLoadedRun accesses2 settings avoid tables r (world_over (λ r. r) w t) outcome2 space2 → side.InStep w.space t → Meet side space space2
@@ -113,5 +113,5 @@ module _ {S T : Type 0} {accesses : Accesses S} {accesses2 : Accesses T} (side :
       pub described_runs_meet : (d : Outcome Description) (before : S) (outcome : Outcome RoutingReport) (space : S) (t : T) (outcome2 : Outcome RoutingReport) (space2 : T) → IsDescribedRun accesses settings avoid d before outcome space
           → IsDescribedRun accesses2 settings avoid d t outcome2 space2 → side.InStep before t → Meet side space space2
       described_runs_meet (Ok d) before outcome space t outcome2 space2 is is2 i =
-          runs_over_meet d before outcome space t outcome2 space2 is is2 (goes_from side worlds _ _ ((loaded_tables_together {side = side} d.0 settings.steps d.1).goes (fresh_as settings.profile d.0.width d.1 before) t i))
+          runs_over_meet d before outcome space t outcome2 space2 is is2 (goes_from side worlds _ _ ((loaded_tables_together {side = alike side} (λ n. refl) d.0 settings.steps d.1).goes (fresh_as settings.profile d.0.width d.1 before) t i))
       described_runs_meet (Err e) before outcome space t outcome2 space2 is is2 i = inr (t, subst (λ s. side.InStep s t) is.1 i)

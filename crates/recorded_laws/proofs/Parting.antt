@@ -1,6 +1,6 @@
 -- Spaces that have parted stay so to the end of a run, over either of them.
 use Rattle.std.specs.Prelude.{◌≡◌, ℕ, List, Ok, Err}
-use Rattle.std.proofs.Common.{sym, subst}
+use Rattle.std.proofs.Common.{inl, refl, sym, subst}
 use Rattle.ar_space.specs.Accesses.{Accesses}
 use Rattle.ar_space.specs.Outcome.{Outcome}
 use Rattle.ar_tables.specs.declared.tables.Tables.{Tables}
@@ -14,7 +14,7 @@ use Rattle.route_report.specs.declared.report.SetLine.{SetLine}
 use Rattle.route_report.specs.Reports.{RoutingReport, ReportedAfter}
 use Rattle.recorded_route.specs.declared.settings.Settings.{Settings}
 use Rattle.recorded_route.specs.Runs.{IsConfigured, IsConfiguredIf, IsMachineRun, IsLoadedRun}
-use Rattle.aml_laws.proofs.Together.{SideBySide}
+use Rattle.aml_laws.proofs.Together.{SideBySide, alike}
 use Rattle.machine_laws.proofs.MachinesTogether.{initialized_together}
 use Rattle.machine_laws.proofs.LinksTogether.{gathered_together}
 use Rattle.machine_laws.proofs.SettingsTogether.{settled_unless_together}
@@ -31,13 +31,13 @@ module _ {S T : Type 0} {accesses : Accesses S} {accesses2 : Accesses T} (side :
 
   pub configured_left : (m after : MachineState S) (outcome : Outcome RoutingReport) (t : T) → IsConfigured accesses settings avoid m outcome after → side.Parted m.world.space t → side.Parted after.world.space t
   configured_left m after (Ok report) t is p =
-      settled_left is.found.links is.answer.choice is.chosen_in after (Ok is.settings) t is.is_settled (subst (λ (x : Outcome Gathering × MachineState S). side.Parted x.1.world.space t) is.is_found ((gathered_together {side = side} avoid).left_parted m t p))
-  configured_left m after (Err e) t is p = subst (λ (x : Outcome Gathering × MachineState S). side.Parted x.1.world.space t) is ((gathered_together {side = side} avoid).left_parted m t p)
+      settled_left is.found.links is.answer.choice is.chosen_in after (Ok is.settings) t is.is_settled (subst (λ (x : Outcome Gathering × MachineState S). side.Parted x.1.world.space t) is.is_found ((gathered_together {side = alike side} (λ n. refl) (inl refl) avoid).left_parted m t p))
+  configured_left m after (Err e) t is p = subst (λ (x : Outcome Gathering × MachineState S). side.Parted x.1.world.space t) is ((gathered_together {side = alike side} (λ n. refl) (inl refl) avoid).left_parted m t p)
 
   pub configured_right : (m after : MachineState T) (outcome : Outcome RoutingReport) (s : S) → IsConfigured accesses2 settings avoid m outcome after → side.Parted s m.world.space → side.Parted s after.world.space
   configured_right m after (Ok report) s is p =
-      settled_right is.found.links is.answer.choice is.chosen_in after (Ok is.settings) s is.is_settled (subst (λ (x : Outcome Gathering × MachineState T). side.Parted s x.1.world.space) is.is_found ((gathered_together {side = side} avoid).right_parted s m p))
-  configured_right m after (Err e) s is p = subst (λ (x : Outcome Gathering × MachineState T). side.Parted s x.1.world.space) is ((gathered_together {side = side} avoid).right_parted s m p)
+      settled_right is.found.links is.answer.choice is.chosen_in after (Ok is.settings) s is.is_settled (subst (λ (x : Outcome Gathering × MachineState T). side.Parted s x.1.world.space) is.is_found ((gathered_together {side = alike side} (λ n. refl) (inl refl) avoid).right_parted s m p))
+  configured_right m after (Err e) s is p = subst (λ (x : Outcome Gathering × MachineState T). side.Parted s x.1.world.space) is ((gathered_together {side = alike side} (λ n. refl) (inl refl) avoid).right_parted s m p)
 
   pub configured_if_left : (r : Outcome (Unit {0})) (m after : MachineState S) (outcome : Outcome RoutingReport) (t : T) → IsConfiguredIf accesses settings avoid r m outcome after → side.Parted m.world.space t → side.Parted after.world.space t
   configured_if_left (Ok u) m after outcome t is p = configured_left m after outcome t is p
@@ -49,11 +49,11 @@ module _ {S T : Type 0} {accesses : Accesses S} {accesses2 : Accesses T} (side :
 
   pub machine_run_left : (m : MachineState S) (outcome : Outcome RoutingReport) (space : S) (t : T) → IsMachineRun accesses settings avoid m outcome space → side.Parted m.world.space t → side.Parted space t
   machine_run_left m outcome space t is p =
-      subst (λ s. side.Parted s t) is.is_space (configured_if_left (initialized accesses settings.mode m).0 (initialized accesses settings.mode m).1 is.after outcome t is.is_started ((initialized_together {side = side} settings.mode).left_parted m t p))
+      subst (λ s. side.Parted s t) is.is_space (configured_if_left (initialized accesses settings.mode m).0 (initialized accesses settings.mode m).1 is.after outcome t is.is_started ((initialized_together {side = alike side} (λ n. refl) settings.mode).left_parted m t p))
 
   pub machine_run_right : (m : MachineState T) (outcome : Outcome RoutingReport) (space : T) (s : S) → IsMachineRun accesses2 settings avoid m outcome space → side.Parted s m.world.space → side.Parted s space
   machine_run_right m outcome space s is p =
-      subst (λ t. side.Parted s t) is.is_space (configured_if_right (initialized accesses2 settings.mode m).0 (initialized accesses2 settings.mode m).1 is.after outcome s is.is_started ((initialized_together {side = side} settings.mode).right_parted s m p))
+      subst (λ t. side.Parted s t) is.is_space (configured_if_right (initialized accesses2 settings.mode m).0 (initialized accesses2 settings.mode m).1 is.after outcome s is.is_started ((initialized_together {side = alike side} (λ n. refl) settings.mode).right_parted s m p))
 
   pub loaded_run_left : (tables : Tables) (r : Outcome (Unit {0})) (w : State S) (outcome : Outcome RoutingReport) (space : S) (t : T) → IsLoadedRun accesses settings avoid tables r w outcome space → side.Parted w.space t → side.Parted space t
   loaded_run_left tables (Ok u) w outcome space t is p = machine_run_left (machine_of tables settings.steps w) outcome space t is p

@@ -14,7 +14,7 @@ use Rattle.acpi_links.specs.Gatherings.{gathered}
 use Rattle.route_report.specs.Reports.{RoutingReport}
 use Rattle.recorded_route.specs.declared.settings.Settings.{Settings}
 use Rattle.recorded_route.specs.Runs.{Description, described, IsConfigured, IsConfiguredIf, IsStarted, IsMachineRun, IsLoadedRun, IsRunOver, IsDescribedRun, IsRun, world_over as first_world}
-use Rattle.aml_laws.proofs.Together.{SideBySide, Goes, goes_from}
+use Rattle.aml_laws.proofs.Together.{SideBySide, Goes, alike, goes_from}
 use Rattle.aml_laws.proofs.WorldsTogether.{world_over, worlds}
 use Rattle.machine_laws.proofs.MachinesTogether.{machine_over, machines, loaded_tables_together, initialized_together}
 use Rattle.machine_laws.proofs.LinksTogether.{gathered_together}
@@ -31,9 +31,9 @@ module _ {S T : Type 0} {accesses : Accesses S} {accesses2 : Accesses T} (side :
   configured_carried : (m after : MachineState S) (outcome : Outcome RoutingReport) (t : T) → IsConfigured accesses settings avoid m outcome after → side.InStep m.world.space t
       → Carried side after.world.space (λ v. IsConfigured accesses2 settings avoid (machine_over m t) outcome (machine_over after v))
   configured_carried m after (Ok report) t is i =
-      report_carried side settings.dry avoid m after report t is (subst (λ (x : Outcome Gathering × MachineState S). Goes side machines x (gathered accesses2 avoid (machine_over m t))) is.is_found (goes_from side machines _ _ ((gathered_together {side = side} avoid).goes m t i)))
+      report_carried side settings.dry avoid m after report t is (subst (λ (x : Outcome Gathering × MachineState S). Goes side machines x (gathered accesses2 avoid (machine_over m t))) is.is_found (goes_from side machines _ _ ((gathered_together {side = alike side} (λ n. refl) (inl refl) avoid).goes m t i)))
   configured_carried m after (Err e) t is i =
-      refusal_carried m after e t (subst (λ (x : Outcome Gathering × MachineState S). Goes side machines x (gathered accesses2 avoid (machine_over m t))) is (goes_from side machines _ _ ((gathered_together {side = side} avoid).goes m t i)))
+      refusal_carried m after e t (subst (λ (x : Outcome Gathering × MachineState S). Goes side machines x (gathered accesses2 avoid (machine_over m t))) is (goes_from side machines _ _ ((gathered_together {side = alike side} (λ n. refl) (inl refl) avoid).goes m t i)))
 
   -- the machine after initializing, over both spaces
   ready_carried : (r : Outcome (Unit {0})) (m after : MachineState S) (outcome : Outcome RoutingReport) (t : T) → IsConfiguredIf accesses settings avoid r m outcome after → side.InStep m.world.space t
@@ -55,7 +55,7 @@ module _ {S T : Type 0} {accesses : Accesses S} {accesses2 : Accesses T} (side :
 
   machine_run_carried : (m : MachineState S) (outcome : Outcome RoutingReport) (space : S) (t : T) → IsMachineRun accesses settings avoid m outcome space → side.InStep m.world.space t
       → Carried side space (λ v. IsMachineRun accesses2 settings avoid (machine_over m t) outcome v)
-  machine_run_carried m outcome space t is i = machine_run_of m is.after outcome space t is.is_space (started_carried m is.after outcome t is.is_started (goes_from side machines _ _ ((initialized_together {side = side} settings.mode).goes m t i)))
+  machine_run_carried m outcome space t is i = machine_run_of m is.after outcome space t is.is_space (started_carried m is.after outcome t is.is_started (goes_from side machines _ _ ((initialized_together {side = alike side} (λ n. refl) settings.mode).goes m t i)))
 
   loaded_run_carried : (tables : Tables) (r : Outcome (Unit {0})) (w : State S) (outcome : Outcome RoutingReport) (space : S) (t : T) → IsLoadedRun accesses settings avoid tables r w outcome space → side.InStep w.space t
       → Carried side space (λ v. IsLoadedRun accesses2 settings avoid tables r (world_over (λ r. r) w t) outcome v)
@@ -71,7 +71,7 @@ module _ {S T : Type 0} {accesses : Accesses S} {accesses2 : Accesses T} (side :
 
   pub described_run_carried : (d : Outcome Description) (before : S) (outcome : Outcome RoutingReport) (space : S) (t : T) → IsDescribedRun accesses settings avoid d before outcome space → side.InStep before t
       → Carried side space (λ v. IsDescribedRun accesses2 settings avoid d t outcome v)
-  described_run_carried (Ok d) before outcome space t is i = run_over_goes d before outcome space t is (goes_from side worlds _ _ ((loaded_tables_together {side = side} d.0 settings.steps d.1).goes (fresh_as settings.profile d.0.width d.1 before) t i))
+  described_run_carried (Ok d) before outcome space t is i = run_over_goes d before outcome space t is (goes_from side worlds _ _ ((loaded_tables_together {side = alike side} (λ n. refl) d.0 settings.steps d.1).goes (fresh_as settings.profile d.0.width d.1 before) t i))
   described_run_carried (Err e) before outcome space t is i = inr (t, (is.0, refl), subst (λ s. side.InStep s t) is.1 i)
 
   pub run_carried : (text : List ℕ) (before : S) (outcome : Outcome RoutingReport) (space : S) (t : T) → IsRun accesses settings avoid text before outcome space → side.InStep before t

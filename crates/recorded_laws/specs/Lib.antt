@@ -2,3 +2,4 @@ pub mod Listed
 pub mod Grown
 pub mod RunNotes
 pub mod StreamsTold
+pub mod Widened
