@@ -57,7 +57,7 @@ module _ {S : Type 0} (accesses : Accesses S) where
       (buses, ap (λ (s : MachineState S). (Ok buses, s)) left, sym report)
   lines_behind own plain r after (Err e) t is = absurd (cc (ap (λ (p : Outcome RoutingReport × MachineState S). p.0) is))
 
-  behind : (kernel : Bool) (plain r : RoutingReport) (before after : MachineState S) → kernel ≡ true → told_if accesses kernel plain before ≡ (Ok r, after) → IsToldBehind accesses before plain after r
+  pub behind : (kernel : Bool) (plain r : RoutingReport) (before after : MachineState S) → kernel ≡ true → told_if accesses kernel plain before ≡ (Ok r, after) → IsToldBehind accesses before plain after r
   unfolding told_if kernel_told lines_told ◌>>=◌
   behind true plain r before after e is =
       let b = buses_asked accesses (devices_with_tables before) before in
@@ -68,7 +68,7 @@ module _ {S : Type 0} (accesses : Accesses S) where
   pub told_behind : (o : RunOptions) (before after : MachineState S) (r : RoutingReport) (is : IsReportFor accesses o before after r) → o.kernel ≡ true → IsToldBehind accesses is.configured is.plain after r
   told_behind o before after r is kernel = behind o.kernel is.plain r is.configured after kernel is.is_told
 
-  plainly : (kernel : Bool) (plain r : RoutingReport) (before after : MachineState S) → kernel ≡ false → told_if accesses kernel plain before ≡ (Ok r, after) → (plain ≡ r) × (before ≡ after)
+  pub plainly : (kernel : Bool) (plain r : RoutingReport) (before after : MachineState S) → kernel ≡ false → told_if accesses kernel plain before ≡ (Ok r, after) → (plain ≡ r) × (before ≡ after)
   unfolding told_if give
   plainly true plain r before after e is = absurd (cc e)
   plainly false plain r before after e is = (cc (ap (λ (p : Outcome RoutingReport × MachineState S). p.0) is), ap (λ (p : Outcome RoutingReport × MachineState S). p.1) is)

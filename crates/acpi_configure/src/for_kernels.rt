@@ -161,10 +161,7 @@ fn with_kernel_lines(
 
 /// The paths of the devices that have a routing table, in path order.
 #[tactic(auto, using(ar_space::specs::Outcome::answering), unfolding(crate::specs::ForKernels::devices_with_tables))]
-fn devices_with_tables<S: Space>(
-    alloc: Global,
-    machine: &Machine<S>,
-) -> Result<Vec<Path>, Refusal>
+fn devices_with_tables<S: Space>(alloc: Global, machine: &Machine<S>) -> Result<Vec<Path>, Refusal>
     ensures value { Answers (seen (λ list. list.items) result) (Ok (devices_with_tables machine.now)) }
     ensures memory { IfErr result (λ refusal. refusal ≡ OutOfMemory) }
 {
@@ -191,11 +188,7 @@ fn with_tables<S: Space>(
 }
 
 /// Whether a device has a routing table.
-fn has_table<S: Space>(
-    alloc: Global,
-    machine: &Machine<S>,
-    device: &Path,
-) -> Result<bool, Refusal>
+fn has_table<S: Space>(alloc: Global, machine: &Machine<S>, device: &Path) -> Result<bool, Refusal>
     ensures value { Answers result (Ok (has_table machine.now device.now)) }
     ensures memory { IfErr result (λ refusal. refusal ≡ OutOfMemory) }
 {

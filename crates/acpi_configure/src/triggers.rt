@@ -106,7 +106,10 @@ fn link_triggers(alloc: Global, links: &[LinkLine]) -> Result<Vec<TriggerLine>, 
 fn wired_trigger(overrides: &[OverrideLine], interrupt: u32, count: u32) -> TriggerLine
     ensures { result ≡ wired_trigger overrides.now (interrupt, count) }
 {
-    triggered_by(flags_to(interrupt, overrides), InterruptSource::Wired(interrupt))
+    triggered_by(
+        flags_to(interrupt, overrides),
+        InterruptSource::Wired(interrupt),
+    )
 }
 
 /// How those of wired pins are triggered.

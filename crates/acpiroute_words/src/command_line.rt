@@ -307,12 +307,7 @@ fn route_by(
 }
 
 /// What `route` is asked where these interrupts are to be avoided, or that they are no list.
-fn route_with(
-    mode: Mode,
-    evaluation: Evaluation,
-    avoid: Option<Interrupts>,
-    flags: Flags,
-) -> Asked
+fn route_with(mode: Mode, evaluation: Evaluation, avoid: Option<Interrupts>, flags: Flags) -> Asked
     ensures { result ≡ route_with mode evaluation avoid flags }
 {
     match avoid {

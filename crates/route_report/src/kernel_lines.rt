@@ -29,11 +29,7 @@ fn put_how(text: &mut Vec<u8>, trigger: Trigger, polarity: Polarity) -> Result<(
 }
 
 /// What has an interrupt.
-fn put_source(
-    alloc: Global,
-    text: &mut Vec<u8>,
-    source: &InterruptSource,
-) -> Result<(), AllocError>
+fn put_source(alloc: Global, text: &mut Vec<u8>, source: &InterruptSource) -> Result<(), AllocError>
     ensures text { OnOk result (text.new.items ≡ text.old.items ++ spaced (triggered_words source.now)) }
     ensures small { OnOk result (IsSmallSource source.now) }
 {

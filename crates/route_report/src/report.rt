@@ -193,10 +193,7 @@ pub struct TriggerLine {
 #[derive(Clone, Copy, Debug, PartialEq, Eq)]
 pub enum BusState {
     /// This bus of this PCI segment group.
-    Known {
-        segment: u16,
-        bus: u8,
-    },
+    Known { segment: u16, bus: u8 },
     /// The number of the refusal.
     Refused(u8),
 }
