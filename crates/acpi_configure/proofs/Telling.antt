@@ -1,7 +1,8 @@
 -- What is told to a kernel, and where a run stops that tells it.
 use Rattle.std.proofs.Common.{◌≡◌, ◌≢◌, ◌∙◌, refl, sym, ap, subst, inl, inr, List, [], ◌∷◌, ◌++◌, Bool, true, false, cond, ℕ, Ok, Err, append-nil}
-use Rattle.std.specs.Prelude.{filter}
+use Rattle.std.specs.Prelude.{filter, IfOk, IfErr}
 use Rattle.ar_space.specs.declared.refusal.Refusal.{Refusal}
+use Rattle.ar_space.specs.declared.refusal.Refusal.TheVariants.{OutOfMemory}
 use Rattle.ar_space.specs.Accesses.{Accesses}
 use Rattle.ar_space.specs.Outcome.{Outcome, Answers}
 use Rattle.ar_space.specs.Change.{Change, Does, give, go_on, ◌>>=◌}
@@ -103,3 +104,27 @@ module _ {S : Type 0} (accesses : Accesses S) where
   -- of a machine as it is told
   pub stops_told : (s t : MachineState S) (list : List (List Seg)) → list ≡ devices_with_tables s → StopsInBuses accesses list s t → StopsInBuses accesses (devices_with_tables s) s t
   stops_told s t list e h = rw (← e) h
+
+  pub told_of : (s t : MachineState S) (x : Outcome RoutingReport) (list : List (List Seg)) (own : ℕ) (r : RoutingReport) → Answers (Ok list) (Ok (devices_with_tables s)) → own ≡ sci_interrupt s.tables.fadt → Does x t (lines_told accesses list own r) s → Does x t (kernel_told accesses r) s
+  unfolding kernel_told
+  told_of s t x list own r a e h =
+      let same : list ≡ devices_with_tables s = cc (a.is tt) in
+      record { is = λ n. subst (λ (l : List (List Seg)). lines_told accesses l (sci_interrupt s.tables.fadt) r s ≡ (x, t)) same (subst (λ (n : ℕ). lines_told accesses list n r s ≡ (x, t)) e (h.is n)) }
+
+  pub stops_of : (s t : MachineState S) (list : List (List Seg)) → Answers (Ok list) (Ok (devices_with_tables s)) → StopsInBuses accesses list s t → StopsInTelling accesses true s t
+  stops_of s t list a h = stops_told s t list (cc (a.is tt)) h
+
+  pub reported_if : (o : RunOptions) (before configured after : MachineState S) (plain : RoutingReport) (kernel : Bool) (x : Outcome RoutingReport) → kernel ≡ o.kernel → IsReportWith accesses o before configured plain → Does x after (told_if accesses kernel plain) configured
+      → ((q : RoutingReport) (ts : List TriggerLine) (bs : List BusLine) → IsReadable q → IsReadable (with_kernel_lines q ts bs)) → ((q : RoutingReport) (ts : List TriggerLine) (bs : List BusLine) → IsReadable q → claim_of_report (with_kernel_lines q ts bs) ≡ claim_of_report q)
+      → IfOk x (λ r. IsReportFor accesses o before after r)
+  reported_if o before configured after plain kernel (Ok r) e is told readable claims =
+      reported_for o before configured after plain r is (subst (λ (k : Bool). Does (Ok r) after (told_if accesses k plain) configured) e told) readable claims
+  reported_if o before configured after plain kernel (Err x) e is told readable claims = tt
+
+  pub stops_if : (o : RunOptions) (before configured after : MachineState S) (plain : RoutingReport) (kernel : Bool) → kernel ≡ o.kernel → IsReportWith accesses o before configured plain → StopsInTelling accesses kernel configured after → StopsInRunFor accesses o before after
+  stops_if o before configured after plain kernel e is stops = stops_behind o before configured after plain is (subst (λ (k : Bool). StopsInTelling accesses k configured after) e stops)
+
+-- want of memory is no refusal that a definition gives
+pub not_refused : (P : Refusal → Type 0) (x : Outcome RoutingReport) → IfErr x (λ e. e ≡ OutOfMemory) → IfErr x (λ e. e ≢ OutOfMemory → P e)
+not_refused P (Ok r) h = tt
+not_refused P (Err e) h = λ ne. absurd (ne h)

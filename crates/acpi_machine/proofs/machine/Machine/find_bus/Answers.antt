@@ -4,7 +4,7 @@ use Rattle.acpi_machine.specs.Buses.{bus_found}
 use Rattle.acpi_machine.specs.MachineStates.{MachineState}
 use Rattle.acpi_machine.proofs.Stopping.{made}
 use Rattle.acpi_machine.proofs.Noticed.{does_spent, does_unspent}
-use Rattle.acpi_machine.proofs.buses.Machine.find_bus.Goals as goal
+use Rattle.acpi_machine.proofs.machine.Machine.find_bus.Goals as goal
 
 pub returns-then-self-clause-evaluated : goal.returns-then-self-clause-evaluated
 unfolding bus_found
