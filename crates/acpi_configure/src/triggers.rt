@@ -80,7 +80,7 @@ fn overrides_used(mode: Mode, overrides: &[OverrideLine]) -> &[OverrideLine]
 }
 
 fn link_trigger(alloc: Global, link: &LinkLine) -> Result<TriggerLine, Refusal>
-    ensures value { Answers result (Ok (link_trigger link.now)) }
+    ensures value { Answers result (Ok (link_trigger link.entry.now)) }
     ensures memory { IfErr result (λ refusal. refusal ≡ OutOfMemory) }
 {
     Ok(TriggerLine {
