@@ -32,5 +32,5 @@ pub use input::{Stop, read_input};
 pub use interrupts::Interrupts;
 pub use put::{put_hexadecimal, put_number, put_path};
 pub use refusal_text::refusal_words;
-pub use request::{Asked, Asking, Evaluation, Question, Request};
+pub use request::{Asked, Asking, Evaluation, Flags, Question, Request};
 pub use streams::{Failed, Growing, Outside, Sink, Source};

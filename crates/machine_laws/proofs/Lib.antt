@@ -12,6 +12,7 @@ pub mod MachineFaults
 pub mod MachineNotes
 pub mod MachineNoting
 pub mod MachinesTogether
+pub mod BusesTogether
 pub mod MachinesWidened
 pub mod NumbersTold
 pub mod OthersTogether
@@ -19,4 +20,5 @@ pub mod ProfilesAsked
 pub mod ReportsCarried
 pub mod ReportsTold
 pub mod ReportsWidened
+pub mod TellingWidened
 pub mod SettingsTogether

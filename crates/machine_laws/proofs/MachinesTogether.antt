@@ -74,7 +74,7 @@ module _ {S T : Type 0} {accesses : Accesses S} {accesses2 : Accesses T} {side :
 
   -- ---- objects that are evaluated
 
-  on_world_together : {A : Type 0} {m : Change (State S) A} {n : Change (State T) A} → Together side worlds m n → Together side machines (on_world m) (on_world n)
+  pub on_world_together : {A : Type 0} {m : Change (State S) A} {n : Change (State T) A} → Together side worlds m n → Together side machines (on_world m) (on_world n)
   unfolding on_world
   on_world_together {m = m} {n = n} h = record {
     left_parted = λ s t p. h.left_parted s.world t p;
@@ -82,7 +82,7 @@ module _ {S T : Type 0} {accesses : Accesses S} {accesses2 : Accesses T} {side :
     goes = λ s t i. world_goes side s (m s.world) (n (world_over side.raise s.world t)) (h.goes s.world t i);
   }
 
-  unless_spent_together : {A : Type 0} {m : Change (MachineState S) A} {n : Change (MachineState T) A} → Together side machines m n → Together side machines (unless_spent m) (unless_spent n)
+  pub unless_spent_together : {A : Type 0} {m : Change (MachineState S) A} {n : Change (MachineState T) A} → Together side machines m n → Together side machines (unless_spent m) (unless_spent n)
   unfolding unless_spent
   unless_spent_together h = choice_together (λ s. s.spent) (λ s. s.spent) (λ s t. refl) (stop_together _) h
 
