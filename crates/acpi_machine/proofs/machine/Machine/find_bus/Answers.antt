@@ -2,7 +2,7 @@ use Rattle.std.proofs.Common.{sym, ap, inr, ◌∙◌}
 use Rattle.std.specs.Prelude.{◌≡◌, true, false}
 use Rattle.acpi_machine.specs.Buses.{bus_found}
 use Rattle.acpi_machine.specs.MachineStates.{MachineState}
-use Rattle.acpi_machine.proofs.Bridged.{made_plain}
+use Rattle.acpi_machine.proofs.Stopping.{made_plain}
 use Rattle.acpi_machine.proofs.Noticed.{does_spent, does_unspent}
 use Rattle.acpi_machine.proofs.machine.Machine.find_bus.Goals as goal
 
