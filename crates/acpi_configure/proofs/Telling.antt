@@ -11,7 +11,7 @@ use Rattle.aml_path.specs.declared.segment.Seg.{Seg}
 use Rattle.acpi_machine.specs.Buses.{bus_found}
 use Rattle.acpi_machine.specs.MachineStates.{MachineState}
 use Rattle.acpi_machine.specs.Stops.{AllOrNone}
-use Rattle.acpi_machine.proofs.Stopping.{made_given}
+use Rattle.acpi_machine.proofs.Stopping.{made_given, none_made, stops_here, goes_start}
 use Rattle.route_report.specs.declared.report.BusLine.{BusLine}
 use Rattle.route_report.specs.declared.report.TriggerLine.{TriggerLine}
 use Rattle.route_report.specs.ForKernels.{with_kernel_lines}
@@ -121,6 +121,9 @@ module _ {S : Type 0} (accesses : Accesses S) where
   stops_of s t list found alike a h =
       let here : devices_with_tables s ≡ found = cc (a.is tt) in
       stops_told s t list (alike ∙ sym here) h
+
+  pub stops_unasked : (s : MachineState S) → StopsInTelling accesses true s s
+  stops_unasked s = stops_here (bus_asked accesses) (λ device. AllOrNone (bus_asked accesses device)) (λ device u. none_made) (devices_with_tables s) goes_start
 
   pub not_asked : (kernel : Bool) (r : RoutingReport) (s : MachineState S) → kernel ≡ false → Does (Ok r) s (told_if accesses kernel r) s
   unfolding told_if give

@@ -1,6 +1,6 @@
 use Rattle.std.proofs.Common.{ap, ◌∙◌}
 use Rattle.ar_tables.specs.Fadts.{sci_interrupt}
-use Rattle.acpi_configure.proofs.Telling.{told_of, stops_of}
+use Rattle.acpi_configure.proofs.Telling.{told_of, stops_of, stops_unasked}
 use Rattle.acpi_configure.proofs.for_kernels.tell_kernel.Goals as goal
 
 pub returns-clause-value : goal.returns-clause-value
@@ -9,3 +9,6 @@ returns-clause-value g c =
 
 pub returns-clause-evaluated : goal.returns-clause-evaluated
 returns-clause-evaluated g c = stops_of g.S.Space.accesses c.args.machine.now _ c.deref.result.now c.in_ok-devices.devices.items c.deref.ensures.value c.in_ok-devices.ensures.value c.tell_lines.ensures.evaluated
+
+pub returns-in_err-devices-clause-evaluated : goal.returns-in_err-devices-clause-evaluated
+returns-in_err-devices-clause-evaluated g c = stops_unasked g.S.Space.accesses c.args.machine.now
