@@ -1,3 +1,4 @@
+pub mod BankFields
 pub mod Bridges
 pub mod Calling
 pub mod DataTerms

@@ -1,4 +1,4 @@
-//! Declarations of fields (ACPI 6.5, 19.6: Field, IndexField; 20.2.5.2: FieldFlags, FieldList).
+//! Declarations of fields (ACPI 6.5, 19.6: Field, IndexField, BankField; 20.2.5.2: FieldFlags, FieldList).
 ghost use Rattle.std.specs.Prelude.{◌≡◌};
 ghost use Rattle.ar_space.specs.Change.{Does};
 ghost use Rattle.ar_space.specs.Outcome.{Answers, NotMemory};
@@ -129,8 +129,8 @@ impl<S> WorldState<S> {
         region_number(entry.number, &entry.object)
     }
 
-    /// The number of the declaration of the field that a name finds, which lies in an operation region; anything else
-    /// is refused as `WrongType`, and a name that isn't found as `Names::lookup` refuses it.
+    /// The number of the declaration of the field that a name finds, which Field declared; anything else is refused
+    /// as `WrongType`, and a name that isn't found as `Names::lookup` refuses it.
     #[tactic(auto, using(ar_space::specs::Change::changing), unfolding(crate::specs::FieldTerms::field_found))]
     pub fn field_found(&self, scope: Scope<'_>, name: &NameString) -> Result<u64, Refusal>
         ensures answer { Does result self.now (field_found scope.entry.path.now name.now) self.now }
@@ -201,5 +201,6 @@ fn in_region(number: u64, source: FieldSource) -> Result<u64, Refusal>
     match source {
         FieldSource::Region(_) => Ok(number),
         FieldSource::Index(_, _) => Err(Refusal::Value(ValueFault::WrongType)),
+        FieldSource::Bank(_, _) => Err(Refusal::Value(ValueFault::WrongType)),
     }
 }

@@ -2,6 +2,7 @@
 #![tactic(auto)]
 
 mod argument_counts;
+mod banks;
 mod body_marks;
 mod bridges;
 mod buffer_fields;

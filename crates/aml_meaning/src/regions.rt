@@ -277,5 +277,6 @@ fn region_field(source: FieldSource, unit: FieldUnit) -> Result<RegionField, Ref
     match source {
         FieldSource::Region(region) => Ok(RegionField { region, unit }),
         FieldSource::Index(_, _) => Err(Refusal::Evaluation(EvaluationFault::DeadReference)),
+        FieldSource::Bank(_, _) => Err(Refusal::Evaluation(EvaluationFault::DeadReference)),
     }
 }
