@@ -5,12 +5,13 @@ ghost use Rattle.aml_grammar.specs.declared.opcode.Opcode.{Opcode};
 ghost use Rattle.aml_grammar.specs.declared.opcode.TermCode.TheVariants as codes;
 ghost use Rattle.aml_grammar.specs.Apart.{code_of, operand_of};
 ghost use Rattle.aml_grammar.specs.Names.{starts_name};
+ghost use Rattle.aml_grammar.specs.Shape.{trees_of};
 ghost use Rattle.aml_grammar.specs.State.{is_next};
 ghost use Rattle.aml_marked.specs.Marked.{Below, count_at, first, over, name_length, a_name, a_size, a_term, a_call};
-ghost use Rattle.aml_marked.specs.Marked.{a_target, turns_of, with_row, maybe_else};
+ghost use Rattle.aml_marked.specs.Marked.{a_target, turns_of, with_row, maybe_else, fields_left};
 ghost use Rattle.aml_scan.specs.RowsAt.{row_at};
 ghost use Rattle.aml_scan.specs.declared.row_places.RowPlace.{RowPlace};
-ghost use Rattle.aml_terms.specs.AtTree.{at_tree};
+ghost use Rattle.aml_terms.specs.AtTree.{at_tree, at_list};
 ghost use Rattle.aml_meaning.specs.Terms.{target_kind, number_of};
 ghost use Rattle.aml_frames.specs.Places.{Stands, place_between, end_of, at_place, terms, next_term, behind_term};
 
@@ -296,6 +297,13 @@ impl Activation {
         ensures { at_tree result ≡ (with_row (terms self.now levels) (row_at place) self.now.place).0 }
     {
         self.cursor().coded_term(&self.marks, levels, place)
+    }
+
+    /// A reader of the field elements that are left.
+    pub fn field_list(&self, levels: u8) -> At<'_>
+        ensures { at_list result ≡ trees_of (fields_left (terms self.now levels) self.now.place).0 }
+    {
+        self.cursor().field_list(&self.marks, levels)
     }
 
     /// What is left of the list or package.

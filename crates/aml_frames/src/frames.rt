@@ -4,6 +4,7 @@ ghost use Rattle.aml_frames.specs.declared.frames.Next.TheVariants as nexts;
 
 use crate::activation::{Activation, MethodPath, Position};
 use crate::addresses::PciAccess;
+use crate::banked::{BankWrites, BanksLeft};
 use crate::boxed::Boxed;
 use crate::indexed::{UnitWrites, UnitsLeft};
 use crate::uses::{Access, Dyadic, Inquiry, Monadic, Reading, SecondOperand, Target, TargetUse};
@@ -74,7 +75,7 @@ pub struct Package {
     pub done: Elements,
 }
 
-/// An operand of a declaration of a region or of a buffer field, while it is evaluated, with what was read and
+/// An operand of a declaration of a region, of a buffer field or of fields of a bank, while it is evaluated, with what was read and
 /// evaluated before it.
 #[derive(Clone, Copy, Debug)]
 pub enum DeclarationPart {
@@ -92,6 +93,9 @@ pub enum DeclarationPart {
     BitsIndex(u8, Value),
     /// How many bits such a field has: its buffer, and the index of its first bit.
     BitsCount(Value, Value),
+    /// The value that selects the bank of a BankField with so many levels below it: where evaluation goes on behind
+    /// its package, and the numbers of the declarations of its region and of its bank field.
+    BankValue(u8, Position, u64, u64),
 }
 
 /// An operand of a Match, while it is evaluated, with what was read and evaluated before it. The bytes of operators
@@ -168,12 +172,18 @@ pub enum Frame {
     UnitMerged(Boxed<UnitWrites>, u64),
     /// The same, while the data field is written.
     UnitWritten(Boxed<UnitWrites>),
+    /// An access of a field of a bank, while the bank is selected: this unit is read then.
+    BankRead(Boxed<BanksLeft>, Unit),
+    /// A write of a field of a bank, while the bank is selected: the unit with this offset is written with this
+    /// number then.
+    BankWrite(Boxed<BankWrites>, u64, u64),
     /// A Name, while its datum is evaluated: where its name stands.
     Named(Position),
     /// A Scope, a Device, a Processor, a PowerResource or a ThermalZone, while its list is evaluated: the scope
     /// around it, and its node.
     Scope(MethodPath, NodeId),
-    /// A declaration of an operation region or of a buffer field, while one of its operands is evaluated.
+    /// A declaration of an operation region, of a buffer field or of fields of a bank, while one of its operands is
+    /// evaluated.
     Declaration(DeclarationPart),
     /// A Match with so many levels below it, while one of its operands is evaluated.
     Match(u8, Boxed<MatchPart>),

@@ -10,6 +10,9 @@ mod accesses;
 mod activation;
 mod addresses;
 mod asking;
+mod bank_access;
+mod bank_fields;
+mod banked;
 mod boxed;
 mod bridges;
 mod calls;
@@ -48,6 +51,7 @@ mod wide;
 
 pub use activation::{Activation, MethodPath, Position};
 pub use addresses::{AddressPart, PciAccess, RegionAccess};
+pub use banked::{BankReads, BankWrites, BankedField, BanksLeft, Selector};
 pub use calls::begin_call;
 pub use data::begin_data;
 pub use declarations::begin_declaration;

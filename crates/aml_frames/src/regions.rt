@@ -14,6 +14,7 @@ ghost use Rattle.aml_frames.specs.Follow.{place_of, resumed, ends, next_ends, Le
 ghost use Rattle.aml_frames.specs.Weights.{next_weight};
 
 use crate::activation::{Activation, Position};
+use crate::bank_fields::declare_bank_fields;
 use crate::declarations::{declare_at, done};
 use crate::field_lists::{declare_fields, declare_index_fields};
 use crate::frames::{DeclarationPart, Frame, Next};
@@ -146,6 +147,9 @@ fn declare_part<S: Space>(
         }
         DeclarationPart::BitsCount(source, index) => {
             declare_bits_field(alloc, run, act, (source, index), value)
+        }
+        DeclarationPart::BankValue(levels, outer, region, bank) => {
+            declare_bank_fields(alloc, run, act, (levels, outer), (region, bank), value)
         }
     }
 }

@@ -62,6 +62,7 @@ use Rattle.aml_meaning.specs.declared.term_kind.Conversion.{Conversion}
 use Rattle.aml_meaning.specs.declared.term_kind.EventChange.{EventChange}
 use Rattle.aml_meaning.specs.declared.searches.Search.{Search}
 use Rattle.aml_meaning.specs.MatchTerms.{held_meets, if_held, element_meets, found_or, none_matches, searched_last, match_rule}
+use Rattle.aml_meaning.specs.BankFields.{banked_laid, bank_list_rule}
 use Rattle.aml_meaning.specs.WideTerms.{formed_at, convert_rule, to_string_rule, middle_rule, event_rule, wait_rule, wide_rule}
 use Rattle.aml_meaning.specs.Evaluation.{kind_rule, code_rule, rule}
 
@@ -598,6 +599,12 @@ module _ {S : Type 0} {n : ℕ} (accesses : Accesses S) (ev ew : Task → Run S 
   unfolding wait_rule
   agree_wait scope depth t = agree_bind _ _ _ _ (agree_target scope depth t 0) (λ p. agree_bind _ _ _ _ (agree_lift _) (λ e. agree_bind _ _ _ _ (agree_value_at scope depth t 1) (λ v. agree_bind _ _ _ _ (agree_lift _) (λ r. agree_give _))))
 
+  agree_bank_list : (scope : List Seg) (depth : ℕ) (t : Tree) → Agree n (bank_list_rule ev scope depth t) (bank_list_rule ew scope depth t)
+  unfolding bank_list_rule banked_laid fields_laid
+  agree_bank_list scope depth t =
+      agree_bind _ _ _ _ (agree_settle _) (λ x. agree_bind _ _ _ _ (agree_lift _) (λ region. agree_bind _ _ _ _ (agree_settle _) (λ y. agree_bind _ _ _ _ (agree_lift _) (λ bank. agree_bind _ _ _ _ (agree_value_at scope depth t 2) (λ v.
+      agree_bind _ _ _ _ (agree_settle _) (λ flags. agree_bind _ _ _ _ (agree_settle _) (λ ts. agree_bind _ _ _ _ (agree_lift _) (λ k. agree_bind _ _ _ _ (agree_lift _) (λ laid. agree_give _)))))))))
+
   agree_wide : (k : WideKind) (scope : List Seg) (depth : ℕ) (t : Tree) → Agree n (wide_rule accesses ev k scope depth t) (wide_rule accesses ew k scope depth t)
   agree_wide (wides.Convert k) scope depth t = agree_convert k scope depth t
   agree_wide wides.ToString scope depth t = agree_to_string scope depth t
@@ -605,6 +612,7 @@ module _ {S : Type 0} {n : ℕ} (accesses : Accesses S) (ev ew : Task → Run S 
   agree_wide wides.Match scope depth t = agree_match scope depth t
   agree_wide (wides.Event k) scope depth t = agree_event k scope depth t
   agree_wide wides.Wait scope depth t = agree_wait scope depth t
+  agree_wide wides.BankField scope depth t = agree_bank_list scope depth t
 
   -- ---- which rule
 

@@ -1,0 +1,109 @@
+//! BankField (ACPI 6.5, 19.6 and 20.2.5.2): fields in the bank of an operation region that a value of a bank field
+//! selects. The operands stand next.
+ghost use Rattle.std.specs.Prelude.{◌≡◌, ◌≤◌, ◌<◌, IfOk};
+ghost use Rattle.ar_space.specs.Change.{Does};
+ghost use Rattle.aml_grammar.specs.Shape.{trees_of};
+ghost use Rattle.aml_marked.specs.Marked.{a_name, an_integer, fields_left, over};
+ghost use Rattle.aml_meaning.specs.BankFields.{banked_laid};
+ghost use Rattle.aml_meaning.specs.FieldTerms.{region_found, field_found};
+ghost use Rattle.aml_meaning.specs.Meaning.{meaning};
+ghost use Rattle.aml_meaning.specs.Run.{lift};
+ghost use Rattle.aml_meaning.specs.declared.term_kind.WideKind.TheVariants as wides;
+ghost use Rattle.aml_frames.specs.Places.{at_place, terms};
+ghost use Rattle.aml_frames.specs.RegionTerms.{behind_name};
+ghost use Rattle.aml_frames.specs.Operands.{outside_at};
+ghost use Rattle.aml_frames.specs.Follow.{at_position, wide_run, Leads, EndsAt};
+ghost use Rattle.aml_frames.specs.Weights.{next_weight};
+
+use crate::activation::{Activation, Position};
+use crate::field_lists::lay_fields;
+use crate::frames::{DeclarationPart, Frame, Next};
+use crate::tracing::told;
+use crate::values::integer_of;
+use aml_meaning::Running;
+use aml_objects::{Bank, FieldSource, Value};
+use ar_space::{Refusal, Space};
+use std::alloc::Global;
+
+/// BankField: its region and its bank field are found, and the value that selects the bank is evaluated.
+#[tactic(auto, using(crate::proofs::BankSteps::beginning_banks))]
+pub(crate) fn begin_bank_fields<S: Space>(
+    alloc: Global,
+    run: &mut Running<S>,
+    act: &mut Activation,
+    levels: u8,
+) -> Result<Next, Refusal>
+    ensures spent { run.new.1 ≤ run.old.1 }
+    ensures falls { IfOk result (λ n. next_weight n < 6) }
+    ensures means { Leads S.accesses (meaning S.accesses) result act.new run.new
+        (wide_run S.accesses (meaning S.accesses) wides.BankField act.old levels) run.old }
+    ensures ends { EndsAt result act.new (at_place act.old (outside_at act.old.place)) }
+{
+    let outer = act.open();
+    let region = take_region(alloc, run, act)?;
+    let bank = take_bank(alloc, run, act)?;
+    let part = DeclarationPart::BankValue(levels, outer, region, bank);
+    Ok(Next::Term(levels, Frame::Declaration(part)))
+}
+
+/// The number of the declaration of the operation region whose name stands next.
+#[tactic(auto, using(aml_meaning::proofs::Runs::running), unfolding(aml_marked::specs::Marked::a_name))]
+fn take_region<S: Space>(
+    alloc: Global,
+    run: &mut Running<S>,
+    act: &mut Activation,
+) -> Result<u64, Refusal>
+    ensures change { Does result run.new (lift (region_found act.old.scope (a_name act.old.place).0)) run.old }
+    ensures behind { IfOk result (λ n. act.new ≡ behind_name act.old) }
+{
+    let name = act.name(alloc)?;
+    let found = run.world.region_found(act.scope(), &name);
+    let region = told(alloc, &mut run.world, act, &name, found)?;
+    act.over_name();
+    Ok(region)
+}
+
+/// The number of the declaration of the bank field whose name stands next.
+#[tactic(auto, using(aml_meaning::proofs::Runs::running), unfolding(aml_marked::specs::Marked::a_name))]
+fn take_bank<S: Space>(
+    alloc: Global,
+    run: &mut Running<S>,
+    act: &mut Activation,
+) -> Result<u64, Refusal>
+    ensures change { Does result run.new (lift (field_found act.old.scope (a_name act.old.place).0)) run.old }
+    ensures behind { IfOk result (λ n. act.new ≡ behind_name act.old) }
+{
+    let name = act.name(alloc)?;
+    let found = run.world.field_found(act.scope(), &name);
+    let bank = told(alloc, &mut run.world, act, &name, found)?;
+    act.over_name();
+    Ok(bank)
+}
+
+/// BankField whose value was evaluated: its flags and its fields stand next, and evaluation goes on behind them.
+#[tactic(auto, using(crate::proofs::BankSteps::declaring_banks), unfolding(aml_meaning::specs::BankFields::banked_laid))]
+pub(crate) fn declare_bank_fields<S: Space>(
+    alloc: Global,
+    run: &mut Running<S>,
+    act: &mut Activation,
+    list: (u8, Position),
+    lies_in: (u64, u64),
+    value: Value,
+) -> Result<Next, Refusal>
+    ensures spent { run.new.1 ≤ run.old.1 }
+    ensures falls { IfOk result (λ n. next_weight n < 6) }
+    ensures means { Leads S.accesses (meaning S.accesses) result act.new run.new
+        (banked_laid act.old.scope act.old.depth lies_in.0 lies_in.1 value (an_integer 1 act.old.place).0
+        (trees_of (fields_left (terms act.old list.0) (over 1 act.old.place)).0)) run.old }
+    ensures ends { EndsAt result act.new (at_position act.old list.1) }
+{
+    let (levels, outer) = list;
+    let (region, field) = lies_in;
+    let value = integer_of(&run.world, value)?;
+    let flags = u64::from(act.first());
+    act.over(1);
+    let source = FieldSource::Bank(region, Bank { field, value });
+    let flow = lay_fields(alloc, run, act, source, flags, act.field_list(levels))?;
+    act.go_to(outer);
+    Ok(Next::Flow(flow))
+}
