@@ -18,6 +18,9 @@ pub mod DeclaringFields
 pub mod Forming
 pub mod Addressing
 pub mod Bridging
+pub mod BankUnits
+pub mod BankSteps
+pub mod BankTerms
 pub mod Indexing
 pub mod Knowing
 pub mod Matching

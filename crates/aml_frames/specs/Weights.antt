@@ -138,7 +138,7 @@ abbrev pub banked_weight : ℕ → Option Selector → FieldUnit → ℕ
 banked_weight calls None f = 0
 banked_weight calls (Some bank) f = units_weight calls (units_of f.bit_offset f.bits f.access)
 
-abbrev pub behind_weight : RegionAccess → ℕ
+unfoldable pub behind_weight : RegionAccess → ℕ
 behind_weight a = banked_weight a.calls a.bank a.field.unit
 
 -- ---- Match: each element of a package may be the name of a field, which is read

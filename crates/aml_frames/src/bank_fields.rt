@@ -2,15 +2,13 @@
 //! selects. The operands stand next.
 ghost use Rattle.std.specs.Prelude.{◌≡◌, ◌≤◌, ◌<◌, IfOk};
 ghost use Rattle.ar_space.specs.Change.{Does};
-ghost use Rattle.aml_grammar.specs.Shape.{trees_of};
-ghost use Rattle.aml_marked.specs.Marked.{a_name, an_integer, fields_left, over};
-ghost use Rattle.aml_meaning.specs.BankFields.{banked_laid};
+ghost use Rattle.aml_marked.specs.Marked.{a_name};
 ghost use Rattle.aml_meaning.specs.FieldTerms.{region_found, field_found};
 ghost use Rattle.aml_meaning.specs.Meaning.{meaning};
 ghost use Rattle.aml_meaning.specs.Run.{lift};
 ghost use Rattle.aml_meaning.specs.declared.term_kind.WideKind.TheVariants as wides;
-ghost use Rattle.aml_frames.specs.Places.{at_place, terms};
-ghost use Rattle.aml_frames.specs.RegionTerms.{behind_name};
+ghost use Rattle.aml_frames.specs.Places.{at_place};
+ghost use Rattle.aml_frames.specs.RegionTerms.{behind_name, bank_declared, bank_names_run};
 ghost use Rattle.aml_frames.specs.Operands.{outside_at};
 ghost use Rattle.aml_frames.specs.Follow.{at_position, wide_run, Leads, EndsAt};
 ghost use Rattle.aml_frames.specs.Weights.{next_weight};
@@ -25,8 +23,8 @@ use aml_objects::{Bank, FieldSource, Value};
 use ar_space::{Refusal, Space};
 use std::alloc::Global;
 
-/// BankField: its region and its bank field are found, and the value that selects the bank is evaluated.
-#[tactic(auto, using(crate::proofs::BankSteps::beginning_banks))]
+/// BankField: its package is opened.
+#[tactic(auto, using(crate::proofs::BankTerms::beginning_banks))]
 pub(crate) fn begin_bank_fields<S: Space>(
     alloc: Global,
     run: &mut Running<S>,
@@ -40,6 +38,24 @@ pub(crate) fn begin_bank_fields<S: Space>(
     ensures ends { EndsAt result act.new (at_place act.old (outside_at act.old.place)) }
 {
     let outer = act.open();
+    begin_bank_names(alloc, run, act, levels, outer)
+}
+
+/// The region and the bank field are found whose names stand next, and the value that selects the bank is evaluated.
+#[tactic(auto, using(crate::proofs::BankTerms::naming_banks))]
+fn begin_bank_names<S: Space>(
+    alloc: Global,
+    run: &mut Running<S>,
+    act: &mut Activation,
+    levels: u8,
+    outer: Position,
+) -> Result<Next, Refusal>
+    ensures spent { run.new.1 ≤ run.old.1 }
+    ensures falls { IfOk result (λ n. next_weight n < 6) }
+    ensures means { Leads S.accesses (meaning S.accesses) result act.new run.new
+        (bank_names_run (meaning S.accesses) levels act.old) run.old }
+    ensures ends { EndsAt result act.new (at_position act.old outer) }
+{
     let region = take_region(alloc, run, act)?;
     let bank = take_bank(alloc, run, act)?;
     let part = DeclarationPart::BankValue(levels, outer, region, bank);
@@ -81,7 +97,7 @@ fn take_bank<S: Space>(
 }
 
 /// BankField whose value was evaluated: its flags and its fields stand next, and evaluation goes on behind them.
-#[tactic(auto, using(crate::proofs::BankSteps::declaring_banks), unfolding(aml_meaning::specs::BankFields::banked_laid))]
+#[tactic(auto, using(crate::proofs::BankTerms::declaring_banks), unfolding(aml_meaning::specs::BankFields::banked_laid))]
 pub(crate) fn declare_bank_fields<S: Space>(
     alloc: Global,
     run: &mut Running<S>,
@@ -93,8 +109,7 @@ pub(crate) fn declare_bank_fields<S: Space>(
     ensures spent { run.new.1 ≤ run.old.1 }
     ensures falls { IfOk result (λ n. next_weight n < 6) }
     ensures means { Leads S.accesses (meaning S.accesses) result act.new run.new
-        (banked_laid act.old.scope act.old.depth lies_in.0 lies_in.1 value (an_integer 1 act.old.place).0
-        (trees_of (fields_left (terms act.old list.0) (over 1 act.old.place)).0)) run.old }
+        (bank_declared list.0 lies_in.0 lies_in.1 value act.old) run.old }
     ensures ends { EndsAt result act.new (at_position act.old list.1) }
 {
     let (levels, outer) = list;

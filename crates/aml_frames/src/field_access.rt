@@ -117,7 +117,7 @@ fn access_buffer<S: Space>(
 }
 
 /// An access of a field of a region: the region is looked up, and its address is asked for where it is in PCI_Config.
-#[tactic(auto, using(crate::proofs::Addressing::regions))]
+#[tactic(auto, using(crate::proofs::Addressing::regions), unfolding(crate::specs::Weights::behind_weight))]
 pub fn begin_region<S: Space>(
     alloc: Global,
     run: &mut Running<S>,

@@ -1,0 +1,49 @@
+-- BankField: how it begins, and what its rule comes to.
+use Rattle.std.specs.Prelude.{◌≡◌, ◌<◌, ℕ, Ok, Err, IfOk, refl}
+use Rattle.std.proofs.Common.{◌∙◌, ap, sym, arith}
+use Rattle.ar_space.specs.Accesses.{Accesses}
+use Rattle.ar_space.specs.Outcome.{Outcome}
+use Rattle.ar_space.specs.Change.{settle, go_on, ◌>>=◌}
+use Rattle.aml_meaning.specs.declared.term_kind.WideKind.TheVariants as wides
+use Rattle.aml_meaning.specs.State.{State}
+use Rattle.aml_meaning.specs.Meaning.{meaning}
+use Rattle.aml_meaning.specs.Tasks.{value_at}
+use Rattle.aml_meaning.specs.BankFields.{bank_list_rule}
+use Rattle.aml_frames.specs.declared.activation.Position.{Position}
+use Rattle.aml_frames.specs.declared.frames.DeclarationPart.TheVariants as parts
+use Rattle.aml_frames.specs.declared.frames.Frame.TheVariants as frames
+use Rattle.aml_frames.specs.declared.frames.Next.{Next}
+use Rattle.aml_frames.specs.declared.frames.Next.TheVariants as next
+use Rattle.aml_frames.specs.Places.{Site, at_place}
+use Rattle.aml_frames.specs.Operands.{inside_at, outside_at}
+use Rattle.aml_frames.specs.RegionTerms.{bank_names_run, bank_value_run, bank_declared}
+use Rattle.aml_frames.specs.Weights.{next_weight, step_weight}
+use Rattle.aml_frames.specs.Follow.{place_of, at_position, wide_run, Leads, EndsAt}
+use Rattle.aml_frames.proofs.Forming.{count_is}
+use Rattle.aml_frames.proofs.Stepping.{leads_value, stepping}
+use Rattle.aml_frames.proofs.Weighing.{step_enough}
+
+-- it asks for less than the step that it pays
+pub falls_few : (r : Outcome Next) → IfOk r (λ n. next_weight n < 6) → IfOk r (λ n. next_weight n < step_weight)
+falls_few (Ok n) h = let p = step_enough in omega (arith, p, h)
+falls_few (Err e) h = tt
+
+-- where evaluation goes on behind the package
+pub ends_bank : (r : Outcome Next) (e c d : Site) (o : Position) → d ≡ at_place c (inside_at c.place) → place_of c o ≡ outside_at c.place → EndsAt r e (at_position d o) → EndsAt r e (at_place c (outside_at c.place))
+ends_bank (Ok n) e c d o h i l = l ∙ ap (λ (x : Site). at_position x o) h ∙ ap (at_place c) i
+ends_bank (Err x) e c d o h i l = tt
+
+module _ {S : Type 0} {ac : Accesses S} where
+  pub leads_bank_list : {r : Outcome Next} {e : Site} {s s1 : State S × ℕ} (c d : Site) (levels : ℕ) → d ≡ at_place c (inside_at c.place) → Leads ac (meaning ac) r e s1 (bank_names_run (meaning ac) levels d) s → Leads ac (meaning ac) r e s1 (wide_run ac (meaning ac) wides.BankField c levels) s
+  unfolding bank_list_rule bank_names_run value_at settle ◌>>=◌ go_on
+  leads_bank_list c d levels h l = rw h at l
+
+  -- the value that selects the bank
+  pub leads_bank_value : {c : Site} {s : State S × ℕ} (levels region bank : ℕ) (o : Position) → Leads ac (meaning ac) (Ok (next.Term levels (frames.Declaration (parts.BankValue levels o region bank)))) c s (bank_value_run (meaning ac) levels region bank c) s
+  leads_bank_value {c = c} levels region bank o = leads_value levels (frames.Declaration (parts.BankValue levels o region bank)) (λ v. bank_declared levels region bank v (at_place c _)) refl
+
+pub ruleset beginning_banks = (stepping, leads_bank_list, ends_bank)
+
+pub ruleset naming_banks = (stepping, leads_bank_value)
+
+pub ruleset declaring_banks = (stepping, count_is)
