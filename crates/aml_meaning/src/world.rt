@@ -4,6 +4,7 @@ ghost use Rattle.ar_space.specs.declared.refusal.Refusal.TheVariants.{OutOfMemor
 ghost use Rattle.aml_meaning.specs.Predefined.{fresh, fresh_as, predefined};
 ghost use Rattle.aml_meaning.specs.Validity.{is_valid_value};
 
+use crate::passed_over::PassedOver;
 use crate::profile::Profile;
 use crate::running::Running;
 use crate::trace::Trace;
@@ -80,9 +81,10 @@ impl<S> World<S> {
         self.running.world.into_space()
     }
 
-    /// The register space, given back, and where the evaluation that was last begun was refused.
-    pub fn into_parts(self) -> (S, Trace)
-        ensures { result.0 ≡ self.space }
+    /// The register space, given back, where the evaluation that was last begun was refused, and what was passed over.
+    pub fn into_parts(self) -> (S, Trace, PassedOver)
+        ensures space { result.0 ≡ self.space }
+        ensures passed { result.2 ≡ self.passed }
     {
         self.running.world.into_parts()
     }
@@ -118,6 +120,13 @@ impl<S> World<S> {
         ensures { result ≡ self.now.profile }
     {
         self.running.world.profile()
+    }
+
+    /// The refusals that were passed over in loading and in initializing; none in the core profile.
+    pub fn passed_over(&self) -> &PassedOver
+        ensures { result.now ≡ self.now.passed }
+    {
+        self.running.world.passed_over()
     }
 
     /// The register space.
