@@ -44,7 +44,7 @@ impl Model for PassedOver {
 
 impl PassedOver {
     /// Nothing is passed over. It takes no memory.
-    pub(crate) fn new(alloc: Global) -> PassedOver
+    pub fn new(alloc: Global) -> PassedOver
         ensures { result ≡ nothing_passed }
     {
         PassedOver {

@@ -1,6 +1,8 @@
 //! A world, as callers have it (ACPI 6.5, 5.3 and 5.5).
 ghost use Rattle.std.specs.Prelude.{◌≡◌, ◌≢◌, Ok, Err, IfOk, IfErr};
 ghost use Rattle.ar_space.specs.declared.refusal.Refusal.TheVariants.{OutOfMemory};
+ghost use Rattle.ar_space.specs.Change.{Does};
+ghost use Rattle.aml_meaning.specs.Passing.{passed_over};
 ghost use Rattle.aml_meaning.specs.Predefined.{fresh, fresh_as, predefined};
 ghost use Rattle.aml_meaning.specs.Validity.{is_valid_value};
 
@@ -11,6 +13,7 @@ use crate::trace::Trace;
 use crate::world_state::WorldState;
 use aml_namespace::Names;
 use aml_objects::{Octets, Value};
+use aml_path::Path;
 use ar_space::{IntegerWidth, Refusal};
 use std::alloc::Global;
 use std::marker::Model;
@@ -106,6 +109,18 @@ impl<S> World<S> {
         ensures { result.now ≡ self.now.names }
     {
         self.running.world.names()
+    }
+
+    /// Passes over a refusal, as `WorldState::pass_over` does.
+    pub fn pass_over(
+        &mut self,
+        alloc: Global,
+        scope: &Path,
+        refusal: Refusal,
+    ) -> Result<(), Refusal>
+        ensures { Does result self.new (passed_over scope.now refusal) self.old }
+    {
+        self.running.world.pass_over(alloc, scope, refusal)
     }
 
     /// How wide integers are.
