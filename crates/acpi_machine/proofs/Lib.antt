@@ -1,5 +1,6 @@
 pub mod Loaded
 pub mod Noticed
+pub mod Passing
 pub mod Spaces
 pub mod Stopping
 pub mod Walked

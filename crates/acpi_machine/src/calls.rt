@@ -13,7 +13,7 @@ ghost use Rattle.acpi_machine.specs.FixedPaths.{at_root, below_root};
 ghost use Rattle.acpi_machine.specs.Noticing.{noticed, ran_out};
 ghost use Rattle.acpi_machine.specs.Stops.{Made};
 ghost use Rattle.acpi_machine.specs.Calls.{object_answered, evaluated_object, object_called, called_where_it_stands};
-ghost use Rattle.acpi_machine.specs.Calls.{initial_calls, started, initialized, texts_kept, few_texts_kept, osi_set};
+ghost use Rattle.acpi_machine.specs.Calls.{refused_call, call_passing, initial_calls, started, initialized, texts_kept, few_texts_kept, osi_set};
 
 use crate::loading::few_texts;
 use crate::machine::Machine;
@@ -31,8 +31,8 @@ const SPENT: Refusal = Refusal::Machine(MachineFault::Spent);
 impl<S: Space> Machine<S> {
     /// Tells the firmware the mode, and initializes it: calls `\_INI`, `\_SB_._INI` (ACPI 6.5, 6.5.1), and `\_PIC`
     /// (5.8.1) with 0 for `Pic` or 1 for `Apic`, each where its name stands, each within the machine's steps. What
-    /// they answer is dropped; the first that is refused ends it. The mode is kept, however that ends, unless memory
-    /// runs out.
+    /// they answer is dropped; the first that is refused ends it. In the wide profile such a refusal as loading goes on
+    /// behind is passed over, and the next call follows. The mode is kept, however that ends, unless memory runs out.
     ///
     /// `Spent` where an earlier call ran out of memory; then nothing changes.
     ///
@@ -182,9 +182,43 @@ impl<S: Space> Machine<S> {
             (map given_of arguments.items)) self.old }
     {
         if self.stands(path) {
-            self.call(alloc, path, arguments)
+            self.call_passing(alloc, path, arguments)
         } else {
             Ok(())
+        }
+    }
+
+    /// Calls what stands at a path. A refusal may be passed over in the wide profile.
+    #[tactic(auto, using(crate::proofs::Passing::passing))]
+    fn call_passing(
+        &mut self,
+        alloc: Global,
+        path: &Path,
+        arguments: Vec<Datum>,
+    ) -> Result<(), Refusal>
+        ensures { Does result self.new (call_passing path.now (object_called S.accesses path.now
+            (map given_of arguments.items))) self.old }
+    {
+        match self.call(alloc, path, arguments) {
+            Ok(()) => Ok(()),
+            Err(refusal) => self.pass_call_over(alloc, path, refusal),
+        }
+    }
+
+    /// A call at a path was refused: the wide profile may pass it over.
+    #[tactic(auto, using(crate::proofs::Passing::passing))]
+    fn pass_call_over(
+        &mut self,
+        alloc: Global,
+        path: &Path,
+        refusal: Refusal,
+    ) -> Result<(), Refusal>
+        ensures { Does result self.new (refused_call path.now refusal) self.old }
+    {
+        if self.profile().is_wide() {
+            self.world.pass_over(alloc, path, refusal)
+        } else {
+            Err(refusal)
         }
     }
 

@@ -62,7 +62,7 @@ pub record IsRunOf (s : CallSettings) (accesses : List CallAccess) (run : Settin
 pub record IsToldReply (outcome : Outcome Written) (reply : Reply) : Type 0 where
   pub told : Outcome Written
   pub is_told : IsToldAs outcome told
-  pub is : reply ≡ reply_of told
+  pub is : reply ≡ reply_of [] told
 
 -- what came of the run is written, unless memory runs out for its text, and a refusal handed on
 abbrev pub IsOutcomeOf : {A : Type 0} → (A → Written) → Ending A → Outcome Written → Type 0

@@ -11,3 +11,4 @@ pub mod WhyCommand
 pub mod Commands
 pub mod Runs
 pub mod Causes
+pub mod Passed

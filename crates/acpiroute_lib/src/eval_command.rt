@@ -1,6 +1,8 @@
 //! `eval`: loads and initializes a machine, evaluates an object, and writes its value.
-ghost use Rattle.std.specs.Prelude.{◌≡◌, IfOk, Ok, map};
-ghost use Rattle.ar_space.specs.Outcome.{Answers, seen};
+ghost use Rattle.std.specs.Prelude.{◌≡◌, ◌++◌, IfOk, Ok, map};
+ghost use Rattle.ar_space.specs.Outcome.{Answers, NotMemory, seen};
+ghost use Rattle.acpiroute_words.specs.PassedLines.{passed_lines};
+ghost use Rattle.acpiroute_lib.specs.Passed.{run_passed};
 ghost use Rattle.aml_meaning.specs.Given as given;
 ghost use Rattle.acpiroute_lib.specs.EvalCommand.{given_argument, value_at, value_written, evaluated_text, eval_answer};
 
@@ -92,13 +94,16 @@ pub(crate) fn eval_answer(
     alloc: Global,
     mode: Mode,
     evaluation: Evaluation,
-    path: &PathText,
-    arguments: &Arguments,
+    called: (&PathText, &Arguments),
     text: Vec<u8>,
+    told: &mut Vec<u8>,
 ) -> Result<Answer, Refusal>
-    ensures { Answers result (eval_answer mode evaluation path.now arguments.now text.items) }
+    ensures answer { Answers result (eval_answer mode evaluation called.0.now called.1.now text.items) }
+    ensures told { NotMemory result → told.new.items ≡ told.old.items ++
+        passed_lines (run_passed mode evaluation text.items) }
 {
-    let mut machine = machine_of_text_in(alloc, mode, evaluation, text)?;
+    let mut machine = machine_of_text_in(alloc, mode, evaluation, text, told)?;
+    let (path, arguments) = called;
     let value = evaluated_text(alloc, &mut machine, path.as_str(), arguments.as_slice());
     // (by a call: what a scope drops at its end is dropped part by part, and long to prove)
     drop(machine);

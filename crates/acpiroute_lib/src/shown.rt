@@ -30,7 +30,8 @@ fn watched_machine(alloc: Global, asking: &Asking, machine: Machine<LastAccess<S
 {
     let mut machine = machine;
     let end = machine_end(alloc, asking, &mut machine);
-    let (space, trace) = machine.into_parts();
+    let (space, trace, passed) = machine.into_parts();
+    drop(passed);
     let last = space.last();
     // (by a call: what a scope drops at its end is dropped part by part, and long to prove)
     drop(space);
@@ -56,11 +57,14 @@ fn watched_tables(
         osi,
     ) {
         Ok(machine) => watched_machine(alloc, asking, machine),
-        Err((refusal, space, trace)) => (
-            RunEnd::Refused(Some(Phase::Loading), refusal),
-            space.last(),
-            trace,
-        ),
+        Err((refusal, space, trace, passed)) => {
+            drop(passed);
+            (
+                RunEnd::Refused(Some(Phase::Loading), refusal),
+                space.last(),
+                trace,
+            )
+        }
     }
 }
 

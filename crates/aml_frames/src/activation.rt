@@ -141,6 +141,26 @@ impl Activation {
         }
     }
 
+    /// Another share of the same list, at the same byte. It takes no memory, and is refused as `OutOfMemory` where no more
+    /// shares can be counted.
+    #[tactic(auto, using(ar_space::specs::Outcome::answering))]
+    pub(crate) fn share(&self) -> Result<Activation, Refusal>
+        ensures { Answers result (Ok self.now) }
+    {
+        let bytes = self.bytes.share()?;
+        let marks = self.marks.share()?;
+        let scope = self.scope.share()?;
+        Ok(Activation {
+            bytes,
+            marks,
+            scope,
+            node: self.node,
+            depth: self.depth,
+            position: self.position,
+            start: self.start,
+        })
+    }
+
     /// An item of a list begins here: it is told where evaluation is refused.
     #[inline(always)]
     pub(crate) fn begin_item(&mut self)

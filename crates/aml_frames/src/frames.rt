@@ -228,11 +228,22 @@ pub enum Next {
     FlowThen(Flow, Frame),
 }
 
+/// An item of a list that may be passed over, while it is evaluated.
+#[derive(Drop)]
+pub struct ListItem {
+    /// The list, which stands at the item.
+    pub list: Activation,
+    /// The items behind it.
+    pub behind: Items,
+}
+
 /// What stands on the stack.
 #[derive(Drop)]
 pub enum Entry {
     /// A term that is half done.
     Frame(Frame),
+    /// An item of a list at module level, which the wide profile passes over where it is refused.
+    Item(Boxed<ListItem>),
     /// A call of a control method: what goes on behind it, and the path of the control method.
     Leave(Activation, MethodPath),
 }

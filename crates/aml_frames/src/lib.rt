@@ -30,6 +30,7 @@ mod names;
 mod operands;
 mod operators;
 mod packages;
+mod passing;
 mod pci;
 mod references;
 mod regions;
@@ -58,7 +59,8 @@ pub use declarations::begin_declaration;
 pub use evaluation::{ask_integer, call_method, evaluate_list};
 pub use field_access::begin_region;
 pub use frames::{
-    Call, Callee, Control, DeclarationPart, Entry, Frame, Items, Loop, MatchPart, Next, Package,
+    Call, Callee, Control, DeclarationPart, Entry, Frame, Items, ListItem, Loop, MatchPart, Next,
+    Package,
 };
 pub use indexed::{
     IndexedField, UnitReads, UnitWrites, UnitsLeft, is_kept, merge_unit, put_unit, zeros,

@@ -55,6 +55,7 @@ use Rattle.aml_meaning.specs.Invocations.{leaving, invoked, method_value}
 use Rattle.aml_meaning.specs.InvocationTerms.{arguments_in_turn, call_rule, osi_rule, field_rule, invocation_rule, name_value}
 use Rattle.aml_meaning.specs.FieldCalls.{asked, method_integer, answer_over, answer_within, field_read, held_value, held_integer, referent_read, completed, stored_to, is_element, back_to, stored_back}
 use Rattle.aml_meaning.specs.FieldTerms.{fields_laid, region_rule, field_list_rule, index_list_rule, sized_field_rule, bits_field_rule, region_term_rule}
+use Rattle.aml_meaning.proofs.AgreeItems.{agree_item}
 use Rattle.aml_meaning.proofs.AgreeFields.{agree_field_value, agree_field_integer, agree_field_part, agree_field_referent, agree_field_stored}
 use Rattle.aml_meaning.specs.declared.term_kind.WideKind.{WideKind}
 use Rattle.aml_meaning.specs.declared.term_kind.WideKind.TheVariants as wides
@@ -78,7 +79,7 @@ module _ {S : Type 0} {n : ℕ} (accesses : Accesses S) (ev ew : Task → Run S 
   agree_turn : (scope : List Seg) (depth : ℕ) (ts : Trees) → Agree n (in_turn ev scope depth ts) (in_turn ew scope depth ts)
   unfolding in_turn
   agree_turn scope depth no_trees = agree_give _
-  agree_turn scope depth (tree t ts) = agree_bind _ _ _ _ (parts _) (λ f. agree_after (goes_on f) f _ _ (agree_turn scope depth ts))
+  agree_turn scope depth (tree t ts) = agree_bind _ _ _ _ (agree_item ev ew parts scope depth t) (λ f. agree_after (goes_on f) f _ _ (agree_turn scope depth ts))
 
   agree_leaving : (p : List Seg) (m k : Run S Flow) → Agree n m k → Agree n (leaving p m) (leaving p k)
   unfolding leaving
