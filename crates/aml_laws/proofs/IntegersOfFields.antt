@@ -42,7 +42,7 @@ use Rattle.aml_meaning.specs.Run.{Run, lift, charge}
 use Rattle.aml_meaning.specs.PciFunctions.{nearest, behind_asked, pci_function}
 use Rattle.aml_meaning.specs.Bridges.{bridges_above, secondary_bus}
 use Rattle.aml_meaning.specs.Regions.{region_declared, field_declared, integer_of_bits, integer_value, value_of_bits, integer_alone, given_of_bits, integer_referent, referent_of_bits}
-use Rattle.aml_meaning.specs.Fields.{part_in, inherited, bus_behind, bus_behind_all, pci_address, space_at, located, region_bits, region_written, index_unit, index_unit_written, index_bits, index_written, field_unit_bits, field_unit_written, bits_in, written_in, field_value, field_integer, field_part, field_given, field_referent, field_stored}
+use Rattle.aml_meaning.specs.Fields.{part_in, inherited, bus_behind, bus_behind_all, pci_address, space_at, located, region_bits, region_written, index_unit, index_unit_written, index_bits, index_written, field_unit_bits, field_unit_written, bits_in, written_in, field_value, field_integer, field_part, field_given, field_referent, field_stored, bank_selected, bank_unit, bank_unit_written, bank_bits, bank_written}
 use Rattle.aml_laws.specs.Plain.{AreBytes}
 use Rattle.aml_laws.specs.Within.{WithinWidth}
 use Rattle.aml_laws.specs.Handed.{GivenWithin}
@@ -279,15 +279,29 @@ module _ (S : Type 0) (width : IntegerWidth) (accesses : Accesses S) (call : Lis
   unfolding index_unit_written
   index_unit_written_maintains index behind f bytes u = then_maintains _ _ (kept_maintains f u _ (index_unit_maintains index behind f.access u)) (λ old v. then_maintains _ _ (region_written_maintains index _) (λ chosen x. region_written_maintains behind _))
 
+  bank_selected_maintains : (bank : RegionField) (value : ℕ) → Maintains (RunWithin S width) Any (bank_selected accesses call bank value)
+  unfolding bank_selected
+  bank_selected_maintains bank value = then_maintains {Fit = Any} _ _ (settle_maintains _ (λ a e. tt)) (λ held v. region_written_maintains bank _)
+
+  bank_unit_maintains : (bank : RegionField) (value : ℕ) (r : Region) (w : Width) (u : Access) → Maintains (RunWithin S width) Any (bank_unit accesses call bank value r w u)
+  unfolding bank_unit
+  bank_unit_maintains bank value r w u = then_maintains _ _ (bank_selected_maintains bank value) (λ selected v. lift_maintains S width _ (any_on_space_maintains S width _))
+
+  bank_unit_written_maintains : (bank : RegionField) (value : ℕ) (r : Region) (f : FieldUnit) (bytes : List ℕ) (u : Access) → Maintains (RunWithin S width) Any (bank_unit_written accesses call bank value r f bytes u)
+  unfolding bank_unit_written
+  bank_unit_written_maintains bank value r f bytes u = then_maintains _ _ (kept_maintains f u _ (bank_unit_maintains bank value r f.access u)) (λ old v. then_maintains _ _ (bank_selected_maintains bank value) (λ selected x. lift_maintains S width _ (any_on_space_maintains S width _)))
+
   field_unit_bits_maintains : (source : FieldSource) (f : FieldUnit) → FewBits f.bits → Maintains (RunWithin S width) (FieldFits width) (field_unit_bits accesses call source f)
-  unfolding index_bits
+  unfolding index_bits bank_bits
   field_unit_bits_maintains (sources.Region n) f fit = region_bits_maintains _ fit
   field_unit_bits_maintains (sources.Index i d) f fit = then_maintains _ _ (lift_maintains S width _ (field_declared_maintains S width i)) (λ index u. then_maintains _ _ (lift_maintains S width _ (field_declared_maintains S width d)) (λ behind v. bits_read_maintains width _ (index_unit_maintains index behind f.access) f fit))
+  field_unit_bits_maintains (sources.Bank n b) f fit = then_maintains _ _ (lift_maintains S width _ (field_declared_maintains S width b.field)) (λ bank u. then_maintains _ _ (located_maintains n) (λ r v. bits_read_maintains width _ (bank_unit_maintains bank b.value r f.access) f fit))
 
   field_unit_written_maintains : (source : FieldSource) (f : FieldUnit) (bytes : List ℕ) → Maintains (RunWithin S width) Any (field_unit_written accesses call source f bytes)
-  unfolding index_written
+  unfolding index_written bank_written
   field_unit_written_maintains (sources.Region n) f bytes = region_written_maintains _ bytes
   field_unit_written_maintains (sources.Index i d) f bytes = then_maintains _ _ (lift_maintains S width _ (field_declared_maintains S width i)) (λ index u. then_maintains _ _ (lift_maintains S width _ (field_declared_maintains S width d)) (λ behind v. write_units_maintains _ (index_unit_written_maintains index behind f bytes) (units_of f.bit_offset f.bits f.access)))
+  field_unit_written_maintains (sources.Bank n b) f bytes = then_maintains _ _ (lift_maintains S width _ (field_declared_maintains S width b.field)) (λ bank u. then_maintains _ _ (located_maintains n) (λ r v. write_units_maintains _ (bank_unit_written_maintains bank b.value r f bytes) (units_of f.bit_offset f.bits f.access)))
 
   bits_in_maintains : (f : Field) → FewBits (bits_of_field f) → Maintains (RunWithin S width) (FieldFits width) (bits_in accesses call f)
   bits_in_maintains (field.Unit u) fit = field_unit_bits_maintains u.source u fit

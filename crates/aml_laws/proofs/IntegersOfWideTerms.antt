@@ -44,7 +44,8 @@ use Rattle.aml_meaning.specs.Tasks.{Task}
 use Rattle.aml_meaning.specs.TargetTerms.{target_at, targeted}
 use Rattle.aml_meaning.specs.WideOperations.{decoded_in, number_coded, coded_in, decimal_text, new_decimal_string, decimal_string_in, hexadecimal_text, new_hexadecimal_string, hexadecimal_string_in, string_text, string_in, middle_content, middle_in, converted}
 use Rattle.aml_meaning.specs.FormedStores.{is_integer, is_string, is_buffer, formed_over_value, formed_over, formed_in_name, formed_in_declared, formed_through, formed_to}
-use Rattle.aml_meaning.specs.FieldTerms.{has_connection, asked_if, connections_asked}
+use Rattle.aml_meaning.specs.BankFields.{banked_laid, bank_list_rule}
+use Rattle.aml_meaning.specs.FieldTerms.{region_found, field_found, fields_laid, has_connection, asked_if, connections_asked}
 use Rattle.aml_meaning.specs.Profiles.{asked_for}
 use Rattle.aml_meaning.specs.WideTerms.{in_wide, formed_at, convert_rule, to_string_rule, middle_rule, wide_rule}
 use Rattle.aml_laws.specs.Plain.{AreBytes, PlainTree}
@@ -54,10 +55,11 @@ use Rattle.aml_laws.proofs.Invariants.{Maintains, byte_before_bytes, joined_byte
 use Rattle.aml_laws.proofs.IntegersOfContents.{ContentFits, buffer_is_bytes, encode_upper_gives_bytes, flat_map_gives_bytes, integer_bytes_are_bytes, text_is_bytes, then_content_fits}
 use Rattle.aml_laws.proofs.IntegersOfOperators.{seen_integer_within}
 use Rattle.aml_laws.proofs.IntegersOfObjects.{make_string_maintains}
-use Rattle.aml_laws.proofs.IntegersOfWorlds.{WorldWithin, content_in_fits, content_at_own_width, integer_at_own_width, value_at_width, integer_in_maintains, made_of_maintains, on_objects_maintains}
+use Rattle.aml_laws.proofs.IntegersOfWorlds.{WorldWithin, content_in_fits, content_at_own_width, integer_at_own_width, value_at_width, entry_found_maintains, integer_in_maintains, made_of_maintains, on_objects_maintains}
 use Rattle.aml_laws.proofs.IntegersOfTargets.{HoldingFits, StoredFits, holding_of_fits, held_at_maintains, declaration_maintains, copy_into_name_maintains, store_over_value_maintains, store_in_slot_maintains, store_to_maintains}
 use Rattle.aml_laws.proofs.IntegersOfFields.{RunWithin, lift_maintains}
-use Rattle.aml_laws.proofs.IntegersOfOperands.{FlowFits, value_at_maintains, two_values_maintains, completed_maintains}
+use Rattle.aml_laws.proofs.IntegersOfOperands.{FlowFits, value_at_maintains, two_values_maintains, completed_maintains, any_settle_maintains}
+use Rattle.aml_laws.proofs.IntegersOfSizes.{elements_laid_maintains}
 use Rattle.aml_laws.proofs.IntegersOfEvents.{event_rule_maintains, wait_rule_maintains}
 use Rattle.aml_laws.proofs.IntegersOfMatches.{match_rule_maintains}
 
@@ -284,6 +286,13 @@ module _ (S : Type 0) (width : IntegerWidth) (accesses : Accesses S) (ev : Task 
   unfolding formed_at
   formed_at_maintains scope depth t i v h f = then_maintains _ _ (aimed scope depth t i h) (λ q u. then_maintains _ _ (lift_maintains S width _ (formed_to_maintains S width q v f)) (λ s g. then_maintains _ _ (completed_maintains S width accesses ev parts depth s v f) (λ done x. give_maintains _ f)))
 
+  bank_list_rule_maintains : (scope : List Seg) (depth : ℕ) (t : Tree) → PlainTree t → Maintains (RunWithin S width) (FlowFits width) (bank_list_rule ev scope depth t)
+  unfolding bank_list_rule banked_laid fields_laid region_found field_found
+  bank_list_rule_maintains scope depth t h =
+      then_maintains _ _ (any_settle_maintains _) (λ x u. then_maintains _ _ (lift_maintains S width _ (then_maintains _ _ (entry_found_maintains S width scope x) (λ e f. any_settle_maintains _))) (λ region v. then_maintains _ _ (any_settle_maintains _) (λ y a. then_maintains _ _ (lift_maintains S width _ (then_maintains _ _ (entry_found_maintains S width scope y) (λ e f. any_settle_maintains _))) (λ bank b.
+      then_maintains _ _ (value_at_maintains S width accesses ev parts scope depth t 2 h) (λ z f. then_maintains _ _ (any_settle_maintains _) (λ flags c. then_maintains _ _ (any_settle_maintains _) (λ ts d.
+      then_maintains _ _ (lift_maintains S width _ (integer_in_maintains S width z f)) (λ n g. then_maintains _ _ (lift_maintains S width _ (elements_laid_maintains S width _ scope depth _ ts)) (λ laid i. give_maintains _ tt)))))))))
+
   wide_rule_maintains : (k : WideKind) (scope : List Seg) (depth : ℕ) (t : Tree) → PlainTree t → Maintains (RunWithin S width) (FlowFits width) (wide_rule accesses ev k scope depth t)
   unfolding convert_rule to_string_rule middle_rule
   wide_rule_maintains (wides.Convert k) scope depth t h = then_maintains _ _ (value_at_maintains S width accesses ev parts scope depth t 0 h) (λ v f. then_maintains _ _ (lift_maintains S width _ (converted_maintains S width k v f)) (λ r g. formed_at_maintains scope depth t 1 r h g))
@@ -292,6 +301,7 @@ module _ (S : Type 0) (width : IntegerWidth) (accesses : Accesses S) (ev : Task 
   wide_rule_maintains wides.Match scope depth t h = match_rule_maintains S width accesses ev parts scope depth t h
   wide_rule_maintains (wides.Event k) scope depth t h = event_rule_maintains S width accesses ev parts aimed k scope depth t h
   wide_rule_maintains wides.Wait scope depth t h = wait_rule_maintains S width accesses ev parts aimed scope depth t h
+  wide_rule_maintains wides.BankField scope depth t h = bank_list_rule_maintains scope depth t h
 
   -- the profile is asked first
   pub in_wide_maintains : (op : Opcode) (k : WideKind) (scope : List Seg) (depth : ℕ) (t : Tree) → PlainTree t → Maintains (RunWithin S width) (FlowFits width) (in_wide op (wide_rule accesses ev k scope depth t))

@@ -25,14 +25,16 @@ use Rattle.aml_meaning.specs.Tasks.{Task}
 use Rattle.aml_meaning.specs.TargetTerms.{target_at, targeted}
 use Rattle.aml_meaning.specs.WideOperations.{decoded_in, number_coded, coded_in, decimal_text, new_decimal_string, decimal_string_in, hexadecimal_text, new_hexadecimal_string, hexadecimal_string_in, string_text, string_in, middle_content, middle_in, converted}
 use Rattle.aml_meaning.specs.FormedStores.{is_integer, is_string, is_buffer, formed_over_value, formed_over, formed_in_name, formed_in_declared, formed_through, formed_to}
-use Rattle.aml_meaning.specs.FieldTerms.{has_connection, asked_if, connections_asked}
+use Rattle.aml_meaning.specs.BankFields.{banked_laid, bank_list_rule}
+use Rattle.aml_meaning.specs.FieldTerms.{fields_laid, has_connection, asked_if, connections_asked}
 use Rattle.aml_meaning.specs.Profiles.{asked_for}
 use Rattle.aml_meaning.specs.WideTerms.{in_wide, formed_at, convert_rule, to_string_rule, middle_rule, wide_rule}
 use Rattle.aml_laws.proofs.ObjectKinds.{make_string_keeps_kinds}
-use Rattle.aml_laws.proofs.WorldRelations.{WorldRelation, Preserves, RunPreserves, unchanged_preserves, give_preserves, stop_preserves, settle_preserves, then_preserves, on_objects_preserves, lift_preserves, run_give_preserves, run_then_preserves}
+use Rattle.aml_laws.proofs.WorldRelations.{WorldRelation, Preserves, RunPreserves, unchanged_preserves, give_preserves, stop_preserves, settle_preserves, then_preserves, on_objects_preserves, lift_preserves, run_give_preserves, run_then_preserves, run_settle_preserves}
 use Rattle.aml_laws.proofs.ChangesPreserve.{integer_in_preserves, made_of_keeps_kinds}
 use Rattle.aml_laws.proofs.StoreTargetsPreserve.{held_at_preserves, declaration_preserves, copy_into_name_preserves, store_over_value_preserves, store_in_slot_preserves, store_to_preserves}
 use Rattle.aml_laws.proofs.OperandsAndCallsPreserve.{value_at_preserves, two_values_preserves, completed_preserves}
+use Rattle.aml_laws.proofs.FieldsPreserve.{elements_laid_preserves, field_found_preserves, region_found_preserves}
 use Rattle.aml_laws.proofs.MatchesPreserve.{match_rule_preserves}
 use Rattle.aml_laws.proofs.EventsPreserve.{event_rule_preserves, wait_rule_preserves}
 
@@ -169,6 +171,13 @@ module _ {S : Type 0} {accesses : Accesses S} {relation : WorldRelation accesses
   unfolding middle_rule
   middle_rule_preserves scope depth t = run_then_preserves _ _ (two_values_preserves ev parts scope depth t) (λ y. run_then_preserves _ _ (value_at_preserves ev parts scope depth t 2) (λ n. run_then_preserves _ _ (lift_preserves _ (middle_in_preserves y.0 y.1 n)) (λ r. stores scope depth t 3 r)))
 
+  bank_list_rule_preserves : (scope : List Seg) (depth : ℕ) (t : Tree) → RunPreserves relation (bank_list_rule ev scope depth t)
+  unfolding bank_list_rule banked_laid fields_laid
+  bank_list_rule_preserves scope depth t =
+      run_then_preserves _ _ (run_settle_preserves _) (λ x. run_then_preserves _ _ (lift_preserves _ (region_found_preserves scope x)) (λ region. run_then_preserves _ _ (run_settle_preserves _) (λ y. run_then_preserves _ _ (lift_preserves _ (field_found_preserves scope y)) (λ bank.
+      run_then_preserves _ _ (value_at_preserves ev parts scope depth t 2) (λ v. run_then_preserves _ _ (run_settle_preserves _) (λ flags. run_then_preserves _ _ (run_settle_preserves _) (λ ts.
+      run_then_preserves _ _ (lift_preserves _ (integer_in_preserves v)) (λ n. run_then_preserves _ _ (lift_preserves _ (elements_laid_preserves _ scope depth _ ts)) (λ laid. run_give_preserves _)))))))))
+
   wide_rule_preserves : (k : WideKind) (scope : List Seg) (depth : ℕ) (t : Tree) → RunPreserves relation (wide_rule accesses ev k scope depth t)
   wide_rule_preserves (wides.Convert k) scope depth t = convert_rule_preserves k scope depth t
   wide_rule_preserves wides.ToString scope depth t = to_string_rule_preserves scope depth t
@@ -176,6 +185,7 @@ module _ {S : Type 0} {accesses : Accesses S} {relation : WorldRelation accesses
   wide_rule_preserves wides.Match scope depth t = match_rule_preserves ev parts scope depth t
   wide_rule_preserves (wides.Event k) scope depth t = event_rule_preserves ev parts aimed k scope depth t
   wide_rule_preserves wides.Wait scope depth t = wait_rule_preserves ev parts aimed scope depth t
+  wide_rule_preserves wides.BankField scope depth t = bank_list_rule_preserves scope depth t
 
   -- the profile is asked first
   pub in_wide_preserves : (op : Opcode) (k : WideKind) (scope : List Seg) (depth : ℕ) (t : Tree) → RunPreserves relation (in_wide op (wide_rule accesses ev k scope depth t))

@@ -32,7 +32,8 @@ use Rattle.aml_meaning.specs.Tasks.{Task}
 use Rattle.aml_meaning.specs.TargetTerms.{target_at, targeted}
 use Rattle.aml_meaning.specs.WideOperations.{decoded_in, number_coded, coded_in, decimal_text, new_decimal_string, decimal_string_in, hexadecimal_text, new_hexadecimal_string, hexadecimal_string_in, string_text, string_in, middle_content, middle_in, converted}
 use Rattle.aml_meaning.specs.FormedStores.{is_integer, is_string, is_buffer, formed_over_value, formed_over, formed_in_name, formed_in_declared, formed_through, formed_to}
-use Rattle.aml_meaning.specs.FieldTerms.{has_connection, asked_if, connections_asked}
+use Rattle.aml_meaning.specs.BankFields.{banked_laid, bank_list_rule}
+use Rattle.aml_meaning.specs.FieldTerms.{fields_laid, has_connection, asked_if, connections_asked}
 use Rattle.aml_meaning.specs.Profiles.{evaluated_in, asked_for}
 use Rattle.aml_meaning.specs.WideTerms.{in_wide, formed_at, convert_rule, to_string_rule, middle_rule, wide_rule}
 use Rattle.aml_laws.proofs.Together.{Sides, Together, Comes, IsEnded, give_together, plain, settle_together, stop_together, then_together}
@@ -41,6 +42,7 @@ use Rattle.aml_laws.specs.Widened.{LeftOut}
 use Rattle.aml_laws.proofs.ChangesTogether.{integer_in_together}
 use Rattle.aml_laws.proofs.StoreTargetsTogether.{held_at_together, declaration_together, copy_into_name_together, store_over_value_together, store_in_slot_together, store_to_together}
 use Rattle.aml_laws.proofs.OperandsTogether.{value_at_together, two_values_together, completed_together}
+use Rattle.aml_laws.proofs.FieldsTogether.{elements_laid_together, field_found_together, region_found_together}
 use Rattle.aml_laws.proofs.MatchesTogether.{match_rule_together}
 use Rattle.aml_laws.proofs.EventsTogether.{event_rule_together, wait_rule_together}
 
@@ -188,6 +190,13 @@ module _ {S T : Type 0} {accesses : Accesses S} {accesses2 : Accesses T} {side :
   unfolding middle_rule
   middle_rule_together scope depth t = then_together (two_values_together parts scope depth t) (λ y. then_together (value_at_together parts scope depth t 2) (λ n. then_together (lift_together (middle_in_together y.0 y.1 n)) (λ r. stores scope depth t 3 r)))
 
+  bank_list_rule_together : (scope : List Seg) (depth : ℕ) (t : Tree) → Together side runs (bank_list_rule ev scope depth t) (bank_list_rule ev2 scope depth t)
+  unfolding bank_list_rule banked_laid fields_laid
+  bank_list_rule_together scope depth t =
+      then_together (settle_together _) (λ x. then_together (lift_together (region_found_together scope x)) (λ region. then_together (settle_together _) (λ y. then_together (lift_together (field_found_together scope y)) (λ bank.
+      then_together (value_at_together parts scope depth t 2) (λ v. then_together (settle_together _) (λ flags. then_together (settle_together _) (λ ts.
+      then_together (lift_together (integer_in_together v)) (λ n. then_together (lift_together (elements_laid_together _ scope depth _ ts)) (λ laid. give_together _)))))))))
+
   wide_rule_together : (k : WideKind) (scope : List Seg) (depth : ℕ) (t : Tree) → Together side runs (wide_rule accesses ev k scope depth t) (wide_rule accesses2 ev2 k scope depth t)
   wide_rule_together (wides.Convert k) scope depth t = convert_rule_together k scope depth t
   wide_rule_together wides.ToString scope depth t = to_string_rule_together scope depth t
@@ -195,6 +204,7 @@ module _ {S T : Type 0} {accesses : Accesses S} {accesses2 : Accesses T} {side :
   wide_rule_together wides.Match scope depth t = match_rule_together parts scope depth t
   wide_rule_together (wides.Event k) scope depth t = event_rule_together parts aimed k scope depth t
   wide_rule_together wides.Wait scope depth t = wait_rule_together parts aimed scope depth t
+  wide_rule_together wides.BankField scope depth t = bank_list_rule_together scope depth t
 
   -- the profile is asked first
   pub in_wide_together : (op : Opcode) (k : WideKind) (scope : List Seg) (depth : ℕ) (t : Tree) → Together side runs (in_wide op (wide_rule accesses ev k scope depth t)) (in_wide op (wide_rule accesses2 ev2 k scope depth t))
