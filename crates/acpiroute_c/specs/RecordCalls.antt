@@ -1,5 +1,5 @@
 -- Calls over a record: the settings, and how what there is to say stands in the caller's places.
-use Rattle.std.specs.Prelude.{◌≡◌, ◌⊎◌, ℕ, ◌==◌, nat_lt, Bool, true, false, List, All, map, Option, Some, None, Ok, Err, if◌then◌else◌}
+use Rattle.std.specs.Prelude.{◌≡◌, ◌⊎◌, ℕ, ◌==◌, nat_lt, Bool, true, false, List, [], All, map, Option, Some, None, Ok, Err, if◌then◌else◌}
 use Rattle.ar_space.specs.Outcome.{Outcome, Answers}
 use Rattle.ar_tables.specs.declared.mode.Mode.{Mode}
 use Rattle.ar_tables.specs.declared.mode.Mode.TheVariants.{Pic, Apic}

@@ -1,6 +1,7 @@
 pub mod Between
 pub mod Machine
 pub mod OperandShapes
+pub mod PassedItems
 pub mod RuleShapes
 pub mod Stepping
 pub mod Weighing
