@@ -8,7 +8,7 @@ use Rattle.aml_meaning.specs.declared.term_kind.WideKind.TheVariants as wides
 use Rattle.aml_meaning.specs.State.{State}
 use Rattle.aml_meaning.specs.Meaning.{meaning}
 use Rattle.aml_meaning.specs.Tasks.{value_at}
-use Rattle.aml_meaning.specs.BankFields.{bank_list_rule}
+use Rattle.aml_meaning.specs.BankTerms.{bank_list_rule}
 use Rattle.aml_frames.specs.declared.activation.Position.{Position}
 use Rattle.aml_frames.specs.declared.frames.DeclarationPart.TheVariants as parts
 use Rattle.aml_frames.specs.declared.frames.Frame.TheVariants as frames

@@ -37,7 +37,7 @@ use Rattle.aml_meaning.specs.OperatorTerms.{store_rule, copy_rule, two_rule, div
 use Rattle.aml_meaning.specs.StatementTerms.{if_rule, else_rule, while_rule, return_rule, release_rule, notify_rule, pause_rule, fatal_rule, statement_rule}
 use Rattle.aml_meaning.specs.declared.term_kind.WideKind.{WideKind}
 use Rattle.aml_meaning.specs.declared.term_kind.WideKind.TheVariants as wides
-use Rattle.aml_meaning.specs.BankFields.{bank_list_rule}
+use Rattle.aml_meaning.specs.BankTerms.{bank_list_rule}
 use Rattle.aml_meaning.specs.WideTerms.{in_wide, formed_at, convert_rule, to_string_rule, middle_rule, event_rule, wait_rule, wide_rule}
 use Rattle.aml_meaning.specs.MatchTerms.{match_rule}
 use Rattle.aml_meaning.specs.Evaluation.{kind_rule, code_rule}

@@ -18,7 +18,7 @@ use Rattle.aml_meaning.specs.State.{on_objects}
 use Rattle.aml_meaning.specs.Run.{Run, lift}
 use Rattle.aml_meaning.specs.Readings.{integer_in}
 use Rattle.aml_meaning.specs.Tasks.{Task, operand_value}
-use Rattle.aml_meaning.specs.BankFields.{banked_laid}
+use Rattle.aml_meaning.specs.BankTerms.{banked_laid}
 use Rattle.aml_meaning.specs.FieldTerms.{region_found, field_found, region_rule, region_term_rule, sized, buffer_of, bits_of_step, bits_of_size}
 use Rattle.aml_frames.specs.declared.frames.DeclarationPart.{DeclarationPart}
 use Rattle.aml_frames.specs.declared.frames.DeclarationPart.TheVariants as parts

@@ -97,7 +97,7 @@ fn take_bank<S: Space>(
 }
 
 /// BankField whose value was evaluated: its flags and its fields stand next, and evaluation goes on behind them.
-#[tactic(auto, using(crate::proofs::BankTerms::declaring_banks), unfolding(aml_meaning::specs::BankFields::banked_laid))]
+#[tactic(auto, using(crate::proofs::BankTerms::declaring_banks), unfolding(aml_meaning::specs::BankTerms::banked_laid))]
 pub(crate) fn declare_bank_fields<S: Space>(
     alloc: Global,
     run: &mut Running<S>,

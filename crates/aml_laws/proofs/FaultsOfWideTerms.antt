@@ -33,7 +33,7 @@ use Rattle.aml_meaning.specs.Tasks.{Task}
 use Rattle.aml_meaning.specs.TargetTerms.{target_at, targeted}
 use Rattle.aml_meaning.specs.WideOperations.{decoded_in, number_coded, coded_in, decimal_text, new_decimal_string, decimal_string_in, hexadecimal_text, new_hexadecimal_string, hexadecimal_string_in, string_text, string_in, middle_content, middle_in, converted}
 use Rattle.aml_meaning.specs.FormedStores.{is_integer, is_string, is_buffer, formed_over_value, formed_over, formed_in_name, formed_in_declared, formed_through, formed_to}
-use Rattle.aml_meaning.specs.BankFields.{banked_laid, bank_list_rule}
+use Rattle.aml_meaning.specs.BankTerms.{banked_laid, bank_list_rule}
 use Rattle.aml_meaning.specs.FieldTerms.{fields_laid, has_connection, asked_if, connections_asked}
 use Rattle.aml_meaning.specs.Profiles.{asked_for}
 use Rattle.aml_meaning.specs.WideTerms.{in_wide, formed_at, convert_rule, to_string_rule, middle_rule, wide_rule}

@@ -63,6 +63,7 @@ pub mod FrameNumbers
 pub mod HandedBack
 pub mod IndexRegisters
 pub mod IndexedFields
+pub mod BankedFields
 pub mod IntegersInStrings
 pub mod IntegersOfAnswers
 pub mod IntegersOfContents

@@ -1,5 +1,6 @@
 pub mod AllWithin
 pub mod Answered
+pub mod BankRegisters
 pub mod Becomes
 pub mod Calls
 pub mod Copied

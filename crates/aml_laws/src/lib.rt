@@ -1,6 +1,7 @@
 //! What holds of every evaluation (ACPI 6.5, 5.3 and 5.5): each law is the contract of a function that does nothing.
 #![tactic(auto)]
 
+mod bank_fields;
 mod budgets;
 mod buffer_fields;
 mod calls;
@@ -29,6 +30,7 @@ mod trees;
 mod updates;
 mod values;
 
+pub use bank_fields::a_bank_is_selected_before_each_unit;
 pub use budgets::{no_step_is_left_where_steps_run_out, steps_only_bound_an_evaluation};
 pub use buffer_fields::{
     a_buffer_field_is_read_as_it_was_written, a_write_of_a_buffer_field_leaves_other_bits,

@@ -63,7 +63,7 @@ use Rattle.aml_meaning.specs.declared.term_kind.Conversion.{Conversion}
 use Rattle.aml_meaning.specs.declared.term_kind.EventChange.{EventChange}
 use Rattle.aml_meaning.specs.declared.searches.Search.{Search}
 use Rattle.aml_meaning.specs.MatchTerms.{held_meets, if_held, element_meets, found_or, none_matches, searched_last, match_rule}
-use Rattle.aml_meaning.specs.BankFields.{banked_laid, bank_list_rule}
+use Rattle.aml_meaning.specs.BankTerms.{banked_laid, bank_list_rule}
 use Rattle.aml_meaning.specs.WideTerms.{formed_at, convert_rule, to_string_rule, middle_rule, event_rule, wait_rule, wide_rule}
 use Rattle.aml_meaning.specs.Evaluation.{kind_rule, code_rule, rule}
 

@@ -1,4 +1,4 @@
-pub mod BankFields
+pub mod BankTerms
 pub mod Bridges
 pub mod Calling
 pub mod DataTerms

@@ -21,7 +21,7 @@ use Rattle.aml_meaning.specs.WideOperations.{converted, string_in, middle_in}
 use Rattle.aml_meaning.specs.FormedStores.{formed_to}
 use Rattle.aml_meaning.specs.MatchTerms.{match_rule}
 use Rattle.aml_meaning.specs.Events.{event_named, event_changed, waited}
-use Rattle.aml_meaning.specs.BankFields.{bank_list_rule}
+use Rattle.aml_meaning.specs.BankTerms.{bank_list_rule}
 
 abbrev pub in_wide : {S : Type 0} → Opcode → Run S Flow → Run S Flow
 in_wide op m = lift (asked_for op) >> m
