@@ -46,7 +46,7 @@ use Rattle.aml_laws.specs.AllWithin.{Each, NamedFits, FrameFits, FewBits}
 use Rattle.aml_laws.proofs.FoundNamesStand.{FoundStands, found_stands}
 use Rattle.aml_laws.proofs.ReadingStepsGiveBytes.{Any}
 use Rattle.aml_laws.proofs.ReadTermsHoldBytes.{read_terms_plain}
-use Rattle.aml_laws.proofs.Invariants.{Maintains, ok_fits, ok_maintained, err_maintained, settled_maintained, if_maintained, give_maintains, stop_maintains, settle_maintains, then_maintains, each_push, each_take, each_replicate}
+use Rattle.aml_laws.proofs.Invariants.{Maintained, Maintains, ok_fits, ok_maintained, err_maintained, settled_maintained, if_maintained, give_maintains, stop_maintains, settle_maintains, then_maintains, each_push, each_take, each_replicate}
 use Rattle.aml_laws.proofs.IntegersOfWorlds.{WorldWithin, IntegerFits, fewer_names_fit, read_as_fits, integer_in_maintains, arguments_found_maintains}
 use Rattle.aml_laws.proofs.IntegersOfTargets.{HeldFits, ReferentFits, stored_maintains}
 use Rattle.aml_laws.proofs.IntegersOfFields.{RunWithin, lift_maintains, field_value_maintains, field_integer_maintains, field_part_maintains, field_given_maintains, field_referent_maintains, field_stored_maintains}
@@ -210,10 +210,27 @@ module _ (S : Type 0) (width : IntegerWidth) (accesses : Accesses S) (ev : Task 
   after_item_maintains true f m g h = h
   after_item_maintains false f m g h = give_maintains _ g
 
+  refusal_maintained : (b : Bool) (scope : List Seg) (e : Refusal) (s : State S × ℕ) → RunWithin S width s → Maintained (RunWithin S width) (FlowFits width) (if b then (Ok flow.Next, (with_passed scope e s.0, s.1)) else (Err e, s))
+  refusal_maintained true scope e s i = ok_maintained _ _ (record { wide = i.wide; names = i.names; objects = i.objects; frames = i.frames }) tt
+  refusal_maintained false scope e s i = err_maintained e s i
+
+  done_maintained : (scope : List Seg) (r : Outcome Flow) (s : State S × ℕ) → Maintained (RunWithin S width) (FlowFits width) (r, s) → Maintained (RunWithin S width) (FlowFits width) (item_done scope r s)
+  unfolding item_done
+  done_maintained scope (Ok f) s g = g
+  done_maintained scope (Err e) s g = refusal_maintained (is_passable e) scope e s g.state
+
+  -- an item of a list, which may be passed over
+  item_maintains : (scope : List Seg) (depth : ℕ) (t : Tree) → PlainTree t → Maintains (RunWithin S width) (FlowFits width) (item ev scope depth t)
+  unfolding item passing
+  item_maintains scope depth t h = record {
+    maintains = λ s i.
+        if_maintained (passes_over depth s.0.profile) _ _ (λ yes. done_maintained scope _ _ ((parts (task scope depth t) h).maintains s i)) (λ no. (parts (task scope depth t) h).maintains s i);
+  }
+
   pub in_turn_maintains : (scope : List Seg) (depth : ℕ) (ts : Trees) → PlainTrees ts → Maintains (RunWithin S width) (FlowFits width) (in_turn ev scope depth ts)
   unfolding in_turn
   in_turn_maintains scope depth no_trees h = give_maintains _ tt
-  in_turn_maintains scope depth (tree t ts) h = then_maintains _ _ (parts (task scope depth t) h.0) (λ f g. after_item_maintains (goes_on f) f _ g (in_turn_maintains scope depth ts h.1))
+  in_turn_maintains scope depth (tree t ts) h = then_maintains _ _ (item_maintains scope depth t h.0) (λ f g. after_item_maintains (goes_on f) f _ g (in_turn_maintains scope depth ts h.1))
 
   pub invoked_maintains : (depth : ℕ) (q : List Seg) (body : List ℕ) (vs : List Value) → AreBytes body → Each (WithinWidth width) vs → Maintains (RunWithin S width) (FlowFits width) (invoked ev depth q body vs)
   unfolding invoked

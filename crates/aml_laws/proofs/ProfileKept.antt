@@ -25,6 +25,7 @@ profile_relation accesses = record {
   bridge_asked = λ u w at width wide asks h. h;
   arities_set = λ w list. refl;
   mutexes_released = λ w. refl;
+  passed_noted = λ w passed. refl;
 }
 
 pub profile_is_kept : {S : Type 0} (accesses : Accesses S) (w v : State S) → Becomes accesses w v → v.profile ≡ w.profile
