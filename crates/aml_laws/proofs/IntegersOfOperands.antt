@@ -2,6 +2,7 @@
 use Rattle.std.specs.Prelude.{◌≡◌, ◌-◌, ◌^◌, ◌==◌, ℕ, zero, suc, List, [], ◌∷◌, slice_index_or, Bool, true, false, Option, Some, None, Ok, Err, refl, if◌then◌else◌}
 use Rattle.ar_space.specs.declared.integer_width.IntegerWidth.{IntegerWidth}
 use Rattle.ar_space.specs.Accesses.{Accesses}
+use Rattle.ar_space.specs.declared.refusal.Refusal.{Refusal}
 use Rattle.ar_space.specs.Outcome.{Outcome, seen}
 use Rattle.ar_space.specs.Change.{give, settle}
 use Rattle.aml_path.specs.declared.segment.Seg.{Seg}
@@ -34,7 +35,9 @@ use Rattle.aml_meaning.specs.Run.{Run}
 use Rattle.aml_meaning.specs.Slots.{opened}
 use Rattle.aml_meaning.specs.Terms.{inner_of, list_of}
 use Rattle.aml_meaning.specs.Readings.{value_in}
-use Rattle.aml_meaning.specs.Tasks.{Task, task, operand_value, value_at, two_values, operand_integer, goes_on, in_turn}
+use Rattle.aml_meaning.specs.PassedOver.{is_passable}
+use Rattle.aml_meaning.specs.Passing.{with_passed, item_done, passing}
+use Rattle.aml_meaning.specs.Tasks.{Task, task, operand_value, value_at, two_values, operand_integer, passes_over, goes_on, item, in_turn}
 use Rattle.aml_meaning.specs.Invocations.{invocation_of_body, invocation_of_object, invocation_of, named_use, invocation_found, body_terms, returned_by, leaving, frame_arguments, value_of_call, invoked, method_value}
 use Rattle.aml_meaning.specs.Fields.{field_given}
 use Rattle.aml_meaning.specs.FieldCalls.{asked, method_integer, answer_over, answer_within, called_at, field_read, held_integer, referent_read, completed, stored_to, stored_back, is_element, back_to, held_value}
