@@ -27,4 +27,5 @@ pub mod Knowing
 pub mod Matching
 mod MatchShapes
 pub mod UnitSteps
+pub mod Unwinding
 pub mod WideSteps

@@ -1,5 +1,5 @@
 //! The machine: a loop over a stack of frames.
-ghost use Rattle.std.specs.Prelude.{◌≡◌, ◌≤◌, ◌<◌, ◌+◌, ◌*◌, [], ◌∷◌, ◌++◌, true, Ok, Err, OnOk, OnErr, IfOk, IfErr};
+ghost use Rattle.std.specs.Prelude.{◌≡◌, ◌≢◌, ◌≤◌, ◌<◌, ◌+◌, ◌*◌, [], ◌∷◌, ◌++◌, true, Ok, Err, OnOk, OnErr, IfOk, IfErr};
 ghost use Rattle.ar_space.specs.Change.{Does, stop};
 ghost use Rattle.ar_space.specs.Outcome.{NotMemory, seen};
 ghost use Rattle.ar_space.specs.declared.refusal.Refusal.TheVariants.{OutOfMemory};
@@ -441,6 +441,7 @@ fn unwind<S: Space>(
     ensures falls { IfOk result (λ c. stack_weight stack.new.entries.items + control_weight c ≤
         stack_weight stack.old.entries.items + 1) }
     ensures ended { OnErr result (NotMemory result → stack.new.entries.items ≡ []) }
+    ensures known { OnErr result (NotMemory result → refusal ≢ OutOfMemory) }
     ensures means { Goes S.accesses (meaning S.accesses) result stack.new.act stack.new.entries.items run.new
         (then_all S.accesses (meaning S.accesses) (stop refusal) stack.old.act stack.old.entries.items) run.old }
 {

@@ -46,6 +46,7 @@ numbered_relation accesses = record {
   bridge_asked = λ u w at width wide asks h n. h n;
   arities_set = λ w list n. n;
   mutexes_released = λ w n. numbered_released w.names n;
+  passed_noted = λ w passed n. n;
 }
 
 pub numbered_stays : {S : Type 0} (accesses : Accesses S) (w v : State S) → Becomes accesses w v → Numbered w.names → Numbered v.names
@@ -109,6 +110,7 @@ gone_relation accesses n = record {
   bridge_asked = λ u w at width wide asks h g. h g;
   arities_set = λ w list g. g;
   mutexes_released = λ w g. gone_after_release n w.names g;
+  passed_noted = λ w passed g. g;
 }
 
 -- ---- what stands under a number

@@ -35,7 +35,8 @@ use Rattle.aml_meaning.specs.State.{State, on_names}
 use Rattle.aml_meaning.specs.Run.{Run, lift, charge}
 use Rattle.aml_meaning.specs.Terms.{kind_of}
 use Rattle.aml_meaning.specs.Declaring.{new_name, not_in_method, new_method}
-use Rattle.aml_meaning.specs.Tasks.{task, goes_on, in_turn}
+use Rattle.aml_meaning.specs.Passing.{passing}
+use Rattle.aml_meaning.specs.Tasks.{task, passes_over, goes_on, item, in_turn}
 use Rattle.aml_meaning.specs.DeclarationTerms.{declaring, name_rule, alias_rule, method_rule, new_scope, declaration_rule}
 use Rattle.aml_meaning.specs.Evaluation.{kind_rule, code_rule, rule}
 use Rattle.aml_meaning.specs.Meaning.{meaning}
@@ -46,6 +47,7 @@ use Rattle.aml_laws.proofs.ObjectKinds.{new_buffer_field_keeps_kinds}
 use Rattle.aml_laws.proofs.WorldRelations.{Preserves, RunPreserves, on_objects_preserves, run_give_preserves, run_settle_preserves, charge_preserves, lift_preserves, run_then_preserves}
 use Rattle.aml_laws.proofs.ChangesPreserve.{integer_in_preserves, path_found_preserves, new_name_preserves, new_method_preserves}
 use Rattle.aml_laws.proofs.NamesStay.{names_relation}
+use Rattle.aml_laws.proofs.ProfileKept.{profile_relation}
 use Rattle.aml_laws.proofs.OperandsAndCallsPreserve.{after_item_preserves, operand_value_preserves, value_at_preserves, two_values_preserves}
 use Rattle.aml_laws.proofs.RulesPreserve.{meaning_preserves, list_preserves}
 
@@ -208,36 +210,52 @@ term_declares_name accesses scope depth t p s f d o is = subst (λ a. Stands a.1
 
 -- ---- lists
 
--- an evaluation that leaves a name, where nothing ended it early
-record EndsWithName {S : Type 0} (m : Run S Flow) (p : List Seg) : Type 0 where
-  ends_with_name : (s : State S × ℕ) → Outside s.0 p → (m s).0 ≡ Ok flow.Next → Stands (m s).1.0 p
+-- an evaluation that leaves a name, where nothing ended it early, and nothing is passed over
+record EndsWithName {S : Type 0} (depth : ℕ) (m : Run S Flow) (p : List Seg) : Type 0 where
+  ends_with_name : (s : State S × ℕ) → passes_over depth s.0.profile ≡ false → Outside s.0 p → (m s).0 ≡ Ok flow.Next → Stands (m s).1.0 p
 
-declares_name_ends_with_name : {S : Type 0} (m : Run S Flow) (p : List Seg) → DeclaresName m p → EndsWithName m p
-declares_name_ends_with_name m p h = record { ends_with_name = λ s o is. h.declares_name s flow.Next o is }
-
-rest_ends_with_name : {S : Type 0} (f : Flow) (m : Run S Flow) (p : List Seg) → EndsWithName m p → (s : State S × ℕ) → Outside s.0 p → ((if goes_on f then m else give f) s).0 ≡ Ok flow.Next → Stands ((if goes_on f then m else give f) s).1.0 p
+rest_ends_with_name : {S : Type 0} (depth : ℕ) (f : Flow) (m : Run S Flow) (p : List Seg) → EndsWithName depth m p → (s : State S × ℕ) → passes_over depth s.0.profile ≡ false → Outside s.0 p → ((if goes_on f then m else give f) s).0 ≡ Ok flow.Next → Stands ((if goes_on f then m else give f) s).1.0 p
 unfolding give
-rest_ends_with_name (flow.Value v) m p h s o is = h.ends_with_name s o is
-rest_ends_with_name flow.Next m p h s o is = h.ends_with_name s o is
-rest_ends_with_name flow.Break m p h s o is = absurd (cc is)
-rest_ends_with_name flow.Continue m p h s o is = absurd (cc is)
-rest_ends_with_name (flow.Return v) m p h s o is = absurd (cc is)
+rest_ends_with_name depth (flow.Value v) m p h s no o is = h.ends_with_name s no o is
+rest_ends_with_name depth flow.Next m p h s no o is = h.ends_with_name s no o is
+rest_ends_with_name depth flow.Break m p h s no o is = absurd (cc is)
+rest_ends_with_name depth flow.Continue m p h s no o is = absurd (cc is)
+rest_ends_with_name depth (flow.Return v) m p h s no o is = absurd (cc is)
 
-later_ends_with_name : {S : Type 0} (r : Outcome Flow) (s : State S × ℕ) (m : Run S Flow) (p : List Seg) → EndsWithName m p → Outside s.0 p → (go_on r s (λ f. if goes_on f then m else give f)).0 ≡ Ok flow.Next → Stands (go_on r s (λ f. if goes_on f then m else give f)).1.0 p
+later_ends_with_name : {S : Type 0} (depth : ℕ) (r : Outcome Flow) (s : State S × ℕ) (m : Run S Flow) (p : List Seg) → EndsWithName depth m p → passes_over depth s.0.profile ≡ false → Outside s.0 p → (go_on r s (λ f. if goes_on f then m else give f)).0 ≡ Ok flow.Next → Stands (go_on r s (λ f. if goes_on f then m else give f)).1.0 p
 unfolding go_on
-later_ends_with_name (Ok f) s m p h o is = rest_ends_with_name f m p h s o is
-later_ends_with_name (Err e) s m p h o is = absurd (cc is)
+later_ends_with_name depth (Ok f) s m p h no o is = rest_ends_with_name depth f m p h s no o is
+later_ends_with_name depth (Err e) s m p h no o is = absurd (cc is)
 
 meaning_declares_name : {S : Type 0} (accesses : Accesses S) (scope : List Seg) (depth : ℕ) (t : Tree) (p : List Seg) → Declares scope t p → DeclaresName {S = S} (meaning accesses (task scope depth t)) p
 meaning_declares_name accesses scope depth t p d = record { declares_name = λ s f o is. term_declares_name accesses scope depth t p s f d o is }
 
-in_turn_ends_with_name : {S : Type 0} (accesses : Accesses S) (scope : List Seg) (depth : ℕ) (t : Tree) (ts : Trees) (p : List Seg) → IsItem t ts → Declares scope t p → EndsWithName {S = S} (in_turn (meaning accesses) scope depth ts) p
-unfolding in_turn ◌>>=◌
-in_turn_ends_with_name accesses scope depth t ts p (first us) d = declares_name_ends_with_name _ p (first_declares_name accesses (meaning accesses (task scope depth t)) _ p (meaning_preserves _) (meaning_declares_name accesses scope depth t p d) (λ f. after_item_preserves (meaning accesses) meaning_preserves (goes_on f) f _ (list_preserves scope depth us)))
-in_turn_ends_with_name accesses scope depth t ts p (later u us i) d = record {
-  ends_with_name = λ s o is. later_ends_with_name (meaning accesses (task scope depth u) s).0 (meaning accesses (task scope depth u) s).1 (in_turn (meaning accesses) scope depth us) p (in_turn_ends_with_name accesses scope depth t us p i d) ((meaning_preserves {relation = names_relation accesses p} (task scope depth u)).preserves s o).outside is;
+-- a list of which nothing is passed over
+plain_list : {S : Type 0} (accesses : Accesses S) (scope : List Seg) (depth : ℕ) (u : Tree) (us : Trees) (s : State S × ℕ) → passes_over depth s.0.profile ≡ false
+    → in_turn (meaning accesses) scope depth (tree u us) s ≡ (meaning accesses (task scope depth u) >>= (λ f. if goes_on f then in_turn (meaning accesses) scope depth us else give f)) s
+unfolding in_turn item ◌>>=◌
+plain_list accesses scope depth u us s no =
+    ap (λ b. let a = (if b then passing scope (meaning accesses (task scope depth u)) s else meaning accesses (task scope depth u) s) in go_on a.0 a.1 (λ f. if goes_on f then in_turn (meaning accesses) scope depth us else give f)) no
+
+list_ends_with_name : {S : Type 0} (accesses : Accesses S) (scope : List Seg) (depth : ℕ) (t : Tree) (ts : Trees) (p : List Seg) → IsItem t ts → Declares scope t p → EndsWithName {S = S} depth (in_turn (meaning accesses) scope depth ts) p
+unfolding ◌>>=◌
+list_ends_with_name accesses scope depth t ts p (first us) d = record {
+  ends_with_name = λ s no o is.
+      let same = plain_list accesses scope depth t us s no in
+      let h = first_declares_name accesses (meaning accesses (task scope depth t)) _ p (meaning_preserves _) (meaning_declares_name accesses scope depth t p d) (λ f. after_item_preserves (meaning accesses) meaning_preserves (goes_on f) f _ (list_preserves scope depth us)) in
+      subst (λ a. Stands a.1.0 p) (sym same) (h.declares_name s flow.Next o (ap (λ a. a.0) (sym same) ∙ is));
+}
+list_ends_with_name accesses scope depth t ts p (later u us i) d = record {
+  ends_with_name = λ s no o is.
+      let same = plain_list accesses scope depth u us s no in
+      let kept = (meaning_preserves {relation = profile_relation accesses} (task scope depth u)).preserves s in
+      subst (λ a. Stands a.1.0 p) (sym same)
+      (later_ends_with_name depth (meaning accesses (task scope depth u) s).0 (meaning accesses (task scope depth u) s).1 (in_turn (meaning accesses) scope depth us) p (list_ends_with_name accesses scope depth t us p i d)
+      (ap (λ r. passes_over depth r) kept ∙ no) ((meaning_preserves {relation = names_relation accesses p} (task scope depth u)).preserves s o).outside (ap (λ a. a.0) (sym same) ∙ is));
 }
 
--- a list that is evaluated to its end leaves each name that one of its terms declares outside of control methods
-pub items_stand : {S : Type 0} (accesses : Accesses S) (scope : List Seg) (depth : ℕ) (t : Tree) (ts : Trees) (p : List Seg) (s : State S × ℕ) → IsItem t ts → Declares scope t p → Outside s.0 p → (in_turn (meaning accesses) scope depth ts s).0 ≡ Ok flow.Next → Stands (in_turn (meaning accesses) scope depth ts s).1.0 p
-items_stand accesses scope depth t ts p s i d o is = (in_turn_ends_with_name accesses scope depth t ts p i d).ends_with_name s o is
+-- a list that is evaluated to its end, and of which nothing is passed over, leaves each name that one of its terms declares outside of
+-- control methods
+pub items_stand : {S : Type 0} (accesses : Accesses S) (scope : List Seg) (depth : ℕ) (t : Tree) (ts : Trees) (p : List Seg) (s : State S × ℕ) → IsItem t ts → Declares scope t p → passes_over depth s.0.profile ≡ false → Outside s.0 p → (in_turn (meaning accesses) scope depth ts s).0 ≡ Ok flow.Next
+    → Stands (in_turn (meaning accesses) scope depth ts s).1.0 p
+items_stand accesses scope depth t ts p s i d no o is = (list_ends_with_name accesses scope depth t ts p i d).ends_with_name s no o is

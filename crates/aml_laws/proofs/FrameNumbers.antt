@@ -64,6 +64,7 @@ frame_numbers_relation accesses = record {
   bridge_asked = λ u w at width wide asks h. h;
   arities_set = λ w list. refl;
   mutexes_released = λ w. refl;
+  passed_noted = λ w passed. refl;
 }
 
 pub frames_are_balanced : {S : Type 0} (accesses : Accesses S) (w v : State S) → Becomes accesses w v → numbers_of v.frames ≡ numbers_of w.frames

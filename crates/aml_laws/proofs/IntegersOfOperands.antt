@@ -2,6 +2,7 @@
 use Rattle.std.specs.Prelude.{◌≡◌, ◌-◌, ◌^◌, ◌==◌, ℕ, zero, suc, List, [], ◌∷◌, slice_index_or, Bool, true, false, Option, Some, None, Ok, Err, refl, if◌then◌else◌}
 use Rattle.ar_space.specs.declared.integer_width.IntegerWidth.{IntegerWidth}
 use Rattle.ar_space.specs.Accesses.{Accesses}
+use Rattle.ar_space.specs.declared.refusal.Refusal.{Refusal}
 use Rattle.ar_space.specs.Outcome.{Outcome, seen}
 use Rattle.ar_space.specs.Change.{give, settle}
 use Rattle.aml_path.specs.declared.segment.Seg.{Seg}
@@ -34,7 +35,9 @@ use Rattle.aml_meaning.specs.Run.{Run}
 use Rattle.aml_meaning.specs.Slots.{opened}
 use Rattle.aml_meaning.specs.Terms.{inner_of, list_of}
 use Rattle.aml_meaning.specs.Readings.{value_in}
-use Rattle.aml_meaning.specs.Tasks.{Task, task, operand_value, value_at, two_values, operand_integer, goes_on, in_turn}
+use Rattle.aml_meaning.specs.PassedOver.{is_passable}
+use Rattle.aml_meaning.specs.Passing.{with_passed, item_done, passing}
+use Rattle.aml_meaning.specs.Tasks.{Task, task, operand_value, value_at, two_values, operand_integer, passes_over, goes_on, item, in_turn}
 use Rattle.aml_meaning.specs.Invocations.{invocation_of_body, invocation_of_object, invocation_of, named_use, invocation_found, body_terms, returned_by, leaving, frame_arguments, value_of_call, invoked, method_value}
 use Rattle.aml_meaning.specs.Fields.{field_given}
 use Rattle.aml_meaning.specs.FieldCalls.{asked, method_integer, answer_over, answer_within, called_at, field_read, held_integer, referent_read, completed, stored_to, stored_back, is_element, back_to, held_value}
@@ -46,7 +49,7 @@ use Rattle.aml_laws.specs.AllWithin.{Each, NamedFits, FrameFits, FewBits}
 use Rattle.aml_laws.proofs.FoundNamesStand.{FoundStands, found_stands}
 use Rattle.aml_laws.proofs.ReadingStepsGiveBytes.{Any}
 use Rattle.aml_laws.proofs.ReadTermsHoldBytes.{read_terms_plain}
-use Rattle.aml_laws.proofs.Invariants.{Maintains, ok_fits, ok_maintained, err_maintained, settled_maintained, if_maintained, give_maintains, stop_maintains, settle_maintains, then_maintains, each_push, each_take, each_replicate}
+use Rattle.aml_laws.proofs.Invariants.{Maintained, Maintains, ok_fits, ok_maintained, err_maintained, settled_maintained, if_maintained, give_maintains, stop_maintains, settle_maintains, then_maintains, each_push, each_take, each_replicate}
 use Rattle.aml_laws.proofs.IntegersOfWorlds.{WorldWithin, IntegerFits, fewer_names_fit, read_as_fits, integer_in_maintains, arguments_found_maintains}
 use Rattle.aml_laws.proofs.IntegersOfTargets.{HeldFits, ReferentFits, stored_maintains}
 use Rattle.aml_laws.proofs.IntegersOfFields.{RunWithin, lift_maintains, field_value_maintains, field_integer_maintains, field_part_maintains, field_given_maintains, field_referent_maintains, field_stored_maintains}
@@ -210,10 +213,27 @@ module _ (S : Type 0) (width : IntegerWidth) (accesses : Accesses S) (ev : Task 
   after_item_maintains true f m g h = h
   after_item_maintains false f m g h = give_maintains _ g
 
+  refusal_maintained : (b : Bool) (scope : List Seg) (e : Refusal) (s : State S × ℕ) → RunWithin S width s → Maintained (RunWithin S width) (FlowFits width) (if b then (Ok flow.Next, (with_passed scope e s.0, s.1)) else (Err e, s))
+  refusal_maintained true scope e s i = ok_maintained _ _ (record { wide = i.wide; names = i.names; objects = i.objects; frames = i.frames }) tt
+  refusal_maintained false scope e s i = err_maintained e s i
+
+  done_maintained : (scope : List Seg) (r : Outcome Flow) (s : State S × ℕ) → Maintained (RunWithin S width) (FlowFits width) (r, s) → Maintained (RunWithin S width) (FlowFits width) (item_done scope r s)
+  unfolding item_done
+  done_maintained scope (Ok f) s g = g
+  done_maintained scope (Err e) s g = refusal_maintained (is_passable e) scope e s g.state
+
+  -- an item of a list, which may be passed over
+  item_maintains : (scope : List Seg) (depth : ℕ) (t : Tree) → PlainTree t → Maintains (RunWithin S width) (FlowFits width) (item ev scope depth t)
+  unfolding item passing
+  item_maintains scope depth t h = record {
+    maintains = λ s i.
+        if_maintained (passes_over depth s.0.profile) _ _ (λ yes. done_maintained scope _ _ ((parts (task scope depth t) h).maintains s i)) (λ no. (parts (task scope depth t) h).maintains s i);
+  }
+
   pub in_turn_maintains : (scope : List Seg) (depth : ℕ) (ts : Trees) → PlainTrees ts → Maintains (RunWithin S width) (FlowFits width) (in_turn ev scope depth ts)
   unfolding in_turn
   in_turn_maintains scope depth no_trees h = give_maintains _ tt
-  in_turn_maintains scope depth (tree t ts) h = then_maintains _ _ (parts (task scope depth t) h.0) (λ f g. after_item_maintains (goes_on f) f _ g (in_turn_maintains scope depth ts h.1))
+  in_turn_maintains scope depth (tree t ts) h = then_maintains _ _ (item_maintains scope depth t h.0) (λ f g. after_item_maintains (goes_on f) f _ g (in_turn_maintains scope depth ts h.1))
 
   pub invoked_maintains : (depth : ℕ) (q : List Seg) (body : List ℕ) (vs : List Value) → AreBytes body → Each (WithinWidth width) vs → Maintains (RunWithin S width) (FlowFits width) (invoked ev depth q body vs)
   unfolding invoked

@@ -121,6 +121,7 @@ pub mod Together
 pub mod TreesCost
 pub mod UnitsTogether
 pub mod UnreadUnits
+pub mod ItemsOfLists
 pub mod JoinedResources
 pub mod LimitsRefused
 pub mod LimitsTaken

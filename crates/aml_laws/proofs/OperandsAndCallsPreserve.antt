@@ -21,6 +21,7 @@ use Rattle.aml_meaning.specs.Run.{Run}
 use Rattle.aml_meaning.specs.Tasks.{Task, operand_value, value_at, two_values, operand_integer, goes_on, in_turn}
 use Rattle.aml_meaning.specs.Invocations.{invoked, method_value}
 use Rattle.aml_meaning.specs.FieldCalls.{called_at, asked, method_integer, answer_over, answer_within, field_read, held_value, held_integer, referent_read, completed, stored_to, is_element, back_to, stored_back}
+use Rattle.aml_laws.proofs.ItemsOfLists.{item_preserves}
 use Rattle.aml_laws.proofs.FieldsPreserve.{field_value_preserves, field_integer_preserves, field_part_preserves, field_referent_preserves, field_stored_preserves}
 use Rattle.aml_laws.proofs.FoundNamesStand.{MethodStandsAt}
 use Rattle.aml_laws.proofs.WorldRelations.{WorldRelation, RunPreserves, RunPreservesFrom, CalledMethodStands, MayRemoveBelow, run_give_preserves, run_stop_preserves, run_settle_preserves, lift_preserves, run_then_preserves, found_then_preserves, run_preserves_from, then_preserves_from, body_preserves_from}
@@ -51,7 +52,7 @@ module _ {S : Type 0} {accesses : Accesses S} {relation : WorldRelation accesses
   pub in_turn_preserves : (scope : List Seg) (depth : ℕ) (ts : Trees) → RunPreserves relation (in_turn ev scope depth ts)
   unfolding in_turn
   in_turn_preserves scope depth no_trees = run_give_preserves _
-  in_turn_preserves scope depth (tree t ts) = run_then_preserves _ _ (parts _) (λ f. after_item_preserves (goes_on f) f _ (in_turn_preserves scope depth ts))
+  in_turn_preserves scope depth (tree t ts) = run_then_preserves _ _ (item_preserves ev parts scope depth t) (λ f. after_item_preserves (goes_on f) f _ (in_turn_preserves scope depth ts))
 
   -- a call of a control method
   pub invoked_preserves_from : (u : State S) (depth : ℕ) (q : List Seg) (body : List ℕ) (arguments : List Value) → MayRemoveBelow relation u q → RunPreservesFrom relation u (invoked ev depth q body arguments)

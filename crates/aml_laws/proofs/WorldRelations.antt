@@ -27,6 +27,7 @@ use Rattle.aml_meaning.specs.declared.frame.Frame.{Frame}
 use Rattle.aml_meaning.specs.declared.invocation.Invocation.{Invocation}
 use Rattle.aml_meaning.specs.declared.profile.Profile.TheVariants as profiles
 use Rattle.aml_meaning.specs.declared.invocation.Invocation.TheVariants as invocation
+use Rattle.aml_meaning.specs.PassedOver.{PassedOver}
 use Rattle.aml_meaning.specs.State.{State, on_objects, on_names}
 use Rattle.aml_meaning.specs.Run.{Run, lift, charge}
 use Rattle.aml_meaning.specs.Slots.{opened, closed}
@@ -72,6 +73,8 @@ pub record WorldRelation {S : Type 0} (accesses : Accesses S) : Type 1 where
   -- a table tells how many arguments names take, and all mutexes are free after it
   pub arities_set : (w : State S) (list : List Arity) → Leads w (record w { arities = list })
   pub mutexes_released : (w : State S) → Leads w (released w)
+  -- what is passed over is noted
+  pub passed_noted : (w : State S) (passed : PassedOver) → Leads w (record w { passed = passed })
 
 -- a change that leads each world to a related one; an evaluation that does, and one that does so from where one world has come
 pub record Preserves {S A : Type 0} {accesses : Accesses S} (relation : WorldRelation accesses) (m : Change (State S) A) : Type 0 where

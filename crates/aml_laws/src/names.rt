@@ -1,5 +1,5 @@
 //! Which names stand after an evaluation.
-ghost use Rattle.std.specs.Prelude.{◌≡◌, ℕ, List, [], ◌∷◌, ◌++◌, true, Ok, Some};
+ghost use Rattle.std.specs.Prelude.{◌≡◌, ℕ, List, [], ◌∷◌, ◌++◌, true, false, Ok, Some};
 ghost use Rattle.std.specs.FinMap.{get};
 ghost use Rattle.ar_space.specs.Accesses.{Accesses};
 ghost use Rattle.aml_path.specs.declared.segment.Seg.{Seg};
@@ -7,7 +7,7 @@ ghost use Rattle.aml_grammar.specs.Tree.{Tree, Trees};
 ghost use Rattle.aml_meaning.specs.declared.flow.Flow.{Flow};
 ghost use Rattle.aml_meaning.specs.declared.flow.Flow.TheVariants as flow;
 ghost use Rattle.aml_meaning.specs.State.{State};
-ghost use Rattle.aml_meaning.specs.Tasks.{task, in_turn};
+ghost use Rattle.aml_meaning.specs.Tasks.{task, passes_over, in_turn};
 ghost use Rattle.aml_meaning.specs.Meaning.{meaning};
 ghost use Rattle.aml_laws.specs.Becomes.{Becomes};
 ghost use Rattle.aml_laws.specs.Outside.{Outside, Stands, is_open, number_at};
@@ -37,7 +37,7 @@ pub fn names_stay<S>()
 /// A term that declares a name outside of control methods by one of its operands, and is not refused, leaves it at
 /// the path that the operand stands for in its scope (the fields of a list, whose names its elements declare, aren't
 /// meant); and a list that is evaluated to its end leaves there the names of all its terms whose paths were outside
-/// of control methods when it began. The list of a device or another scope is evaluated so in the path of that scope.
+/// of control methods when it began, unless the wide profile may pass its items over. The list of a device or another scope is evaluated so in the path of that scope.
 #[tactic(auto, using(crate::proofs::DeclaredNamesStand::term_declares_name, crate::proofs::DeclaredNamesStand::items_stand))]
 pub fn declared_names_stand<S>()
     ensures term { (accesses : Accesses S) (scope : List Seg) (depth : ℕ) (t : Tree) (path : List Seg)
@@ -46,6 +46,7 @@ pub fn declared_names_stand<S>()
         Stands (meaning accesses (task scope depth t) s).1.0 path }
     ensures list { (accesses : Accesses S) (scope : List Seg) (depth : ℕ) (t : Tree) (ts : Trees)
         (path : List Seg) (s : State S × ℕ) →
-        IsItem t ts → Declares scope t path → Outside s.0 path → (in_turn (meaning accesses) scope depth ts s).0 ≡
-        Ok flow.Next → Stands (in_turn (meaning accesses) scope depth ts s).1.0 path }
+        IsItem t ts → Declares scope t path → passes_over depth s.0.profile ≡ false → Outside s.0 path →
+        (in_turn (meaning accesses) scope depth ts s).0 ≡ Ok flow.Next →
+        Stands (in_turn (meaning accesses) scope depth ts s).1.0 path }
 {}

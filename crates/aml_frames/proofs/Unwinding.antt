@@ -1,0 +1,71 @@
+-- A refusal unwinds the stack, up to an item that is passed over.
+use Rattle.std.specs.Prelude.{◌≡◌, ◌≢◌, ℕ, ◌+◌, ◌<◌, ◌≤◌, Bool, true, false, List, [], ◌∷◌, ◌++◌, Ok, Err, OnOk, OnErr, IfOk, IfErr, refl}
+use Rattle.std.proofs.Common.{◌∙◌, ap, sym, subst, arith}
+use Rattle.ar_space.specs.Accesses.{Accesses}
+use Rattle.ar_space.specs.Change.{Does, Same, stop}
+use Rattle.ar_space.specs.Outcome.{Outcome, NotMemory}
+use Rattle.ar_space.specs.declared.refusal.Refusal.{Refusal}
+use Rattle.ar_space.specs.declared.refusal.Refusal.TheVariants.{OutOfMemory}
+use Rattle.aml_path.specs.declared.segment.Seg.{Seg}
+use Rattle.aml_meaning.specs.declared.flow.Flow.{Flow}
+use Rattle.aml_meaning.specs.State.{State}
+use Rattle.aml_meaning.specs.Run.{Run}
+use Rattle.aml_meaning.specs.PassedOver.{is_passable}
+use Rattle.aml_meaning.specs.Passing.{passed_over}
+use Rattle.aml_meaning.specs.Tasks.{Task}
+use Rattle.aml_frames.specs.declared.frames.Control.{Control}
+use Rattle.aml_frames.specs.declared.frames.Control.TheVariants as control
+use Rattle.aml_frames.specs.declared.frames.Entry.{Entry}
+use Rattle.aml_frames.specs.declared.frames.Entry.TheVariants as entry
+use Rattle.aml_frames.specs.declared.frames.Items.{Items}
+use Rattle.aml_frames.specs.declared.frames.ListItem.{ListItem}
+use Rattle.aml_frames.specs.Places.{Site}
+use Rattle.aml_frames.specs.Weights.{charged}
+use Rattle.aml_frames.specs.Stack.{then_all, machine, Goes, stack_weight, entry_weight, control_weight}
+use Rattle.aml_frames.proofs.Machine.{weight_on, stopped_anywhere, unwound_end}
+
+never_passed : (e : Refusal) → e ≡ OutOfMemory → is_passable e ≡ true → ⊥
+never_passed e is yes = absurd (cc (sym yes ∙ ap is_passable is))
+
+-- what is passed over is no want of memory
+pub passable_known : (e : Refusal) → is_passable e ≡ true → e ≢ OutOfMemory
+passable_known e yes is = never_passed e is yes
+
+-- ---- weights
+
+pub popped_lighter : (xs ys : List Entry) (y : Entry) (w : ℕ) → xs ≡ ys ++ y ∷ [] → stack_weight xs ≤ w → stack_weight ys ≤ w
+popped_lighter xs ys y w e h = let k = ap stack_weight e ∙ weight_on ys y in omega (arith, k, h)
+
+pub falls_passed : (r : Outcome Control) (zs ys xs : List Entry) (y : Entry) (x : ListItem) (i : Items) (w : ℕ) → zs ≡ ys → xs ≡ ys ++ y ∷ [] → y ≡ entry.Item x → stack_weight xs ≤ w → IfOk r (λ c. c ≡ control.Items i)
+    → IfOk r (λ c. stack_weight zs + control_weight c ≤ w + 1)
+falls_passed (Ok c) zs ys xs y x i w same e is h next =
+    let k = ap stack_weight e ∙ weight_on ys y in
+    let one : entry_weight y ≡ 3 = ap entry_weight is in
+    let all : stack_weight zs ≡ stack_weight ys = ap stack_weight same in
+    let four : control_weight c ≡ 4 = ap control_weight next in
+    omega (arith, k, one, all, four, h)
+falls_passed (Err e) zs ys xs y x i w same k is h next = tt
+
+-- a step that was refused, and then passed over
+pub falls_unwound : {e : Refusal} (a b n m u v k : ℕ) → b ≡ a → (is_passable e ≡ true → charged a + (u + 1) < charged n + m) → is_passable e ≡ true → v + k ≤ u + 1 → charged b + (v + k) < charged n + m
+falls_unwound a b n m u v k same h yes le = let p = h yes in let q = ap charged same in omega (arith, p, q, le)
+
+-- ---- what it means
+
+module _ {S : Type 0} (ac : Accesses S) (ev : Task → Run S Flow) where
+  pub unwound_none : (e : Refusal) (c d : Site) (xs ys : List Entry) (m : Run S Flow) (s0 s s1 : State S × ℕ) → m s0 ≡ then_all ac ev (stop e) c xs s → xs ≡ ys → s1 ≡ s → Goes ac ev (Err e) d ys s1 m s0
+  unwound_none e c d xs ys m s0 s s1 h same after = record { is = λ ne. h ∙ (ap (λ zs. then_all ac ev (stop e) c zs s) same ∙ (stopped_anywhere ac ev e ys c d s ∙ ap (λ t. then_all ac ev (stop e) d ys t) (sym after))) }
+
+  pub unwound_passed : {r : Outcome Control} (e : Refusal) (c d : Site) (xs ys zs : List Entry) (x : ListItem) (y : Entry) (m : Run S Flow) (s0 s s1 : State S × ℕ) → m s0 ≡ then_all ac ev (stop e) c xs s → xs ≡ ys ++ y ∷ [] → y ≡ entry.Item x
+      → Goes ac ev r d zs s1 (then_all ac ev (stop e) c (ys ++ entry.Item x ∷ [])) s → Goes ac ev r d zs s1 m s0
+  unwound_passed e c d xs ys zs x y m s0 s s1 h same is g = record { is = λ ne. h ∙ (ap (λ zs. then_all ac ev (stop e) c zs s) (same ∙ ap (λ z. ys ++ z ∷ []) is) ∙ g.is ne) }
+
+  -- the loop goes on behind an item that is passed over
+  pub same_unwound : {m : Run S Flow} {e : Refusal} {s0 s s1 s2 : State S × ℕ} {d d2 : Site} {ys zs : List Entry} (c : Site) (xs : List Entry) (x y : Control) → Same m s0 (machine ac ev x c xs) s → Goes ac ev (Err e) d ys s1 (machine ac ev x c xs) s → is_passable e ≡ true
+      → Goes ac ev (Ok y) d2 zs s2 (then_all ac ev (stop e) d ys) s1 → Same m s0 (machine ac ev y d2 zs) s2
+  same_unwound {e = e} c xs x y h i yes g = record { is = h.is ∙ (i.is (passable_known e yes) ∙ g.is tt) }
+
+  -- or it ends
+  pub refused_unwound : {m : Run S Flow} {e f : Refusal} {s0 s s1 s2 : State S × ℕ} {d d2 : Site} {ys zs : List Entry} (c : Site) (xs : List Entry) (x : Control) → Same m s0 (machine ac ev x c xs) s → Goes ac ev (Err e) d ys s1 (machine ac ev x c xs) s
+      → (f ≢ OutOfMemory → e ≢ OutOfMemory) → (f ≢ OutOfMemory → zs ≡ []) → Goes ac ev (Err f) d2 zs s2 (then_all ac ev (stop e) d ys) s1 → Does (Err f) s2 m s0
+  refused_unwound {f = f} {s2 = s2} {d2 = d2} {zs = zs} c xs x h i known ended g = record { is = λ ne. h.is ∙ (i.is (known ne) ∙ (g.is ne ∙ unwound_end ac ev f d2 zs s2 (ended ne))) }

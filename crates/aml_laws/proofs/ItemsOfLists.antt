@@ -1,0 +1,127 @@
+-- Items of lists preserve world relations, do what they do without the counter, and tell of faults, where the parts of a term do: to pass
+-- one over notes it, and changes nothing else.
+use Rattle.std.specs.Prelude.{◌≡◌, ◌≤◌, ◌+◌, ℕ, List, Bool, true, false, Ok, Err, refl, if◌then◌else◌}
+use Rattle.std.proofs.Common.{arith, ap, sym, subst, ◌∙◌}
+use Rattle.ar_space.specs.Accesses.{Accesses}
+use Rattle.ar_space.specs.Outcome.{Outcome}
+use Rattle.ar_space.specs.declared.refusal.Refusal.{Refusal}
+use Rattle.ar_space.specs.declared.refusal.Refusal.TheVariants as refusals
+use Rattle.aml_path.specs.declared.segment.Seg.{Seg}
+use Rattle.aml_grammar.specs.Tree.{Tree}
+use Rattle.aml_meaning.specs.declared.flow.Flow.{Flow}
+use Rattle.aml_meaning.specs.declared.flow.Flow.TheVariants as flow
+use Rattle.aml_meaning.specs.State.{State}
+use Rattle.aml_meaning.specs.Run.{Run}
+use Rattle.aml_meaning.specs.PassedOver.{is_passable}
+use Rattle.aml_meaning.specs.Passing.{with_passed, item_done, passing}
+use Rattle.aml_meaning.specs.Tasks.{Task, task, passes_over, item}
+use Rattle.aml_laws.specs.Answered.{Answered}
+use Rattle.aml_laws.specs.Counted.{without_counter}
+use Rattle.aml_laws.proofs.CountedChanges.{RunCounts, run_view}
+use Rattle.aml_laws.proofs.FaultsOfChanges.{Explained, RefusalExplained, RunExplains, Spent, either_branch_explains}
+use Rattle.aml_laws.proofs.Preorders.{either_branch}
+use Rattle.aml_laws.proofs.WorldRelations.{WorldRelation, RunPreserves}
+
+-- ---- world relations
+
+module _ {S : Type 0} {accesses : Accesses S} {relation : WorldRelation accesses} where
+  refusal_preserves : (b : Bool) (scope : List Seg) (e : Refusal) (s : State S × ℕ) → relation.Leads s.0 (if◌then◌else◌ {A = Outcome Flow × (State S × ℕ)} b (Ok flow.Next, (with_passed scope e s.0, s.1)) (Err e, s)).1.0
+  refusal_preserves true scope e s = relation.passed_noted s.0 _
+  refusal_preserves false scope e s = relation.reflexive s.0
+
+  done_preserves : (scope : List Seg) (r : Outcome Flow) (s : State S × ℕ) → relation.Leads s.0 (item_done scope r s).1.0
+  unfolding item_done
+  done_preserves scope (Ok f) s = relation.reflexive s.0
+  done_preserves scope (Err e) s = refusal_preserves (is_passable e) scope e s
+
+  pub passing_preserves : (scope : List Seg) (m : Run S Flow) → RunPreserves relation m → RunPreserves relation (passing scope m)
+  unfolding passing
+  passing_preserves scope m h = record { preserves = λ s. relation.transitive s.0 (m s).1.0 _ (h.preserves s) (done_preserves scope (m s).0 (m s).1) }
+
+  pub item_preserves : (ev : Task → Run S Flow) → ((t : Task) → RunPreserves relation (ev t)) → (scope : List Seg) (depth : ℕ) (t : Tree) → RunPreserves relation (item ev scope depth t)
+  unfolding item
+  item_preserves ev parts scope depth t = record {
+    preserves = λ s. either_branch (λ (x : Outcome Flow × (State S × ℕ)). relation.Leads s.0 x.1.0) (passes_over depth s.0.profile) _ _ ((passing_preserves scope (ev (task scope depth t)) (parts _)).preserves s) ((parts _).preserves s);
+  }
+
+-- ---- the counter
+
+module _ {S : Type 0} where
+  counted_refusal : (b : Bool) (scope : List Seg) (e : Refusal) (s : State (S × ℕ) × ℕ) → ◌≡◌ {A = Outcome Flow × (State S × ℕ)} (if b then (Ok flow.Next, (with_passed scope e (without_counter s.0), s.1)) else (Err e, (without_counter s.0, s.1)))
+      ((if◌then◌else◌ {A = Outcome Flow × (State (S × ℕ) × ℕ)} b (Ok flow.Next, (with_passed scope e s.0, s.1)) (Err e, s)).0, (run_view S).view (if◌then◌else◌ {A = Outcome Flow × (State (S × ℕ) × ℕ)} b (Ok flow.Next, (with_passed scope e s.0, s.1)) (Err e, s)).1)
+  counted_refusal true scope e s = refl
+  counted_refusal false scope e s = refl
+
+  counted_done : (scope : List Seg) (r : Outcome Flow) (s : State (S × ℕ) × ℕ) → item_done scope r ((run_view S).view s) ≡ ((item_done scope r s).0, (run_view S).view (item_done scope r s).1)
+  unfolding item_done
+  counted_done scope (Ok f) s = refl
+  counted_done scope (Err e) s = counted_refusal (is_passable e) scope e s
+
+  refusal_begins : (b : Bool) (scope : List Seg) (e : Refusal) (s : State (S × ℕ) × ℕ) → (run_view S).Leads s (if◌then◌else◌ {A = Outcome Flow × (State (S × ℕ) × ℕ)} b (Ok flow.Next, (with_passed scope e s.0, s.1)) (Err e, s)).1
+  refusal_begins true scope e s = omega arith
+  refusal_begins false scope e s = omega arith
+
+  done_begins : (scope : List Seg) (r : Outcome Flow) (s : State (S × ℕ) × ℕ) → (run_view S).Leads s (item_done scope r s).1
+  unfolding item_done
+  done_begins scope (Ok f) s = omega arith
+  done_begins scope (Err e) s = refusal_begins (is_passable e) scope e s
+
+  passing_counts : (scope : List Seg) (m : Run (S × ℕ) Flow) (k : Run S Flow) → RunCounts m k → RunCounts (passing scope m) (passing scope k)
+  unfolding passing
+  passing_counts scope m k h = record {
+    same = λ s. ap (λ a. item_done scope a.0 a.1) (h.same s) ∙ counted_done scope (m s).0 (m s).1;
+    leads = λ s. (run_view S).transitive s (m s).1 _ (h.leads s) (done_begins scope (m s).0 (m s).1);
+  }
+
+  either_counts : (b : Bool) (m n : Run (S × ℕ) Flow) (k l : Run S Flow) → RunCounts m k → RunCounts n l → RunCounts (λ s. if b then m s else n s) (λ s. if b then k s else l s)
+  either_counts true m n k l f g = record { same = f.same; leads = f.leads }
+  either_counts false m n k l f g = record { same = g.same; leads = g.leads }
+
+  pub item_counts : (ev : Task → Run (S × ℕ) Flow) (uncounted : Task → Run S Flow) → ((t : Task) → RunCounts (ev t) (uncounted t)) → (scope : List Seg) (depth : ℕ) (t : Tree) → RunCounts (item ev scope depth t) (item uncounted scope depth t)
+  unfolding item
+  item_counts ev uncounted parts scope depth t =
+      let h = passing_counts scope (ev (task scope depth t)) (uncounted (task scope depth t)) (parts _) in
+      record {
+        same = λ s. (either_counts (passes_over depth s.0.profile) (passing scope (ev (task scope depth t))) (ev (task scope depth t)) (passing scope (uncounted (task scope depth t))) (uncounted (task scope depth t)) h (parts _)).same s;
+        leads = λ s. (either_counts (passes_over depth s.0.profile) (passing scope (ev (task scope depth t))) (ev (task scope depth t)) (passing scope (uncounted (task scope depth t))) (uncounted (task scope depth t)) h (parts _)).leads s;
+      }
+
+-- ---- faults of the register space
+
+module _ {S : Type 0} (accesses : Accesses S) where
+  -- what is passed over tells of no fault
+  unfaulted : (e : Refusal) (s t : S) → is_passable e ≡ true → RefusalExplained accesses e s t → Answered accesses s t
+  unfaulted (refusals.Space f) s t yes h = absurd (cc yes)
+  unfaulted (refusals.Input f) s t yes h = absurd (cc yes)
+  unfaulted _ s t yes h = h
+
+  by_refusal : (b : Bool) (scope : List Seg) (e : Refusal) (before : S) (s : State S × ℕ) → is_passable e ≡ b → RefusalExplained accesses e before s.0.space
+      → Explained accesses (if◌then◌else◌ {A = Outcome Flow × (State S × ℕ)} b (Ok flow.Next, (with_passed scope e s.0, s.1)) (Err e, s)).0 before (if◌then◌else◌ {A = Outcome Flow × (State S × ℕ)} b (Ok flow.Next, (with_passed scope e s.0, s.1)) (Err e, s)).1.0.space
+  by_refusal true scope e before s is h = unfaulted e before s.0.space is h
+  by_refusal false scope e before s is h = h
+
+  spent_by_refusal : (b : Bool) (scope : List Seg) (e : Refusal) (s : State S × ℕ) → Spent {A = Flow} (Err e) s.1
+      → Spent (if◌then◌else◌ {A = Outcome Flow × (State S × ℕ)} b (Ok flow.Next, (with_passed scope e s.0, s.1)) (Err e, s)).0 (if◌then◌else◌ {A = Outcome Flow × (State S × ℕ)} b (Ok flow.Next, (with_passed scope e s.0, s.1)) (Err e, s)).1.1
+  spent_by_refusal true scope e s h = tt
+  spent_by_refusal false scope e s h = h
+
+  done_explained : (scope : List Seg) (r : Outcome Flow) (before : S) (s : State S × ℕ) → Explained accesses r before s.0.space → Explained accesses (item_done scope r s).0 before (item_done scope r s).1.0.space
+  unfolding item_done
+  done_explained scope (Ok f) before s h = h
+  done_explained scope (Err e) before s h = by_refusal (is_passable e) scope e before s refl h
+
+  done_spent : (scope : List Seg) (r : Outcome Flow) (s : State S × ℕ) → Spent r s.1 → Spent (item_done scope r s).0 (item_done scope r s).1.1
+  unfolding item_done
+  done_spent scope (Ok f) s h = tt
+  done_spent scope (Err e) s h = spent_by_refusal (is_passable e) scope e s h
+
+  passing_explains : (scope : List Seg) (m : Run S Flow) → RunExplains accesses m → RunExplains accesses (passing scope m)
+  unfolding passing
+  passing_explains scope m h = record {
+    explained = λ s. done_explained scope (m s).0 s.0.space (m s).1 (h.explained s);
+    spent = λ s. done_spent scope (m s).0 (m s).1 (h.spent s);
+  }
+
+  pub item_explains : (ev : Task → Run S Flow) → ((t : Task) → RunExplains accesses (ev t)) → (scope : List Seg) (depth : ℕ) (t : Tree) → RunExplains accesses (item ev scope depth t)
+  unfolding item
+  item_explains ev parts scope depth t = either_branch_explains (λ s. passes_over depth s.0.profile) (passing scope (ev (task scope depth t))) (ev (task scope depth t)) (passing_explains scope (ev (task scope depth t)) (parts _)) (parts _)
