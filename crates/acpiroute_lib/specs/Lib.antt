@@ -7,6 +7,7 @@ pub mod RouteCommand
 pub mod Ended
 pub mod Explaining
 pub mod MissingLines
+pub mod WhyStages
 pub mod WhyCommand
 pub mod Commands
 pub mod Runs
