@@ -5,4 +5,5 @@ pub mod Halted
 pub mod Left
 pub mod Loaded
 pub mod Paths
+pub mod Putting
 pub mod Spared

@@ -12,11 +12,13 @@ use Rattle.watched_space.specs.declared.last_access.Accessed.{Accessed}
 use Rattle.acpiroute_words.specs.Written.{Written}
 use Rattle.acpiroute_words.specs.declared.request.Asking.{Asking}
 use Rattle.ar_space.specs.Bytes.{byte_accesses}
+use Rattle.acpi_explain.specs.Explaining.{IsExplanation}
+use Rattle.acpi_explain.specs.declared.explanation.Explanation.{Explanation}
 use Rattle.acpi_explain.specs.declared.stage.Stage.{Stage}
 use Rattle.watched_space.specs.Watching.{watched}
 use Rattle.acpiroute_lib.specs.WhyStages.{IsStageOf}
 use Rattle.acpiroute_lib.specs.declared.run_end.RunEnd.TheVariants as end
-use Rattle.acpiroute_lib.specs.WhyCommand.{first_watch, IsStageFound, IsRefusalTold, IsWatched, IsExplained, IsWhy, IsFilled, IsListed, IsRegisters, IsWhyAnswer, IsRegistersAnswer}
+use Rattle.acpiroute_lib.specs.WhyCommand.{told, first_watch, IsStageFound, IsRefusalTold, IsWatched, IsExplained, IsWhy, IsFilled, IsListed, IsRegisters, IsWhyAnswer, IsRegistersAnswer}
 use Rattle.acpiroute_lib.specs.declared.run_end.RunEnd.{RunEnd}
 
 -- what holds where something is answered
@@ -24,30 +26,29 @@ pub where_ok : {A : Type 0} (r : Outcome A) (P Q : A → Type 0) → ((x : A) �
 where_ok (Ok x) P Q f h = f x h
 where_ok (Err e) P Q f h = tt
 
--- the stage that is told is one of which that holds
-pub told_stage : (w : Written) (stage : Option Stage) (IsIt : Option Stage → Type 0) (e : Refusal) (access : Option Accessed) → IsIt stage → IsRefusalTold (λ s. s ≡ stage) e access w → IsRefusalTold IsIt e access w
-told_stage w stage IsIt e access it h = record { name = h.name; stage = h.stage; is_stage = subst IsIt (sym h.is_stage) it; places = h.places; steps = h.steps; help = h.help; is = h.is }
+-- the text of an explanation, with a stage of which that holds
+pub explanation_told : (steps : ℕ) (IsIt : Option Stage → Type 0) (e : Refusal) (stage : Option Stage) (access : Option Accessed) (x : Explanation) (w : Written) → IsIt stage → IsExplanation e stage access steps x → w ≡ told x.text.items
+    → IsRefusalTold steps IsIt e access w
+explanation_told steps IsIt e stage access x w it h is = record { stage = stage; is_stage = it; explanation = x; is_explanation = h; is = is }
 
 module _ (q : Asking) (said : MachineText) where
   -- the stage that a second run found is that of the run
   staged : (text : List ℕ) → machine_text text ≡ Ok said → (ended : RunEnd) (last : Option Accessed) (w : Written) → IsWatched q (tables_of said.space.memory said.rsdp) said.osi said.space ended last
-      → IsExplained (λ phase e. IsStageFound q phase text) ended last w → IsExplained (λ phase e. IsStageOf (watched byte_accesses) q (tables_of said.space.memory said.rsdp) said.osi (first_watch said.space) e) ended last w
+      → IsExplained q.evaluation.steps (λ phase e. IsStageFound q phase text) ended last w → IsExplained q.evaluation.steps (λ phase e. IsStageOf (watched byte_accesses) q (tables_of said.space.memory said.rsdp) said.osi (first_watch said.space) e) ended last w
   staged text is (end.Refused phase e) last w run (ne, lines) = (
     ne,
     record {
-      name = lines.name;
       stage = lines.stage;
       is_stage = lines.is_stage said is e run.left (run.is_phase ne) (run.is_end ne);
-      places = lines.places;
-      steps = lines.steps;
-      help = lines.help;
+      explanation = lines.explanation;
+      is_explanation = lines.is_explanation;
       is = lines.is;
     },
   )
   staged text is (end.Done report) last w run lines = lines
 
   pub why_told : (text : List ℕ) (ended : RunEnd) (last : Option Accessed) (r : Outcome Written) → IsWatched q (tables_of said.space.memory said.rsdp) said.osi said.space ended last
-      → IfOk r (IsExplained (λ phase e. IsStageFound q phase text) ended last) → IfOk r (λ w. machine_text text ≡ Ok said → IsWhy q said w)
+      → IfOk r (IsExplained q.evaluation.steps (λ phase e. IsStageFound q phase text) ended last) → IfOk r (λ w. machine_text text ≡ Ok said → IsWhy q said w)
   why_told text ended last (Ok w) run lines = λ is. record { ended = ended; last = last; is_run = run; is_explained = staged text is ended last w run lines }
   why_told text ended last (Err e) run lines = tt
 
@@ -75,4 +76,4 @@ module _ (q : Asking) (text : List ℕ) where
   registers_refused (Ok w) h i ne = absurd (cc i.0)
   registers_refused {e = e} (Err x) h i ne = text_refused e x h i.1 ne
 
-pub ruleset telling = (told_stage, why_told, registers_told, why_answered, registers_answered, why_refused, registers_refused)
+pub ruleset telling = (explanation_told, why_told, registers_told, why_answered, registers_answered, why_refused, registers_refused)

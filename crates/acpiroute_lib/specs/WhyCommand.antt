@@ -9,7 +9,9 @@ use Rattle.ar_tables.specs.declared.tables.Tables.{Tables}
 use Rattle.ar_tables.specs.FindTables.{tables_of}
 use Rattle.machine_text.specs.MachineText.{machine_text}
 use Rattle.machine_text.specs.declared.machine_lines.MachineText.{MachineText}
+use Rattle.acpi_explain.specs.Explaining.{IsExplanation}
 use Rattle.acpi_explain.specs.Told.{shown_access}
+use Rattle.acpi_explain.specs.declared.explanation.Explanation.{Explanation}
 use Rattle.acpi_explain.specs.declared.stage.Stage.{Stage}
 use Rattle.acpi_explain.specs.declared.told.Phase.{Phase}
 use Rattle.watched_space.specs.Filling.{Filled, filled}
@@ -21,7 +23,7 @@ use Rattle.acpiroute_words.specs.Written.{Written}
 use Rattle.acpiroute_words.specs.declared.completion.Completion.TheVariants.{Done}
 use Rattle.acpi_machine.specs.MachineStates.{MachineState}
 use Rattle.acpiroute_lib.specs.Ended.{IsMachineEnd, IsEnd}
-use Rattle.acpiroute_lib.specs.Explaining.{refused_text, done_text}
+use Rattle.acpiroute_lib.specs.LinkTexts.{done_text}
 use Rattle.acpiroute_lib.specs.MissingLines.{missing_lines}
 use Rattle.acpiroute_lib.specs.WhyStages.{machine_phase, run_phase, IsPhase, IsStageOf, IsStageIn}
 use Rattle.acpiroute_words.specs.declared.request.Asking.{Asking}
@@ -57,28 +59,25 @@ abbrev pub IsStageFound : Asking → Option Phase → List ℕ → Option Stage 
 IsStageFound q phase text stage = (said : MachineText) → machine_text text ≡ Ok said
     → IsStageIn (watched byte_accesses) phase q (tables_of said.space.memory said.rsdp) said.osi (first_watch said.space) stage
 
--- The refusal of the run, in its lines, with a stage of which this holds. Which terms were being evaluated and how many steps they took,
--- the name of the refusal and the help are not said here: the first comes from the evaluator's own frames, the others stand in a table.
-pub record IsRefusalTold (IsIt : Option Stage → Type 0) (e : Refusal) (access : Option Accessed) (w : Written) : Type 0 where
-  pub name : List ℕ
+-- The text of an explanation of the refusal of the run, with a stage of which this holds, where so many steps might be taken.
+pub record IsRefusalTold (steps : ℕ) (IsIt : Option Stage → Type 0) (e : Refusal) (access : Option Accessed) (w : Written) : Type 0 where
   pub stage : Option Stage
   pub is_stage : IsIt stage
-  pub places : List ℕ
-  pub steps : List ℕ
-  pub help : List ℕ
-  pub is : w ≡ told (refused_text e name stage places access steps help)
+  pub explanation : Explanation
+  pub is_explanation : IsExplanation e stage access steps explanation
+  pub is : w ≡ told explanation.text.items
 
 -- the lines of how a run ended, with a stage of which this holds; want of memory is told in none
-abbrev pub IsExplained : (Option Phase → Refusal → Option Stage → Type 0) → RunEnd → Option Accessed → Written → Type 0
-IsExplained IsIt (end.Refused phase e) last w = (e ≢ OutOfMemory) × IsRefusalTold (IsIt phase e) e (shown_access e last) w
-IsExplained IsIt (end.Done report) last w = w ≡ told (done_text report)
+abbrev pub IsExplained : ℕ → (Option Phase → Refusal → Option Stage → Type 0) → RunEnd → Option Accessed → Written → Type 0
+IsExplained steps IsIt (end.Refused phase e) last w = (e ≢ OutOfMemory) × IsRefusalTold steps (IsIt phase e) e (shown_access e last) w
+IsExplained steps IsIt (end.Done report) last w = w ≡ told (done_text report)
 
 -- what is told where the run is refused: the stage of just this run, at which it is refused so
 pub record IsWhy (q : Asking) (said : MachineText) (w : Written) : Type 0 where
   pub ended : RunEnd
   pub last : Option Accessed
   pub is_run : IsWatched q (tables_of said.space.memory said.rsdp) said.osi said.space ended last
-  pub is_explained : IsExplained (λ phase e. IsStageOf (watched byte_accesses) q (tables_of said.space.memory said.rsdp) said.osi (first_watch said.space) e) ended last w
+  pub is_explained : IsExplained q.evaluation.steps (λ phase e. IsStageOf (watched byte_accesses) q (tables_of said.space.memory said.rsdp) said.osi (first_watch said.space) e) ended last w
 
 -- ---- which registers are missing
 

@@ -3,20 +3,17 @@ ghost use Rattle.std.specs.Prelude.{◌≡◌, ◌++◌, IfOk, IfErr, OnOk, Ok, 
 ghost use Rattle.ar_space.specs.Outcome.{NotMemory};
 ghost use Rattle.ar_space.specs.declared.refusal.Refusal.TheVariants.{OutOfMemory};
 ghost use Rattle.machine_text.specs.MachineText.{machine_text};
-ghost use Rattle.acpi_explain.specs.Told.{shown_access};
 ghost use Rattle.acpiroute_words.specs.ErrorLines.{error_line};
-ghost use Rattle.acpiroute_lib.specs.WhyCommand.{told, IsStageFound, IsRefusalTold, IsExplained, IsListed};
+ghost use Rattle.acpiroute_lib.specs.WhyCommand.{told, IsStageFound, IsExplained, IsListed};
 ghost use Rattle.acpiroute_lib.specs.WhyCommand.{IsWhy, IsRegisters};
 ghost use Rattle.acpiroute_lib.specs.WhyCommand.{IsWhyAnswer, IsRegistersAnswer};
 
-use crate::explaining::refused_text;
 use crate::link_texts::done_text;
 use crate::place_words::missing_lines;
 use crate::refused_stage::stage_when_refused;
 use crate::run_end::RunEnd;
 use crate::shown::{filled_run, watched_run};
-use crate::trace_lines::{TraceText, trace_text};
-use acpi_explain::{Stage, help_for, shown_access};
+use acpi_explain::Explanation;
 use acpiroute_words::{Answer, Asking, Completion, write_error_line};
 use aml_meaning::Trace;
 use ar_space::{Place, Refusal};
@@ -33,21 +30,6 @@ fn told(text: Vec<u8>) -> Answer
     }
 }
 
-/// The refusal of a run, in its lines.
-fn refusal_answer(
-    alloc: Global,
-    refusal: &Refusal,
-    stage: &Option<Stage>,
-    last: Option<Accessed>,
-    traced: &TraceText,
-) -> Result<Answer, AllocError>
-    ensures { IfOk result (IsRefusalTold (λ s. s ≡ stage.now) refusal.now (shown_access refusal.now last)) }
-{
-    let help = help_for(refusal.number());
-    let access = shown_access(refusal, last);
-    Ok(told(refused_text(alloc, refusal, &help, stage, traced, access)?))
-}
-
 /// The lines of how a run over a machine text ended. Want of memory is told in none.
 #[tactic(auto, using(crate::proofs::Telling::telling))]
 fn explained(
@@ -59,14 +41,15 @@ fn explained(
     text: &[u8],
 ) -> Result<Answer, Refusal>
     ensures memory { IfErr result (λ refusal. refusal ≡ OutOfMemory) }
-    ensures lines { IfOk result (IsExplained (λ phase e. IsStageFound asking.now phase text.now) end last) }
+    ensures lines { IfOk result (IsExplained asking.now.evaluation.steps
+        (λ phase e. IsStageFound asking.now phase text.now) end last) }
 {
     match end {
         RunEnd::Refused(_, Refusal::OutOfMemory) => Err(Refusal::OutOfMemory),
         RunEnd::Refused(phase, refusal) => {
             let stage = stage_when_refused(alloc, asking, phase, text)?;
-            let traced = trace_text(alloc, trace, &stage, asking.evaluation.steps)?;
-            Ok(refusal_answer(alloc, &refusal, &stage, last, &traced)?)
+            let why = Explanation::new(alloc, refusal, stage, last, trace, asking.evaluation)?;
+            Ok(told(why.text))
         }
         RunEnd::Done(report) => Ok(told(done_text(alloc, &report)?)),
     }

@@ -1,0 +1,8 @@
+use Rattle.acpi_explain.proofs.Putting.{no_terms, more_terms}
+use Rattle.acpi_explain.proofs.trace_lines.term_lines.Goals as goal
+
+pub loop-place-init : goal.loop-place-init
+loop-place-init c = no_terms c.new-text.result.items c.new-text.ensures.items
+
+pub loop-place-preserved : goal.loop-place-preserved
+loop-place-preserved c = more_terms c.loop-place.text.items c.put_line.new.text.items _ c.loop-place.invariant c.in_ok-put_line.ensures
