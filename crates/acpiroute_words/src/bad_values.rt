@@ -79,7 +79,7 @@ fn bad_argument<'a>(
 fn bad_question<'a>(matches: &ArgMatches<'a>) -> Option<BadValue<'a>> {
     let value = matches.get_str("question")?;
     let takes = if value != "eval" {
-        "eval"
+        "only eval may stand here"
     } else if matches.get_str("path").is_none() {
         "a path has to stand behind it"
     } else {

@@ -1,7 +1,7 @@
 use Rattle.std.proofs.Common.{◌∙◌, ap, ◌++◌}
-use Rattle.acpiroute_lib.specs.Explaining.{stage_line, access_line, help_line}
-use Rattle.acpiroute_lib.proofs.Putting.{five_put}
-use Rattle.acpiroute_lib.proofs.explaining.refused_text.Goals as goal
+use Rattle.acpi_explain.specs.Explaining.{stage_line, access_line, help_line}
+use Rattle.acpi_explain.proofs.Putting.{five_put}
+use Rattle.acpi_explain.proofs.explaining.refused_text.Goals as goal
 
 pub returns : goal.returns
 returns c =

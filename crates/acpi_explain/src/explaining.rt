@@ -1,12 +1,13 @@
 //! The lines of `why` where a run is refused.
 ghost use Rattle.std.specs.Prelude.{◌≡◌, ◌++◌, IfOk, OnOk};
 ghost use Rattle.aml_path.specs.Text.{text_of};
-ghost use Rattle.acpiroute_lib.specs.Explaining.{table_words, stage_words, stage_line, direction_word, access_line};
-ghost use Rattle.acpiroute_lib.specs.Explaining.{refusal_line, help_line, refused_text};
+ghost use Rattle.acpi_explain.specs.Explaining.{table_words, stage_words, stage_line, direction_word, access_line};
+ghost use Rattle.acpi_explain.specs.Explaining.{refusal_line, help_line, refused_text};
 
-use crate::place_words::put_place;
+use crate::help::Help;
+use crate::places::put_place;
+use crate::stage::Stage;
 use crate::trace_lines::TraceText;
-use acpi_explain::{Help, Stage};
 use acpiroute_words::{put_number, put_path, refusal_words};
 use aml_path::Path;
 use ar_space::Refusal;
