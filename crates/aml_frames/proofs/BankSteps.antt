@@ -1,6 +1,5 @@
 -- Accesses of fields of a bank, one unit after another: each step keeps what is left of the access.
 use Rattle.std.proofs.Common.{◌≡◌, ◌≤◌, ◌<◌, ◌+◌, ◌*◌, ℕ, List, [], ◌∷◌, length, true, false, None, Some, Ok, Err, IfOk, refl, ◌∙◌, ap, sym, arith}
-use Rattle.std.specs.Prelude.{Option}
 use Rattle.std.proofs.Math.Nat.{mul-le-mul_right}
 use Rattle.ar_space.specs.Accesses.{Accesses}
 use Rattle.ar_space.specs.Outcome.{Outcome}

@@ -2,14 +2,14 @@
 //! selects. The operands stand next.
 ghost use Rattle.std.specs.Prelude.{◌≡◌, ◌≤◌, ◌<◌, IfOk};
 ghost use Rattle.ar_space.specs.Change.{Does};
-ghost use Rattle.aml_marked.specs.Marked.{a_name};
-ghost use Rattle.aml_meaning.specs.FieldTerms.{region_found, field_found};
+ghost use Rattle.aml_marked.specs.Marked.{a_name, an_integer, over};
+ghost use Rattle.aml_meaning.specs.FieldTerms.{region_found, field_found, fields_laid};
 ghost use Rattle.aml_meaning.specs.Meaning.{meaning};
 ghost use Rattle.aml_meaning.specs.Run.{lift};
 ghost use Rattle.aml_meaning.specs.declared.term_kind.WideKind.TheVariants as wides;
-ghost use Rattle.aml_frames.specs.Places.{at_place};
+ghost use Rattle.aml_frames.specs.Places.{at_place, terms};
 ghost use Rattle.aml_frames.specs.RegionTerms.{behind_name, bank_declared, bank_names_run};
-ghost use Rattle.aml_frames.specs.Operands.{outside_at};
+ghost use Rattle.aml_frames.specs.Operands.{fields_at, outside_at};
 ghost use Rattle.aml_frames.specs.Follow.{at_position, wide_run, Leads, EndsAt};
 ghost use Rattle.aml_frames.specs.Weights.{next_weight};
 
@@ -18,7 +18,7 @@ use crate::field_lists::lay_fields;
 use crate::frames::{DeclarationPart, Frame, Next};
 use crate::tracing::told;
 use crate::values::integer_of;
-use aml_meaning::Running;
+use aml_meaning::{Flow, Running};
 use aml_objects::{Bank, FieldSource, Value};
 use ar_space::{Refusal, Space};
 use std::alloc::Global;
@@ -42,7 +42,7 @@ pub(crate) fn begin_bank_fields<S: Space>(
 }
 
 /// The region and the bank field are found whose names stand next, and the value that selects the bank is evaluated.
-#[tactic(auto, using(crate::proofs::BankTerms::naming_banks))]
+#[tactic(auto, using(crate::proofs::BankTerms::naming_banks), unfolding(crate::specs::RegionTerms::bank_names_run))]
 fn begin_bank_names<S: Space>(
     alloc: Global,
     run: &mut Running<S>,
@@ -96,7 +96,7 @@ fn take_bank<S: Space>(
     Ok(bank)
 }
 
-/// BankField whose value was evaluated: its flags and its fields stand next, and evaluation goes on behind them.
+/// BankField whose value was evaluated: its flags and its fields stand next.
 #[tactic(auto, using(crate::proofs::BankTerms::declaring_banks), unfolding(aml_meaning::specs::BankTerms::banked_laid))]
 pub(crate) fn declare_bank_fields<S: Space>(
     alloc: Global,
@@ -112,13 +112,31 @@ pub(crate) fn declare_bank_fields<S: Space>(
         (bank_declared list.0 lies_in.0 lies_in.1 value act.old) run.old }
     ensures ends { EndsAt result act.new (at_position act.old list.1) }
 {
-    let (levels, outer) = list;
     let (region, field) = lies_in;
     let value = integer_of(&run.world, value)?;
+    let source = FieldSource::Bank(region, Bank { field, value });
+    let flow = lay_behind_flags(alloc, run, act, source, list)?;
+    Ok(Next::Flow(flow))
+}
+
+/// The fields of a list whose flags stand next; evaluation goes on behind them.
+fn lay_behind_flags<S: Space>(
+    alloc: Global,
+    run: &mut Running<S>,
+    act: &mut Activation,
+    source: FieldSource,
+    list: (u8, Position),
+) -> Result<Flow, Refusal>
+    ensures spent { run.new.1 ≤ run.old.1 }
+    ensures means { Does result run.new (fields_laid act.old.scope act.old.depth source
+        (an_integer 1 act.old.place).0 (fields_at (terms act.old list.0) (over 1 act.old.place))) run.old }
+    ensures behind { act.new ≡ at_position act.old list.1 }
+{
+    let (levels, outer) = list;
     let flags = u64::from(act.first());
     act.over(1);
-    let source = FieldSource::Bank(region, Bank { field, value });
-    let flow = lay_fields(alloc, run, act, source, flags, act.field_list(levels))?;
+    let elements = act.field_list(levels);
+    let flow = lay_fields(alloc, run, act, source, flags, elements);
     act.go_to(outer);
-    Ok(Next::Flow(flow))
+    flow
 }
