@@ -85,7 +85,9 @@ struct acpiroute_reply {
     size_t text_length;
     /*
      * How many bytes the line has: what the program would write to its errors; 0 where it writes nothing there. They are at the
-     * start of the buffer `line`. A refusal is one line with a line feed at its end.
+     * start of the buffer `line`. A refusal is one line with a line feed at its end. With the option "--profile wide" of
+     * `acpiroute_route`, `acpiroute_names` and `acpiroute_eval` lines "passed R P" stand before it, or alone, for what was passed
+     * over in loading and initializing: 65 lines at most.
      */
     size_t line_length;
     /*

@@ -6,6 +6,7 @@ pub mod Machines
 pub mod NameLines
 pub mod One
 pub mod Packages
+pub mod PassedTold
 pub mod Phases
 pub mod Putting
 pub mod Routes
