@@ -122,7 +122,9 @@ pub mod TreesCost
 pub mod UnitsTogether
 pub mod UnreadUnits
 pub mod ItemsOfLists
+pub mod ItemsTogether
 pub mod JoinedResources
+pub mod Levels
 pub mod LimitsRefused
 pub mod LimitsTaken
 pub mod LocatedRegions

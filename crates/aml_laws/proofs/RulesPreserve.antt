@@ -483,7 +483,7 @@ module _ {S : Type 0} {accesses : Accesses S} {relation : WorldRelation accesses
 
 -- ---- evaluations
 
-evaluated_within_preserves : {S : Type 0} {accesses : Accesses S} (relation : WorldRelation accesses) (n : ℕ) (t : Task) (w : State S) (b : ℕ) → relation.Leads w (evaluated_within accesses n t (w, b)).1.0
+pub evaluated_within_preserves : {S : Type 0} {accesses : Accesses S} (relation : WorldRelation accesses) (n : ℕ) (t : Task) (w : State S) (b : ℕ) → relation.Leads w (evaluated_within accesses n t (w, b)).1.0
 unfolding evaluated_within
 evaluated_within_preserves {accesses = accesses} relation zero t w b = relation.reflexive w
 evaluated_within_preserves {accesses = accesses} relation (suc n) t w zero = relation.reflexive w
