@@ -15,7 +15,7 @@ use Rattle.aml_meaning.specs.Tasks.{Task, task, passes_over, item}
 use Rattle.aml_meaning.proofs.Agree.{Agree}
 
 module _ {S : Type 0} where
-  refused_less : (b : Bool) (scope : List Seg) (e : Refusal) (s : State S × ℕ) → (if b then (Ok flow.Next, (with_passed scope e s.0, s.1)) else (Err e, s)).1.1 ≤ s.1
+  refused_less : (b : Bool) (scope : List Seg) (e : Refusal) (s : State S × ℕ) → (if◌then◌else◌ {A = Outcome Flow × (State S × ℕ)} b (Ok flow.Next, (with_passed scope e s.0, s.1)) (Err e, s)).1.1 ≤ s.1
   refused_less true scope e s = omega arith
   refused_less false scope e s = omega arith
 
@@ -28,7 +28,7 @@ module _ {S : Type 0} where
   either_same true m n k l s h i = h
   either_same false m n k l s h i = i
 
-  either_less : (b : Bool) (m k : Run S Flow) (s : State S × ℕ) → (m s).1.1 ≤ s.1 → (k s).1.1 ≤ s.1 → (if b then m s else k s).1.1 ≤ s.1
+  either_less : (b : Bool) (m k : Run S Flow) (s : State S × ℕ) → (m s).1.1 ≤ s.1 → (k s).1.1 ≤ s.1 → (if◌then◌else◌ {A = Outcome Flow × (State S × ℕ)} b (m s) (k s)).1.1 ≤ s.1
   either_less true m k s h i = h
   either_less false m k s h i = i
 

@@ -1,15 +1,18 @@
 -- A change of a part of the world is a change of the world.
-use Rattle.std.specs.Prelude.{◌≡◌, ℕ, List}
-use Rattle.std.proofs.Common.{ap, refl}
+use Rattle.std.specs.Prelude.{◌≡◌, ℕ, List, Bool, true, false, Err}
+use Rattle.std.proofs.Common.{ap, refl, sym, ◌∙◌}
 use Rattle.ar_space.specs.declared.integer_width.IntegerWidth.{IntegerWidth}
 use Rattle.ar_space.specs.Outcome.{Outcome}
+use Rattle.ar_space.specs.declared.refusal.Refusal.{Refusal}
 use Rattle.ar_space.specs.Change.{Change, Does}
+use Rattle.aml_path.specs.declared.segment.Seg.{Seg}
 use Rattle.aml_grammar.specs.declared.arities.Arity.{Arity}
 use Rattle.aml_objects.specs.Objects.{Objects}
 use Rattle.aml_namespace.specs.Namespace.{Namespace}
 use Rattle.aml_meaning.specs.declared.frame.Frame.{Frame}
 use Rattle.aml_meaning.specs.declared.profile.Profile.{Profile}
-use Rattle.aml_meaning.specs.PassedOver.{PassedOver}
+use Rattle.aml_meaning.specs.PassedOver.{PassedOver, is_passable}
+use Rattle.aml_meaning.specs.Passing.{noted, passed_noted, passed_over}
 use Rattle.aml_meaning.specs.State.{State, on_objects, on_names, on_space}
 use Rattle.aml_meaning.specs.Known.{Known, on_known}
 
@@ -41,3 +44,24 @@ module _ {S A : Type 0} {r : Outcome A} where
   }
 
 pub ruleset parts = (objects_changed, objects_read, known_changed, space_changed)
+
+-- ---- what is passed over is noted
+
+module _ {S : Type 0} {r : Outcome (Unit {0})} where
+  pub passed_changed : (n : Namespace) (a : List Arity) (o : Objects) (f : List Frame) (s : ℕ) (p : S) (i : List (List ℕ)) (d : IntegerWidth) (g : Profile) (q q1 : PassedOver) (scope : List Seg) (e : Refusal) (w : State S)
+      → record { names = n; arities = a; objects = o; frames = f; started = s; space = p; osi = i; width = d; profile = g; passed = q } ≡ w → Does r q1 (noted scope e) q
+      → Does r (record { names = n; arities = a; objects = o; frames = f; started = s; space = p; osi = i; width = d; profile = g; passed = q1 }) (passed_noted scope e) w
+  unfolding noted passed_noted
+  passed_changed n a o f s p i d g q q1 scope e w is h = record {
+    is = λ ne. rw (← is) (ap (λ (x : Outcome (Unit {0}) × PassedOver). (x.0, record { names = n; arities = a; objects = o; frames = f; started = s; space = p; osi = i; width = d; profile = g; passed = x.1 })) (h.is ne));
+  }
+
+  pub does_passed : {s s1 : State S} (scope : List Seg) (e : Refusal) (w : State S) (flag : Bool) → flag ≡ is_passable e → flag ≡ true → s ≡ w → Does r s1 (passed_noted scope e) s → Does r s1 (passed_over scope e) w
+  unfolding passed_noted passed_over
+  does_passed scope e w flag is yes same h = let holds : is_passable e ≡ true = sym is ∙ yes in record { is = λ ne. rw (holds, ← same) (h.is ne) }
+
+pub does_unpassed : {S : Type 0} (scope : List Seg) (e : Refusal) (w : State S) (flag : Bool) → flag ≡ is_passable e → flag ≡ false → Does (Err e) w (passed_over scope e) w
+unfolding passed_over
+does_unpassed scope e w flag is no = let holds : is_passable e ≡ false = sym is ∙ no in record { is = λ _. rw holds refl }
+
+pub ruleset passing = (passed_changed, does_passed, does_unpassed)

@@ -23,6 +23,9 @@ noted p e passed = (Ok tt, passed_with (record { refusal = e; scope = p }) passe
 abbrev pub with_passed : {S : Type 0} → List Seg → Refusal → State S → State S
 with_passed p e w = record w { passed = passed_with (record { refusal = e; scope = p }) w.passed }
 
+unfoldable pub passed_noted : {S : Type 0} → List Seg → Refusal → Change (State S) (Unit {0})
+passed_noted p e w = (Ok tt, with_passed p e w)
+
 -- or it isn't one that is passed over
 
 unfoldable pub passed_over : {S : Type 0} → List Seg → Refusal → Change (State S) (Unit {0})

@@ -1,16 +1,15 @@
 //! What the wide profile passes over, and goes on behind: items of lists at module level that are refused, and calls
 //! of initializing.
-ghost use Rattle.std.specs.Prelude.{◌≡◌, List};
+ghost use Rattle.std.specs.Prelude.{◌≡◌, OnOk};
 ghost use Rattle.ar_space.specs.Change.{Does};
-ghost use Rattle.ar_space.specs.declared.refusal.Refusal.TheVariants as refusals;
 ghost use Rattle.aml_meaning.specs.PassedOver.{nothing_passed, is_passable, is_passable_field, kept_with};
 ghost use Rattle.aml_meaning.specs.PassedOver.{is_passable_evaluation, counted_on};
-ghost use Rattle.aml_meaning.specs.Passing.{noted, passed_over};
+ghost use Rattle.aml_meaning.specs.Passing.{noted, passed_noted, passed_over};
 
 use crate::world_state::WorldState;
 use aml_path::Path;
 use ar_space::{EvaluationFault, FieldFault, Refusal};
-use std::alloc::Global;
+use std::alloc::{AllocError, Global};
 use std::marker::Model;
 
 /// How many refusals are kept; all are counted.
@@ -67,18 +66,43 @@ impl PassedOver {
         &self.kept
     }
 
+    #[tactic(auto, using(ar_space::specs::Change::changing), unfolding(crate::specs::Passing::noted))]
     fn note(&mut self, alloc: Global, scope: &Path, refusal: Refusal) -> Result<(), Refusal>
         ensures { Does result self.new (noted scope.now refusal) self.old }
     {
-        if self.kept.len() < MOST_KEPT {
-            let scope = scope.copy(alloc)?;
-            self.kept.push(PassedItem { refusal, scope })?;
-        }
-        if self.count < u64::MAX {
-            self.count += 1;
-        }
+        keep(alloc, &mut self.kept, scope, refusal)?;
+        self.count = counted_on(self.count);
         Ok(())
     }
+}
+
+/// A refusal is put behind those that are kept, if it is among the first 64.
+fn keep(
+    alloc: Global,
+    kept: &mut Vec<PassedItem>,
+    scope: &Path,
+    refusal: Refusal,
+) -> Result<(), AllocError>
+    ensures { OnOk result (kept.new.items ≡ kept_with (record { refusal = refusal; scope = scope.now })
+        kept.old.items) }
+{
+    if kept.len() >= MOST_KEPT {
+        return Ok(());
+    }
+    match scope.copy(alloc) {
+        Ok(scope) => {
+            kept.push(PassedItem { refusal, scope })?;
+            Ok(())
+        }
+        Err(_) => Err(AllocError),
+    }
+}
+
+/// One more, up to 2^64 - 1.
+fn counted_on(count: u64) -> u64
+    ensures { result ≡ counted_on count }
+{
+    if count == u64::MAX { count } else { count + 1 }
 }
 
 /// Whether the wide profile passes over what is refused so: faults of values, of names, and of what a field or a
@@ -133,7 +157,7 @@ impl<S> WorldState<S> {
 
     /// Passes over a refusal, which belongs to a scope: it is noted, and what was told of where evaluation was refused
     /// is forgotten. Another refusal than those that are passed over is handed back, and then nothing changes.
-    #[tactic(auto, unfolding(crate::specs::Passing::passed_over))]
+    #[tactic(auto, using(crate::proofs::Lifted::passing))]
     pub fn pass_over(
         &mut self,
         alloc: Global,
@@ -146,6 +170,13 @@ impl<S> WorldState<S> {
             return Err(refusal);
         }
         self.forget_trace();
+        self.note_passed(alloc, scope, refusal)
+    }
+
+    #[tactic(auto, using(crate::proofs::Lifted::passing))]
+    fn note_passed(&mut self, alloc: Global, scope: &Path, refusal: Refusal) -> Result<(), Refusal>
+        ensures { Does result self.new (passed_noted scope.now refusal) self.old }
+    {
         self.passed.note(alloc, scope, refusal)
     }
 }
