@@ -17,11 +17,11 @@ use Rattle.aml_laws.proofs.Together.{Sides, SideBySide, Passes, MayPass, Togethe
 use Rattle.aml_laws.proofs.Levels.{level}
 use Rattle.machine_laws.proofs.MachineShapes.{machine_beside, machines}
 
-abbrev Called : Type 0 → Type 0
+abbrev pub Called : Type 0 → Type 0
 Called S = Outcome (Unit {0}) × MachineState S
 
 -- what a refused call comes to, by the profile and by the refusal
-abbrev refused_by : {S : Type 0} → Bool → Bool → List Seg → Refusal → MachineState S → Called S
+abbrev pub refused_by : {S : Type 0} → Bool → Bool → List Seg → Refusal → MachineState S → Called S
 refused_by true true q e s = (Ok tt, record s { world = with_passed q e s.world })
 refused_by true false q e s = (Err e, s)
 refused_by false passable q e s = (Err e, s)
@@ -38,7 +38,7 @@ module _ {S : Type 0} where
   wide_is true passable q e s is = passable_is (is_passable e) q e s ∙ ap (λ b. refused_by true b q e s) is
   wide_is false passable q e s is = refl
 
-  refused_is : (q : List Seg) (e : Refusal) (s : MachineState S) → refused_call q e s ≡ refused_by (is_wide s.world.profile) (is_passable e) q e s
+  pub refused_is : (q : List Seg) (e : Refusal) (s : MachineState S) → refused_call q e s ≡ refused_by (is_wide s.world.profile) (is_passable e) q e s
   refused_is q e s = wide_is (is_wide s.world.profile) (is_passable e) q e s refl
 
   by_space : (wide passable : Bool) (q : List Seg) (e : Refusal) (s : MachineState S) → (refused_by wide passable q e s).1.world.space ≡ s.world.space
