@@ -18,7 +18,7 @@ use Rattle.aml_meaning.specs.declared.flow.Flow.TheVariants as flow
 use Rattle.aml_meaning.specs.State.{State}
 use Rattle.aml_meaning.specs.Run.{Run}
 use Rattle.aml_meaning.specs.PassedOver.{is_passable}
-use Rattle.aml_meaning.specs.Passing.{with_passed, passed_over, item_done, passing}
+use Rattle.aml_meaning.specs.Passing.{with_passed, item_done, passing}
 use Rattle.aml_meaning.specs.Tasks.{Task, passes_over, goes_on}
 use Rattle.aml_meaning.specs.Invocations.{left, returned_by, leaving}
 use Rattle.aml_frames.specs.declared.frames.Control.{Control}
@@ -52,12 +52,6 @@ use Rattle.aml_frames.specs.Data.{package_run}
 use Rattle.aml_frames.specs.Follow.{at_position, ends, turn_items, read_access, term_run, items_run, list_run, all_left, body_run, resumed, next_run, next_ends, Leads}
 use Rattle.aml_frames.specs.Weights.{step_weight, charged}
 use Rattle.aml_frames.specs.Stack.{Rest, whole, frame_met, met, unwinding, at_bottom, then_all, machine, Goes, entry_weight, stack_weight, control_weight}
-
--- ---- what is passed over is noted
-
-noted_as : {S : Type 0} {u : Unit {0}} (e : Refusal) (w : State S) (scope : List Seg) (before : State S) → is_passable e ≡ true → passed_over scope e before ≡ (Ok u, w) → w ≡ with_passed scope e before
-unfolding passed_over
-noted_as e w scope before yes h = sym (ap (λ a. a.1) (rw yes at h))
 
 -- ---- the newest entry meets the outcome first
 
@@ -196,13 +190,6 @@ module _ {S : Type 0} {ac : Accesses S} {ev : Task → Run S Flow} where
       → Goes ac ev r d ys s1 (machine ac ev (control.Flow f) c (xs ++ entry.Item x ∷ [])) s
   goes_item {s = s} c xs x f h = record { is = λ ne. at_item ac ev f c xs x s ∙ h.is ne }
 
-  -- an item that is passed over
-  pub goes_passed : {s s1 : State S × ℕ} {w : State S} {u : Unit {0}} (e : Refusal) (c d : Site) (xs ys : List Entry) (x : ListItem) (scope : List Seg) → is_passable e ≡ true → scope ≡ x.list.scope → Does (Ok u) w (passed_over scope e) s.0 → d ≡ behind_term x.list x.behind.levels → ys ≡ xs
-      → s1 ≡ (w, s.1) → Goes ac ev (Ok (control.Items x.behind)) d ys s1 (then_all ac ev (stop e) c (xs ++ entry.Item x ∷ [])) s
-  goes_passed {s = s} {w = w} e c d xs ys x scope yes at h stands same after =
-      let noted : w ≡ with_passed x.list.scope e s.0 = noted_as e w scope s.0 yes (h.is tt) ∙ ap (λ p. with_passed p e s.0) at in
-      rw (stands, same, after) (record { is = λ _. passed_on ac ev e c xs x s yes ∙ ap (λ v. machine ac ev (control.Items x.behind) (behind_term x.list x.behind.levels) xs (v, s.1)) (sym noted) })
-
 module _ {S : Type 0} {ac : Accesses S} where
   -- ---- an item of a list is done
 
@@ -291,6 +278,7 @@ module _ {S : Type 0} {ac : Accesses S} where
   -- an item begins that may be passed over
   item_kept_is : {s : State S × ℕ} (c : Site) (xs : List Entry) (i : Items) (n : ℕ) → passes_over c.depth s.0.profile ≡ true → 0 < i.left → 0 < length c.place.rest → n ≡ i.left - 1
       → machine ac (meaning ac) (control.Items i) c xs s ≡ machine ac (meaning ac) (control.Term i.levels) c (xs ++ entry.Item (record { list = c; behind = record { left = n; levels = i.levels; outer = i.outer } }) ∷ []) s
+  unfolding then_all
   item_kept_is {s = s} c xs i n yes some left one =
       let x : ListItem = record { list = c; behind = record { left = n; levels = i.levels; outer = i.outer } } in
       sym (at_item_passing ac (meaning ac) (term_run ac (meaning ac) c i.levels) xs x s ∙ ap (λ r. unwinding ac (meaning ac) xs (at_bottom ac (meaning ac)) (at_position c i.outer) r.0 r.1) (sym (list_passing c i n s yes some left one)))
@@ -330,7 +318,15 @@ pub falls_done : (r : Outcome Control) (a x y : ℕ) → IfOk r (λ c. x + contr
 falls_done (Ok c) a x y h = omega (arith, h)
 falls_done (Err z) a x y h = tt
 
-pub ruleset listing_on = (weight_on, falls_item, falls_done, item_last, item_on, item_none, item_over, item_next, item_refused, item_kept, never_memory, goes_memory)
+-- an item that may be passed over begins
+pub falls_kept : (r : Outcome Control) (a levels : ℕ) (xs ys : List Entry) (x : ListItem) → OnOk r (ys ≡ xs ++ entry.Item x ∷ []) → IfOk r (λ c. c ≡ control.Term levels) → IfOk r (λ c. charged a + (stack_weight ys + control_weight c) < charged a + (stack_weight xs + 4))
+falls_kept (Ok c) a levels xs ys x pushed next =
+    let k = ap stack_weight pushed ∙ weight_on xs (entry.Item x) in
+    let none : control_weight c ≡ 0 = ap control_weight next in
+    omega (arith, k, none)
+falls_kept (Err e) a levels xs ys x pushed next = tt
+
+pub ruleset listing_on = (falls_kept, weight_on, falls_item, falls_done, item_last, item_on, item_none, item_over, item_next, item_refused, item_kept, never_memory, goes_memory)
 
 pub ruleset going = (weight_on, goes_flow, goes_items, goes_package, goes_term, goes_turn, goes_scope, goes_body, goes_body_then, goes_target, goes_division, goes_found, goes_read, goes_counted, goes_access_then, goes_flow_then, goes_memory)
 

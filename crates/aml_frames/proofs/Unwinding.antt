@@ -11,7 +11,7 @@ use Rattle.aml_meaning.specs.declared.flow.Flow.{Flow}
 use Rattle.aml_meaning.specs.State.{State}
 use Rattle.aml_meaning.specs.Run.{Run}
 use Rattle.aml_meaning.specs.PassedOver.{is_passable}
-use Rattle.aml_meaning.specs.Passing.{passed_over}
+use Rattle.aml_meaning.specs.Passing.{with_passed, passed_over}
 use Rattle.aml_meaning.specs.Tasks.{Task}
 use Rattle.aml_frames.specs.declared.frames.Control.{Control}
 use Rattle.aml_frames.specs.declared.frames.Control.TheVariants as control
@@ -19,10 +19,10 @@ use Rattle.aml_frames.specs.declared.frames.Entry.{Entry}
 use Rattle.aml_frames.specs.declared.frames.Entry.TheVariants as entry
 use Rattle.aml_frames.specs.declared.frames.Items.{Items}
 use Rattle.aml_frames.specs.declared.frames.ListItem.{ListItem}
-use Rattle.aml_frames.specs.Places.{Site}
+use Rattle.aml_frames.specs.Places.{Site, behind_term}
 use Rattle.aml_frames.specs.Weights.{charged}
 use Rattle.aml_frames.specs.Stack.{then_all, machine, Goes, stack_weight, entry_weight, control_weight}
-use Rattle.aml_frames.proofs.Machine.{weight_on, stopped_anywhere, unwound_end}
+use Rattle.aml_frames.proofs.Machine.{weight_on, stopped_anywhere, unwound_end, passed_on}
 
 never_passed : (e : Refusal) → e ≡ OutOfMemory → is_passable e ≡ true → ⊥
 never_passed e is yes = absurd (cc (sym yes ∙ ap is_passable is))
@@ -50,6 +50,12 @@ falls_passed (Err e) zs ys xs y x i w same k is h next = tt
 pub falls_unwound : {e : Refusal} (a b n m u v k : ℕ) → b ≡ a → (is_passable e ≡ true → charged a + (u + 1) < charged n + m) → is_passable e ≡ true → v + k ≤ u + 1 → charged b + (v + k) < charged n + m
 falls_unwound a b n m u v k same h yes le = let p = h yes in let q = ap charged same in omega (arith, p, q, le)
 
+-- ---- what is passed over is noted
+
+noted_as : {S : Type 0} {u : Unit {0}} (e : Refusal) (w : State S) (scope : List Seg) (before : State S) → is_passable e ≡ true → passed_over scope e before ≡ (Ok u, w) → w ≡ with_passed scope e before
+unfolding passed_over
+noted_as e w scope before yes h = sym (ap (λ (a : Outcome (Unit {0}) × State _). a.1) (rw yes at h))
+
 -- ---- what it means
 
 module _ {S : Type 0} (ac : Accesses S) (ev : Task → Run S Flow) where
@@ -69,3 +75,12 @@ module _ {S : Type 0} (ac : Accesses S) (ev : Task → Run S Flow) where
   pub refused_unwound : {m : Run S Flow} {e f : Refusal} {s0 s s1 s2 : State S × ℕ} {d d2 : Site} {ys zs : List Entry} (c : Site) (xs : List Entry) (x : Control) → Same m s0 (machine ac ev x c xs) s → Goes ac ev (Err e) d ys s1 (machine ac ev x c xs) s
       → (f ≢ OutOfMemory → e ≢ OutOfMemory) → (f ≢ OutOfMemory → zs ≡ []) → Goes ac ev (Err f) d2 zs s2 (then_all ac ev (stop e) d ys) s1 → Does (Err f) s2 m s0
   refused_unwound {f = f} {s2 = s2} {d2 = d2} {zs = zs} c xs x h i known ended g = record { is = λ ne. h.is ∙ (i.is (known ne) ∙ (g.is ne ∙ unwound_end ac ev f d2 zs s2 (ended ne))) }
+
+  -- an item that is passed over
+  pub goes_passed : {s s1 : State S × ℕ} {w : State S} {u : Unit {0}} (e : Refusal) (c d : Site) (xs ys : List Entry) (x : ListItem) (scope : List Seg) → is_passable e ≡ true → scope ≡ x.list.scope → Does (Ok u) w (passed_over scope e) s.0 → d ≡ behind_term x.list x.behind.levels → ys ≡ xs
+      → s1 ≡ (w, s.1) → Goes ac ev (Ok (control.Items x.behind)) d ys s1 (then_all ac ev (stop e) c (xs ++ entry.Item x ∷ [])) s
+  goes_passed {s = s} {w = w} e c d xs ys x scope yes at h stands same after =
+      let noted : w ≡ with_passed x.list.scope e s.0 = noted_as e w scope s.0 yes (h.is tt) ∙ ap (λ p. with_passed p e s.0) at in
+      rw (stands, same, after) (record { is = λ _. passed_on ac ev e c xs x s yes ∙ ap (λ v. machine ac ev (control.Items x.behind) (behind_term x.list x.behind.levels) xs (v, s.1)) (sym noted) })
+
+pub ruleset passing = (goes_passed)

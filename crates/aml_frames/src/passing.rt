@@ -48,6 +48,7 @@ pub(crate) fn wait_for_list_item(
 
 /// Goes on behind an item that is refused. Only want of memory refuses it.
 #[cold]
+#[tactic(auto, using(crate::proofs::Unwinding::passing))]
 pub(crate) fn pass_item_over<S: Space>(
     alloc: Global,
     run: &mut Running<S>,

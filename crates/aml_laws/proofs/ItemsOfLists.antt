@@ -90,7 +90,7 @@ module _ {S : Type 0} where
 
 module _ {S : Type 0} (accesses : Accesses S) where
   -- what is passed over tells of no fault
-  unfaulted : (e : Refusal) (s t : S) → is_passable e ≡ true → RefusalExplained accesses e s t → Answered accesses s t
+  pub unfaulted : (e : Refusal) (s t : S) → is_passable e ≡ true → RefusalExplained accesses e s t → Answered accesses s t
   unfaulted (refusals.Space f) s t yes h = absurd (cc yes)
   unfaulted (refusals.Input f) s t yes h = absurd (cc yes)
   unfaulted _ s t yes h = h

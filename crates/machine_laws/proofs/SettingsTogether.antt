@@ -8,7 +8,7 @@ use Rattle.acpi_links.specs.Links.{PresentLink}
 use Rattle.acpi_configure.specs.Settling.{attempted, link_set, links_set, link_read, settled, settled_unless}
 use Rattle.route_report.specs.declared.report.SetLine.{SetLine}
 use Rattle.aml_laws.proofs.Together.{SideBySide, Together, give_together, then_together, wrapped_together, alike, none_ended}
-use Rattle.machine_laws.proofs.MachinesTogether.{machines}
+use Rattle.machine_laws.proofs.MachineShapes.{machines}
 use Rattle.machine_laws.proofs.LinksTogether.{folded_together, current_resources_together, resources_set_together}
 
 module _ {S T : Type 0} {accesses : Accesses S} {accesses2 : Accesses T} {side : SideBySide accesses accesses2} where
