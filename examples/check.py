@@ -133,6 +133,10 @@ busiest 1
 bound \_SB_.LNKA over 5
 set \_SB_.LNKA ok
 after \_SB_.LNKA 1
+trigger link \_SB_.LNKA level low
+trigger sci 9 edge high
+bus \_SB_.PCI0 0 128
+bus \_SB_.PCI0.P2P_ refused 78
 """
 FAULTY_REPORTS = [
     "", "no report\n", "acpiroute 2\r\nmode apic\r\n", "acpiroute 1\n", "acpiroute 2\n", "acpiroute 1\nmode apic\nlink LNKA\n",
@@ -140,7 +144,7 @@ FAULTY_REPORTS = [
     EMPTY_REPORT.replace("avoid -\n", ""), EMPTY_REPORT.replace("sci none\n", ""), EMPTY_REPORT + "sci none\n",
     EMPTY_REPORT.replace("-", "5 5"), EMPTY_REPORT.replace("none", "-", 1),
     EMPTY_REPORT + "first\n", EMPTY_REPORT + "unread \\_SB_ 74\n", SPARING_REPORT.replace("first\n", ""), SPARING_REPORT + "first\n",
-    SPARING_REPORT.replace("KBD_ 1", "KBD_"),
+    SPARING_REPORT.replace("KBD_ 1", "KBD_"), SPARING_REPORT.replace("level low", "level"), SPARING_REPORT.replace(" 0 128", " 128"),
 ]
 # Values of eval, and what show_value.py shows of them.
 SHOWN = {
@@ -226,7 +230,7 @@ def sources_served(report):
 
 def in_version_1(report):
     """The same report in version 1, which has no lines of the System Control Interrupt, of avoided interrupts and of options."""
-    lines = [it for it in report.splitlines() if it.split()[0] not in ("sci", "avoid", "spared", "unread", "first", "spread")]
+    lines = [it for it in report.splitlines() if it.split()[0] not in ("sci", "avoid", "spared", "unread", "first", "spread", "trigger", "bus")]
     return "\n".join(["acpiroute 1", *lines[1:]]) + "\n"
 
 
@@ -245,6 +249,9 @@ def check_graphs(check):
     told = json.loads(ran(tool("report_graph.py", "--json"), SPARING_REPORT)[1])
     check.same("a report of version 3 as JSON", (told["spared"], told["unread"], told["links"][0]["as_given"]),
                ([{"device": "\\_SB_.KBD_", "interrupts": [1]}], [{"device": "\\_SB_.COM1", "refused": 74}], False))
+    check.same("lines for a kernel as JSON", (told["triggers"], told["buses"]),
+               ([{"link": "\\_SB_.LNKA", "trigger": "level", "polarity": "low"}, {"sci": 9, "trigger": "edge", "polarity": "high"}],
+                [{"device": "\\_SB_.PCI0", "segment": 0, "bus": 128}, {"device": "\\_SB_.PCI0.P2P_", "refused": 78}]))
     check.same("report_graph.py over a report of nothing", ran(tool("report_graph.py"), EMPTY_REPORT)[0], 0)
 
 

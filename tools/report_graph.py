@@ -46,9 +46,11 @@ LINES = {word: re.compile(f"{word} {rest}" if rest else word) for word, rest in 
     "bound": rf"(?:(none)|(-|{PATH}(?: {PATH})*) over ({NUMBERS}))",
     "set": rf"({PATH}) (?:(ok|none)|refused ({NUMBER}))",
     "after": rf"({PATH}) (?:({STATE})|refused ({NUMBER}))",
+    "trigger": rf"(?:link ({PATH})|(wired|sci) ({NUMBER})) (level|edge) (low|high)",
+    "bus": rf"({PATH}) (?:({NUMBER}) ({NUMBER})|refused ({NUMBER}))",
 }.items()}
 # The lines that stand from a version on, and those of them that stand there once.
-SINCE = {"sci": 2, "avoid": 2, "spared": 3, "unread": 3, "first": 3, "spread": 3}
+SINCE = {"sci": 2, "avoid": 2, "spared": 3, "unread": 3, "first": 3, "spread": 3, "trigger": 3, "bus": 3}
 ONCE = ("sci", "avoid", "first")
 
 
@@ -87,6 +89,7 @@ class Report:
         self.io_apics, self.overrides, self.avoid, self.pins = [], [], [], []
         self.links, self.wired = {}, {}
         self.spared, self.unread, self.rule = [], [], "first"
+        self.triggers, self.buses = [], []
         self.added = set()
 
     def known(self, path):
@@ -116,6 +119,14 @@ class Report:
 
     def add_unread(self, device, refusal):
         self.unread.append({"device": device, "refused": int(refusal)})
+
+    def add_trigger(self, path, source, interrupt, trigger, polarity):
+        had = {"link": path} if path else {source: int(interrupt)}
+        self.triggers.append({**had, "trigger": trigger, "polarity": polarity})
+
+    def add_bus(self, device, segment, bus, refusal):
+        told = {"refused": int(refusal)} if refusal else {"segment": int(segment), "bus": int(bus)}
+        self.buses.append({"device": device, **told})
 
     def add_first(self):
         self.rule = "first"
@@ -232,7 +243,7 @@ def as_json(report):
         "sci": report.sci, "avoid": report.avoid,
         "spared": report.spared, "unread": report.unread, "rule": report.rule,
         "links": [link_json(it) for it in report.links.values()], "pins": report.pins, "interrupts": report.interrupts(),
-        "busiest": report.busiest, "bound": report.bound,
+        "busiest": report.busiest, "bound": report.bound, "triggers": report.triggers, "buses": report.buses,
     }
     return json.dumps(whole, indent=2) + "\n"
 

@@ -22,10 +22,11 @@ CRATE = "crates/route_report"
 definition = functools.partial(pages.definition, f"{CRATE}/specs")
 HEADING = "acpiroute"
 # The lines that a version has or not, by the field of the definition `first_said` that says so, and its value where it has them.
-FIELDS = {"sci": ("sci", "None"), "avoid": ("avoid", "None"), "spared": ("spared", "Some []"), "unread": ("spared", "Some []")}
+FIELDS = {"sci": ("sci", "None"), "avoid": ("avoid", "None"), "spared": ("spared", "Some []"), "unread": ("spared", "Some []"),
+          "trigger": ("spared", "Some []"), "bus": ("spared", "Some []")}
 RULE = ("rule", "None")
-# The lines whose form is read, and which claim nothing: `with_unread` leaves what was said, and the rule `First` is no claim.
-FORM_ALONE = ("unread", "first")
+# The lines whose form is read, and which claim nothing: `with_option` leaves what was said, and the rule `First` is no claim.
+FORM_ALONE = ("unread", "first", "trigger", "bus")
 HEAD = """# The lines of a report
 
 <!-- Written by tools/report_lines.py from tables/report_lines.txt and the sources: change those, and run it again. -->
@@ -40,8 +41,8 @@ one in any order. `README.md` shows a report, and says what each line means for 
 - **`check`**: *read*, it tests what the line says, or believes it of the machine; *form alone*, the line has to have its form, and what it
   says isn't tested; *passed over*, the line may say anything. Of a line `link`, what stands after `now` is passed over too.
 - **Words** is the definition of the line's words, in `crates/route_report/specs/Printing.antt`; **Written by** a function, or the
-  `impl Line` of a type, in `crates/route_report/src/lines.rt`; **Read by** a definition in `specs/Reading.antt` and the function of the
-  same name in `src/line.rt`.
+  `impl Line` of a type, in `src/lines.rt` or `src/kernel_lines.rt`; **Read by** a definition in `specs/Reading.antt` and the function of
+  the same name in `src/line.rt` or `src/claimless.rt`.
 - **Content from** is the definition that says what stands in the line, and the function whose contract has it.
 
 | Line | Form | Meaning | Versions | `check` | Words | Written by | Read by | Content from |
@@ -78,8 +79,9 @@ def table_rows(text):
 
 def printed():
     """The first word of each line that is printed, in their order, with the definition of its words."""
-    options = definition("Printing", "option_lines")
-    listed = definition("Printing", "found_lines").replace("option_lines r.options", options) + definition("Printing", "chosen_lines")
+    listed = definition("Printing", "found_lines") + definition("Printing", "chosen_lines")
+    for part in ("option_lines", "kernel_lines"):
+        listed = listed.replace(f"{part} r.options", definition("Printing", part))
     found = {}
     for name in dict.fromkeys(re.findall(r"\b\w+_words\b", listed)):
         for word in re.findall(rf'^{name} .*= codes "(\w+)"', definition("Printing", name), re.MULTILINE):
@@ -90,7 +92,8 @@ def printed():
 def writers():
     """What writes the line of each first word."""
     found = {}
-    for part in re.split(r"\n(?=///|impl |fn |pub)", text_of(f"{CRATE}/src/lines.rt")):
+    code = "\n".join(text_of(f"{CRATE}/src/{it}.rt") for it in ("lines", "kernel_lines"))
+    for part in re.split(r"\n(?=///|impl |fn |pub)", code):
         head = re.match(r"(?:///.*\n)*(?:pub\(crate\) )?(?:impl Line for (.+) \{|fn (\w+))", re.sub(r"#\[.*\]\n", "", part))
         for word in re.findall(r'extend_from_slice\(b"(\w+)(?:"| \w|\\n)', part) if head else []:
             found.setdefault(word, f"`impl Line for {head[1]}`" if head[1] else f"`{head[2]}`")
@@ -98,19 +101,21 @@ def writers():
 
 
 def read_by_definition():
-    return dict(re.findall(r'bytes_eq key \(codes "(\w+)"\) then (\w+)', definition("Reading", "keyed")))
+    found = definition("Reading", "keyed") + definition("Reading", "claimless")
+    return dict(re.findall(r'bytes_eq key \(codes "(\w+)"\) then (\w+)', found))
 
 
 def function(name):
     """A function of the code that reads a line."""
-    found = re.search(rf"^(?:pub\(crate\) )?fn {name}\(.*?^\}}\n", text_of(f"{CRATE}/src/line.rt"), re.MULTILINE | re.DOTALL)
-    if not found:
-        raise Wrong(f"{CRATE}/src/line.rt has no {name}")
-    return found[0]
+    for file in ("line", "claimless"):
+        found = re.search(rf"^(?:pub\(crate\) )?fn {name}\(.*?^\}}\n", text_of(f"{CRATE}/src/{file}.rt"), re.MULTILINE | re.DOTALL)
+        if found:
+            return found[0]
+    raise Wrong(f"{CRATE}/src/line.rt and claimless.rt have no {name}")
 
 
 def read_by_code():
-    return dict(re.findall(r'key == b"(\w+)"\.as_slice\(\) \{\s*(\w+)\(', function("keyed")))
+    return dict(re.findall(r'key == b"(\w+)"\.as_slice\(\) \{\s*(\w+)\(', function("keyed") + function("claimless")))
 
 
 def passed_over():

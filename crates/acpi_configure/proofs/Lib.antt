@@ -13,4 +13,5 @@ pub mod Reported
 pub mod Settled
 pub mod Sources
 pub mod Stopped
+pub mod Telling
 pub mod Turns

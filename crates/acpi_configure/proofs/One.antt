@@ -14,6 +14,7 @@ use Rattle.route_report.specs.declared.report.SetLine.{SetLine}
 use Rattle.acpi_configure.specs.Settling.{settled_unless}
 use Rattle.acpi_configure.specs.Chosen.{IsChosen}
 use Rattle.acpi_configure.specs.Configured.{Solves, report_of, with_settings, IsReport}
+use Rattle.acpi_configure.specs.ForKernels.{told_if, IsReportFor}
 use Rattle.acpi_configure.specs.Options.{RunOptions}
 use Rattle.acpi_configure.specs.WithOptions.{Findings, all_lines, IsReportWith}
 
@@ -60,3 +61,13 @@ one_with {S} law accesses o before after left one other first p q =
     let settings : p.settings ≡ q.settings = cc (ap (λ (x : Outcome (List SetLine × List ReportedAfter) × MachineState S). x.0) ends) in
     let reports : with_settings (all_lines o p.chosen_in (sci_of before) p.found p.answer) p.settings ≡ with_settings (all_lines o q.chosen_in (sci_of before) q.found q.answer) q.settings = rw (middle, found, answer, settings) refl in
     (p.lines ∙ (reports ∙ sym q.lines), ap (λ (x : Outcome (List SetLine × List ReportedAfter) × MachineState S). x.1) ends)
+
+-- the same with what is told to a kernel
+pub one_told : {S : Type 0} → ((problem : RoutingProblem) (one other : RoutingAnswer) → Solves problem one → Solves problem other → one ≡ other)
+    → (accesses : Accesses S) (o : RunOptions) (before after left : MachineState S) (one other : RoutingReport) → o.spread ≡ false → IsReportFor accesses o before after one → IsReportFor accesses o before left other
+    → (one ≡ other) × (after ≡ left)
+one_told {S} law accesses o before after left one other first p q =
+    let same = one_with law accesses o before p.configured q.configured p.plain q.plain first p.is_plain q.is_plain in
+    let told : told_if accesses o.kernel p.plain p.configured ≡ told_if accesses o.kernel q.plain q.configured = rw (same.0, same.1) refl in
+    let ends = sym p.is_told ∙ (told ∙ q.is_told) in
+    (cc (ap (λ (x : Outcome RoutingReport × MachineState S). x.0) ends), ap (λ (x : Outcome RoutingReport × MachineState S). x.1) ends)

@@ -9,6 +9,7 @@ use Rattle.acpi_links.specs.Gatherings.{gathered}
 use Rattle.route_report.specs.Reports.{RoutingReport}
 use Rattle.route_check.specs.Claims.{RoutingClaim}
 use Rattle.acpi_configure.specs.Configured.{IsReport}
+use Rattle.acpi_configure.specs.ForKernels.{told_if, IsReportFor}
 use Rattle.acpi_configure.specs.Options.{plain}
 use Rattle.acpi_configure.specs.Others.{others_asked}
 use Rattle.acpi_configure.specs.WithOptions.{Findings, found_by, IsReportWith}
@@ -78,3 +79,16 @@ module _ {S : Type 0} (accesses : Accesses S) (dry : Bool) (avoid : List ℕ) (b
     offers = is.offers;
     counts = is.counts;
   }
+
+  -- no kernel wants lines
+  pub told_configured : IsReportFor accesses (plain dry avoid) before after r → IsReport accesses dry avoid before after r
+  unfolding told_if give
+  told_configured is =
+      let told : ◌≡◌ {A = Outcome RoutingReport × MachineState S} (Ok is.plain, is.configured) (Ok r, after) = is.is_told in
+      let report : is.plain ≡ r = cc (ap (λ (x : Outcome RoutingReport × MachineState S). x.0) told) in
+      let left : is.configured ≡ after = ap (λ (x : Outcome RoutingReport × MachineState S). x.1) told in
+      as_configured (rw (← report, ← left) is.is_plain)
+
+  pub told_without : IsReport accesses dry avoid before after r → IsReportFor accesses (plain dry avoid) before after r
+  unfolding told_if give
+  told_without is = record { plain = r; configured = after; is_plain = as_without is; is_told = refl; readable = is.readable; claims = refl }

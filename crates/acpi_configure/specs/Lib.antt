@@ -6,4 +6,7 @@ pub mod Options
 pub mod Others
 pub mod Settling
 pub mod Stops
+pub mod Triggers
+pub mod ForKernels
+pub mod KernelStops
 pub mod WithOptions

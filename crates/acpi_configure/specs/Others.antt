@@ -104,7 +104,7 @@ rule_if true = rule.Spread
 rule_if false = rule.First
 
 abbrev pub all_options : Bool → List ReportedAfter → ReportedOptions
-all_options spread asked = record { spared = filter_map spared_line asked; unread = filter_map unread_line asked; rule = rule_if spread }
+all_options spread asked = record { spared = filter_map spared_line asked; unread = filter_map unread_line asked; rule = rule_if spread; triggers = []; buses = [] }
 
 -- none without an option
 abbrev pub options_if : Bool → Bool → List ReportedAfter → Option ReportedOptions

@@ -81,28 +81,8 @@ pub fn configure<S: Space>(
     Ok(with_settings(report, settings))
 }
 
-/// Chooses an interrupt for each link device of a machine as `configure` does, with options: `spare`, that no link is
-/// given an interrupt of another device, and `spread`, that links share interrupts as little as they can. Without
-/// them the report is that of `configure`.
-///
-/// With `spare`, once the links were asked, each other Device that has a `_CRS` is asked in path order: `_STA`, and
-/// where it is present `_CRS` (ACPI 6.5, 6.3.7 and 6.2.2). What a `_CRS` gives is avoided as the interrupts to
-/// `avoid` are: a link of whose offer nothing is left is refused as `Avoided`, with its path, the first such link in
-/// path order. A device has a line in the report where it has interrupts, or where its `_STA` or its `_CRS` is
-/// refused, with the number of the refusal: then nothing is known of its interrupts, and none are avoided for it.
-///
-/// With `spread` the assignment is one whose loads are least as a whole: first the busiest interrupt serves as few
-/// sources as possible, then as few interrupts as possible serve that many, and so on. It isn't said which of several
-/// such assignments it is.
-///
-/// The text of the report can be read back; `route_check::check_all` says that its claim holds, and with `spread` it
-/// claims that links share interrupts as little as they can.
-///
-/// ```
-/// let options = Options { dry: false, avoid: &[], spare: true, spread: true };
-/// let report = configure_with(alloc, &mut machine, &options)?;
-/// ```
-pub fn configure_with<S: Space>(
+/// Finds, chooses, sets and reports what options ask for, but for the lines for a kernel.
+pub(crate) fn configure_plainly<S: Space>(
     alloc: Global,
     machine: &mut Machine<S>,
     options: &Options<'_>,

@@ -8,6 +8,7 @@ ghost use Rattle.route_report.specs.Reports.{Now, ReportedAfter, RoutingReport};
 ghost use Rattle.acpi_configure.specs.AllAsked.{EachIsAsked};
 ghost use Rattle.acpi_configure.specs.Configured.{Solves, IsReport};
 ghost use Rattle.acpi_configure.specs.Options.{RunOptions, plain};
+ghost use Rattle.acpi_configure.specs.ForKernels.{IsReportFor, IsToldBehind};
 ghost use Rattle.acpi_configure.specs.WithOptions.{IsReportWith};
 
 use route_solve::laws::{the_first_least_assignment_is_one, the_set_is_one};
@@ -35,21 +36,33 @@ pub fn a_machine_has_one_report<S>()
 /// assignments it isn't said which one is chosen.
 pub fn a_machine_has_one_report_with_options<S>()
     ensures { (accesses : Accesses S) (options : RunOptions) (before after left : MachineState S)
-        (one other : RoutingReport) → options.spread ≡ false → IsReportWith accesses options before after one →
-        IsReportWith accesses options before left other → (one ≡ other) × (after ≡ left) }
+        (one other : RoutingReport) → options.spread ≡ false → IsReportFor accesses options before after one →
+        IsReportFor accesses options before left other → (one ≡ other) × (after ≡ left) }
 {
     a_problem_has_one_answer();
 }
 
 /// `configure` reports what `configure_with` does without options.
-#[tactic(auto, using(crate::proofs::Plain::as_configured, crate::proofs::Plain::as_without))]
+#[tactic(auto, using(crate::proofs::Plain::told_configured, crate::proofs::Plain::told_without))]
 pub fn a_run_without_options_is_configure<S>()
     ensures configured { (accesses : Accesses S) (dry : Bool) (avoid : List ℕ) (before after : MachineState S)
-        (report : RoutingReport) → IsReportWith accesses (plain dry avoid) before after report →
+        (report : RoutingReport) → IsReportFor accesses (plain dry avoid) before after report →
         IsReport accesses dry avoid before after report }
     ensures without { (accesses : Accesses S) (dry : Bool) (avoid : List ℕ) (before after : MachineState S)
         (report : RoutingReport) → IsReport accesses dry avoid before after report →
-        IsReportWith accesses (plain dry avoid) before after report }
+        IsReportFor accesses (plain dry avoid) before after report }
+{}
+
+/// Where a kernel wants lines, the report is the one without them, with lines more behind all others, and where it
+/// wants none it is that report: nothing else of it, and nothing of its claim, is another one.
+#[tactic(auto, using(crate::proofs::Telling::told_behind, crate::proofs::Telling::not_told))]
+pub fn lines_for_a_kernel_stand_behind_a_report<S>()
+    ensures told { (accesses : Accesses S) (options : RunOptions) (before after : MachineState S)
+        (report : RoutingReport) (is : IsReportFor accesses options before after report) → options.kernel ≡ true →
+        IsToldBehind accesses is.configured is.plain after report }
+    ensures without { (accesses : Accesses S) (options : RunOptions) (before after : MachineState S)
+        (report : RoutingReport) → options.kernel ≡ false → IsReportFor accesses options before after report →
+        IsReportWith accesses options before after report }
 {}
 
 /// Where devices are spared, no link is given an interrupt of a device that was asked: of the `_CRS` of a present

@@ -6,6 +6,7 @@ mod choosing;
 mod chosen_lines;
 mod configuring;
 mod finding;
+mod for_kernels;
 pub mod laws;
 mod link_lines;
 mod madt_lines;
@@ -15,6 +16,8 @@ mod others;
 mod pin_lines;
 mod pin_names;
 mod settling;
+mod triggers;
 
-pub use configuring::{configure, configure_with};
+pub use configuring::configure;
+pub use for_kernels::configure_with;
 pub use options::Options;

@@ -12,6 +12,8 @@ pub struct Options<'a> {
     pub spare: bool,
     /// Links share interrupts as little as they can.
     pub spread: bool,
+    /// The report has lines for a kernel.
+    pub kernel: bool,
 }
 
 impl<'a> Model for Options<'a> {
@@ -19,5 +21,5 @@ impl<'a> Model for Options<'a> {
 
     ghost Value = { RunOptions };
 
-    ghost view = { λ o. record { dry = o.dry; avoid = o.avoid.now; spare = o.spare; spread = o.spread } };
+    ghost view = { λ o. record { dry = o.dry; avoid = o.avoid.now; spare = o.spare; spread = o.spread; kernel = o.kernel } };
 }

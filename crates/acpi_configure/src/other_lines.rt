@@ -128,6 +128,8 @@ fn all_options(alloc: Global, spread: bool, asked: &[AfterLine]) -> Result<Optio
         spared,
         unread,
         rule: rule_if(spread),
+        triggers: Vec::new(alloc),
+        buses: Vec::new(alloc),
     })
 }
 

@@ -9,7 +9,8 @@ use Rattle.aml_meaning.specs.Given.{Given}
 use Rattle.acpi_machine.specs.Calls.{initialized, evaluated_object}
 use Rattle.acpi_machine.specs.MachineStates.{MachineState, sci_of}
 use Rattle.acpi_configure.specs.Options.{RunOptions}
-use Rattle.acpi_configure.specs.WithOptions.{found_by, IsReportWith}
+use Rattle.acpi_configure.specs.ForKernels.{IsReportFor}
+use Rattle.acpi_configure.specs.WithOptions.{found_by}
 use Rattle.acpi_explain.specs.declared.end.End.{End}
 use Rattle.acpi_explain.specs.declared.end.End.TheVariants.{Initializing, Running, Done}
 
@@ -27,7 +28,7 @@ module _ {S : Type 0} (accesses : Accesses S) (mode : Mode) where
   abbrev pub IsRouteEnd : RunOptions → MachineState S → MachineState S → End → Type 0
   IsRouteEnd o before after (Initializing e) = IsStopped before after e
   IsRouteEnd o before after (Running e) = e ≢ OutOfMemory → (ready : MachineState S) × (IsReady before ready × (found_by accesses o (sci_of ready) ready ≡ (Err e, after)))
-  IsRouteEnd o before after (Done (Some report)) = (ready : MachineState S) × (IsReady before ready × IsReportWith accesses o ready after report)
+  IsRouteEnd o before after (Done (Some report)) = (ready : MachineState S) × (IsReady before ready × IsReportFor accesses o ready after report)
   IsRouteEnd o before after (Done None) = ⊥
 
   -- the evaluation is refused, or answers a value

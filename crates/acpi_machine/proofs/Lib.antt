@@ -1,3 +1,4 @@
+mod Bridged
 pub mod Loaded
 pub mod Noticed
 pub mod Passing

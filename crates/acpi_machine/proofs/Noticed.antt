@@ -11,10 +11,12 @@ use Rattle.ar_tables.specs.declared.tables.Tables.{Tables}
 use Rattle.aml_path.specs.declared.segment.Seg.{Seg}
 use Rattle.aml_meaning.specs.State.{State}
 use Rattle.aml_meaning.specs.Given.{Given}
-use Rattle.aml_meaning.specs.Calling.{answered}
+use Rattle.aml_meaning.specs.Calling.{answered, ending, with_steps}
 use Rattle.ar_tables.specs.declared.mode.Mode.{Mode}
 use Rattle.acpi_machine.specs.Calls.{on_world, object_answered, unless_spent}
 use Rattle.acpi_machine.specs.MachineStates.{MachineState}
+use Rattle.acpi_machine.specs.declared.buses.PciBus.{PciBus}
+use Rattle.acpi_machine.specs.Buses.{bus_of_table, bus_answered}
 use Rattle.acpi_machine.specs.Noticing.{is_memory, noticed, ran_out}
 
 not_memory : {A : Type 0} (r : Outcome A) → NotMemory r → ran_out r ≡ false
@@ -61,7 +63,12 @@ pub object_changed : {S : Type 0} {r : Outcome Given} (accesses : Accesses S) (w
 unfolding object_answered on_world
 object_changed accesses w w1 t mode n b p arguments s e h = record { is = λ ne. rw (← e, h.is ne) refl }
 
-pub ruleset worlds = (object_changed)
+pub bus_changed : {S : Type 0} {r : Outcome PciBus} (accesses : Accesses S) (w w1 : State S) (t : Tables) (mode : Mode) (n : ℕ) (b : Bool) (device : List Seg) (s : MachineState S) → record { world = w; tables = t; mode = mode; steps = n; spent = b } ≡ s
+    → Does r w1 (ending (with_steps n (bus_of_table accesses device))) w → Does r (record { world = w1; tables = t; mode = mode; steps = n; spent = b }) (bus_answered accesses device) s
+unfolding bus_answered on_world
+bus_changed accesses w w1 t mode n b device s e h = record { is = λ ne. rw (← e, h.is ne) refl }
+
+pub ruleset worlds = (object_changed, bus_changed)
 
 pub does_spent : {S A : Type 0} (m : Change (MachineState S) A) (s : MachineState S) → s.spent ≡ true → Does (Err (refusal.Machine Spent)) s (unless_spent m) s
 unfolding unless_spent stop

@@ -1,3 +1,4 @@
+pub mod Buses
 pub mod Calls
 pub mod FixedPaths
 pub mod Kinds

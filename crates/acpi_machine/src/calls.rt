@@ -26,7 +26,7 @@ use ar_space::{MachineFault, Refusal, Space};
 use ar_tables::Mode;
 use std::alloc::Global;
 
-const SPENT: Refusal = Refusal::Machine(MachineFault::Spent);
+pub(crate) const SPENT: Refusal = Refusal::Machine(MachineFault::Spent);
 
 impl<S: Space> Machine<S> {
     /// Tells the firmware the mode, and initializes it: calls `\_INI`, `\_SB_._INI` (ACPI 6.5, 6.5.1), and `\_PIC`
@@ -142,7 +142,7 @@ impl<S: Space> Machine<S> {
     }
 
     /// The machine is spent from now on where a call ran out of memory.
-    fn notice<A>(&mut self, outcome: &Result<A, Refusal>)
+    pub(crate) fn notice<A>(&mut self, outcome: &Result<A, Refusal>)
         ensures { self.new ≡ noticed outcome.now self.old }
     {
         if ran_out(outcome) {

@@ -1,6 +1,7 @@
 //! A machine: tables are loaded into a namespace, and objects are evaluated in it (ACPI 6.5, 5.2, 5.3 and 5.5).
 #![tactic(auto)]
 
+mod buses;
 mod calls;
 mod kind;
 mod loading;
@@ -11,6 +12,7 @@ mod nodes;
 
 pub use aml_meaning::{Profile, Trace, TraceName, TracePlace};
 pub use ar_tables::Mode;
+pub use buses::{PciBus, prt};
 pub use kind::Kind;
 pub use loading::{load_tables, load_tables_as, load_tables_traced};
 pub use machine::Machine;

@@ -5,7 +5,7 @@ ghost use Rattle.acpi_machine.specs.MachineStates.{sci_of};
 use crate::mode::is_apic;
 use aml_meaning::{PassedOver, Profile, Trace, World};
 use ar_space::Space;
-use ar_tables::{Madt, Mode, Tables, sci_source};
+use ar_tables::{Fadt, Madt, Mode, Tables, sci_source};
 use std::marker::Model;
 
 /// A machine: the world that its tables were loaded into, the tables, how it delivers interrupts, how many steps an
@@ -55,6 +55,13 @@ impl<S: Space> Machine<S> {
             None => None,
             Some(madt) => Some(madt),
         }
+    }
+
+    /// The FADT (ACPI 6.5, 5.2.9).
+    pub fn fadt(&self) -> &Fadt
+        ensures { result.now ≡ self.now.tables.fadt }
+    {
+        &self.tables.fadt
     }
 
     /// The interrupt source of the System Control Interrupt in the machine's mode, as `ar_tables::sci_source` gives

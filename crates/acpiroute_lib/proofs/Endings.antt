@@ -124,7 +124,7 @@ by_question : {S : Type 0} (accesses : Accesses S) (q : Asking) (phase : Option 
 by_question accesses q phase e m after h ne = go q.question h
   where
     go : (x : Question) → IsQuestionEnd accesses q.mode x (Refused phase e) m after → started accesses q.mode (asks accesses x) m ≡ (Err e, after)
-    go (Route dry avoid spare spread) i = i ne
+    go (Route avoid flags) i = i ne
     go (Eval path arguments) i = i ne
 
 module _ {S : Type 0} (accesses : Accesses S) (q : Asking) where

@@ -5,7 +5,7 @@ use Rattle.ar_space.specs.Bytes.{Bytes, byte_accesses}
 use Rattle.ar_space.specs.Outcome.{Outcome}
 use Rattle.acpi_machine.specs.MachineStates.{MachineState}
 use Rattle.acpi_configure.specs.Options.{RunOptions}
-use Rattle.acpi_configure.specs.WithOptions.{IsReportWith}
+use Rattle.acpi_configure.specs.ForKernels.{IsReportFor}
 use Rattle.route_report.specs.Reports.{RoutingReport}
 use Rattle.ar_tables.specs.declared.mode.Mode.{Mode}
 use Rattle.acpiroute_words.specs.declared.request.Evaluation.{Evaluation}
@@ -15,7 +15,7 @@ use Rattle.acpiroute_lib.specs.RouteCommand.{printed, IsReportOf, IsRouted, IsRo
 
 -- the law of reports, as `acpi_configure` has it
 abbrev LawOfReports : Type 0
-LawOfReports = (accesses : Accesses Bytes) (o : RunOptions) (before after left : MachineState Bytes) (one other : RoutingReport) → o.spread ≡ false → IsReportWith accesses o before after one → IsReportWith accesses o before left other
+LawOfReports = (accesses : Accesses Bytes) (o : RunOptions) (before after left : MachineState Bytes) (one other : RoutingReport) → o.spread ≡ false → IsReportFor accesses o before after one → IsReportFor accesses o before left other
     → (one ≡ other) × (after ≡ left)
 
 module _ (law : LawOfReports) (o : RunOptions) (first : o.spread ≡ false) where
@@ -24,8 +24,8 @@ module _ (law : LawOfReports) (o : RunOptions) (first : o.spread ≡ false) wher
 
   one_routed : (m : MachineState Bytes) (r s : Outcome Written) → IsRouted o m r → IsRouted o m s → r ≡ s
   one_routed m (Ok v) (Ok w) a b = ap Ok (same_text m v w a b)
-  one_routed m (Ok v) (Err e) a b = absurd (cc (sym (ap (λ x. x.0) a.is_report.is_found) ∙ b))
-  one_routed m (Err e) (Ok w) a b = absurd (cc (sym (ap (λ x. x.0) b.is_report.is_found) ∙ a))
+  one_routed m (Ok v) (Err e) a b = absurd (cc (sym (ap (λ x. x.0) a.is_report.is_plain.is_found) ∙ b))
+  one_routed m (Err e) (Ok w) a b = absurd (cc (sym (ap (λ x. x.0) b.is_report.is_plain.is_found) ∙ a))
   one_routed m (Err e) (Err f) a b = let same : e ≡ f = cc (sym a ∙ b) in ap Err same
 
   one_routed_on : (x : Outcome (MachineState Bytes)) (r s : Outcome Written) → IsRoutedOn o x r → IsRoutedOn o x s → r ≡ s

@@ -7,7 +7,8 @@ use Rattle.ar_space.specs.Bytes.{Bytes, byte_accesses}
 use Rattle.ar_space.specs.Outcome.{Outcome, Answers, NotMemory, ◌>>=◌}
 use Rattle.acpi_machine.specs.MachineStates.{MachineState, sci_of}
 use Rattle.acpi_configure.specs.Options.{RunOptions}
-use Rattle.acpi_configure.specs.WithOptions.{found_by, IsReportWith}
+use Rattle.acpi_configure.specs.ForKernels.{IsReportFor}
+use Rattle.acpi_configure.specs.WithOptions.{found_by}
 use Rattle.ar_tables.specs.declared.mode.Mode.{Mode}
 use Rattle.route_check.specs.Claims.{RoutingClaim}
 use Rattle.route_check.specs.Flaws.{IsFirstFlaw}
@@ -56,7 +57,7 @@ verdict_yes c text o (Err f) is at v h = absurd (no_flaw c f v.valid v.shared (s
 checked : (c : RoutingClaim) (text : List ℕ) → claim_of_text text ≡ Ok c → Holds c → (r : Outcome Written) → IsCheckAnswer text r → r ≡ Ok (verdict_answer (Ok tt))
 checked c text at v r h = h.2 ∙ verdict_yes c text (claim_of_text text) h.0 at refl v h.1
 
-pub reported : {m after : MachineState Bytes} (o : RunOptions) (report : RoutingReport) (r : Outcome Written) → IsReportWith byte_accesses o m after report → Answers r (Ok (printed report))
+pub reported : {m after : MachineState Bytes} (o : RunOptions) (report : RoutingReport) (r : Outcome Written) → IsReportFor byte_accesses o m after report → Answers r (Ok (printed report))
     → IfOk r (λ w. IsReadable report → claim_of_text w.text ≡ Ok (claim_of_report report)) → NotMemory r → IsRouted o m r
 reported {after = after} o report (Ok w) is h back ne =
     record {
@@ -65,7 +66,7 @@ reported {after = after} o report (Ok w) is h back ne =
       is_report = is;
       is_text = sym (cc (h.is ne));
       is_read_back = back is.readable;
-      is_checked = checked (claim_of_report report) w.text (back is.readable) is.holds;
+      is_checked = checked (claim_of_report report) w.text (back is.readable) (rw is.claims is.is_plain.holds);
     }
 reported o report (Err e) is h back ne = absurd (cc (h.is ne))
 

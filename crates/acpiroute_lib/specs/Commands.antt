@@ -4,6 +4,7 @@ use Rattle.ar_space.specs.Outcome.{Outcome}
 use Rattle.acpiroute_words.specs.declared.request.Request.{Request}
 use Rattle.acpiroute_words.specs.declared.request.Request.TheVariants.{Route, Why, Registers, Names, Eval, Check}
 use Rattle.acpiroute_words.specs.CheckCommand.{IsCheckAnswer}
+use Rattle.acpiroute_lib.specs.Ended.{options_of}
 use Rattle.acpiroute_lib.specs.EvalCommand.{eval_answer}
 use Rattle.acpiroute_lib.specs.NamesCommand.{names_answer}
 use Rattle.acpiroute_lib.specs.RouteCommand.{IsRouteAnswer}
@@ -12,7 +13,7 @@ use Rattle.acpiroute_words.specs.Written.{Written}
 
 -- what the answer to a request over an input is
 abbrev pub IsAnswer : Request → List ℕ → Outcome Written → Type 0
-IsAnswer (Route mode evaluation dry avoid spare spread) input r = IsRouteAnswer mode evaluation (record { dry = dry; avoid = avoid; spare = spare; spread = spread }) input r
+IsAnswer (Route mode evaluation avoid flags) input r = IsRouteAnswer mode evaluation (options_of avoid flags) input r
 IsAnswer (Why asking) input r = IsWhyAnswer asking input r
 IsAnswer (Registers asking) input r = IsRegistersAnswer asking input r
 IsAnswer (Names evaluation) input r = names_answer evaluation input ≡ r

@@ -16,18 +16,20 @@ use Rattle.acpi_machine.specs.Calls.{initialized, evaluated_object}
 use Rattle.acpi_machine.specs.Loading.{loaded_tables}
 use Rattle.acpi_machine.specs.MachineStates.{MachineState, machine_of, sci_of}
 use Rattle.acpi_configure.specs.Options.{RunOptions}
-use Rattle.acpi_configure.specs.WithOptions.{Findings, found_by, IsReportWith}
+use Rattle.acpi_configure.specs.ForKernels.{IsReportFor}
+use Rattle.acpi_configure.specs.WithOptions.{Findings, found_by}
 use Rattle.route_report.specs.Reports.{RoutingReport}
 use Rattle.acpiroute_words.specs.declared.arguments.Argument.{Argument}
 use Rattle.acpiroute_lib.specs.EvalCommand.{given_argument}
 use Rattle.acpiroute_words.specs.declared.request.Asking.{Asking}
+use Rattle.acpiroute_words.specs.declared.request.Flags.{Flags}
 use Rattle.acpiroute_words.specs.declared.request.Question.{Question}
 use Rattle.acpiroute_words.specs.declared.request.Question.TheVariants.{Route, Eval}
 use Rattle.acpiroute_lib.specs.declared.run_end.RunEnd.{RunEnd}
 use Rattle.acpiroute_lib.specs.declared.run_end.RunEnd.TheVariants.{Refused, Done}
 
-abbrev pub options_of : Bool → List ℕ → Bool → Bool → RunOptions
-options_of dry avoid spare spread = record { dry = dry; avoid = avoid; spare = spare; spread = spread }
+abbrev pub options_of : List ℕ → Flags → RunOptions
+options_of avoid flags = record { dry = flags.dry; avoid = avoid; spare = flags.spare; spread = flags.spread; kernel = flags.kernel }
 
 -- whether there is an answer, and not which
 abbrev pub dropped : {S A : Type 0} → Outcome A × S → Outcome (Unit {0}) × S
@@ -51,7 +53,7 @@ module _ {S : Type 0} (accesses : Accesses S) where
     evaluated_object accesses p (map given_argument arguments)
 
   abbrev pub asks : Question → Change (MachineState S) (Unit {0})
-  asks (Route dry avoid spare spread) = λ m. dropped (finds (options_of dry avoid spare spread) m)
+  asks (Route avoid flags) = λ m. dropped (finds (options_of avoid flags) m)
   asks (Eval path arguments) = λ m. dropped (evaluates path arguments m)
 
   -- a machine is initialized, and then asked
@@ -78,7 +80,7 @@ module _ {S : Type 0} (accesses : Accesses S) where
   abbrev pub IsRouted : Mode → RunOptions → RunEnd → MachineState S → MachineState S → Type 0
   IsRouted mode o (Refused phase e) m after = IsRefused mode (λ s. dropped (finds o s)) e m after
   IsRouted mode o (Done None) m after = ⊥
-  IsRouted mode o (Done (Some report)) m after = (ready : MachineState S) × ((initialized accesses mode m ≡ (Ok tt, ready)) × IsReportWith accesses o ready after report)
+  IsRouted mode o (Done (Some report)) m after = (ready : MachineState S) × ((initialized accesses mode m ≡ (Ok tt, ready)) × IsReportFor accesses o ready after report)
 
   abbrev pub IsAskedBy : Mode → Change (MachineState S) (Unit {0}) → RunEnd → MachineState S → MachineState S → Type 0
   IsAskedBy mode k (Refused phase e) m after = IsRefused mode k e m after
@@ -96,7 +98,7 @@ module _ {S : Type 0} (accesses : Accesses S) where
   IsUnnamed mode x end m after = IsAskedBy mode (λ s. (Err x, s)) end m after
 
   abbrev pub IsQuestionEnd : Mode → Question → RunEnd → MachineState S → MachineState S → Type 0
-  IsQuestionEnd mode (Route dry avoid spare spread) end m after = IsRouted mode (options_of dry avoid spare spread) end m after
+  IsQuestionEnd mode (Route avoid flags) end m after = IsRouted mode (options_of avoid flags) end m after
   IsQuestionEnd mode (Eval path arguments) end m after = IsEvaluated mode path arguments end m after
 
   abbrev pub IsMachineEnd : Asking → RunEnd → MachineState S → MachineState S → Type 0

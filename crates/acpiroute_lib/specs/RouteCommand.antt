@@ -5,7 +5,8 @@ use Rattle.ar_space.specs.Outcome.{Outcome}
 use Rattle.ar_space.specs.Bytes.{Bytes, byte_accesses}
 use Rattle.acpi_machine.specs.MachineStates.{MachineState, sci_of}
 use Rattle.acpi_configure.specs.Options.{RunOptions}
-use Rattle.acpi_configure.specs.WithOptions.{found_by, IsReportWith}
+use Rattle.acpi_configure.specs.ForKernels.{IsReportFor}
+use Rattle.acpi_configure.specs.WithOptions.{found_by}
 use Rattle.ar_tables.specs.declared.mode.Mode.{Mode}
 use Rattle.route_report.specs.declared.report.SetLine.{SetLine}
 use Rattle.route_report.specs.declared.report.SetOutcome.{SetOutcome}
@@ -39,7 +40,7 @@ printed report = record { text = text_of_report report; completion = completion_
 pub record IsReportOf (o : RunOptions) (m : MachineState Bytes) (w : Written) : Type 0 where
   pub report : RoutingReport
   pub after : MachineState Bytes
-  pub is_report : IsReportWith byte_accesses o m after report
+  pub is_report : IsReportFor byte_accesses o m after report
   pub is_text : w ≡ printed report
   pub is_read_back : claim_of_text w.text ≡ Ok (claim_of_report report)
   pub is_checked : (r : Outcome Written) → IsCheckAnswer w.text r → r ≡ Ok (verdict_answer (Ok tt))

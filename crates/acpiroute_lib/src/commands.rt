@@ -4,11 +4,11 @@ ghost use Rattle.ar_space.specs.Outcome.{NotMemory};
 ghost use Rattle.acpiroute_lib.specs.Commands.{IsAnswer};
 ghost use Rattle.acpiroute_lib.specs.Passed.{request_passed};
 
+use crate::ended::options_of;
 use crate::eval_command::eval_answer;
 use crate::names_command::names_answer;
 use crate::route_command::route_answer;
 use crate::why_command::{registers_answer, why_answer};
-use acpi_configure::Options;
 use acpiroute_words::{Answer, Request, check_answer};
 use ar_space::Refusal;
 use std::alloc::Global;
@@ -29,17 +29,10 @@ pub(crate) fn answer_to(
         Request::Route {
             mode,
             evaluation,
-            dry,
             avoid,
-            spare,
-            spread,
+            flags,
         } => {
-            let options = Options {
-                dry,
-                avoid: avoid.as_slice(),
-                spare,
-                spread,
-            };
+            let options = options_of(avoid.as_slice(), flags);
             route_answer(alloc, mode, evaluation, &options, input, told)
         }
         Request::Why(asking) => why_answer(alloc, &asking, input.as_slice()),

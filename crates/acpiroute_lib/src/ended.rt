@@ -1,23 +1,37 @@
 //! How the run of a machine ends whose tables are loaded.
-ghost use Rattle.std.specs.Prelude.{map, Some, None};
+ghost use Rattle.std.specs.Prelude.{◌≡◌, map, Some, None};
 ghost use Rattle.aml_meaning.specs.Given.{given_of};
 ghost use Rattle.aml_path.specs.Text.{path_of_text};
 ghost use Rattle.acpi_machine.specs.Calls.{initialized};
 ghost use Rattle.acpi_explain.specs.declared.told.Phase.TheVariants.{Running};
 ghost use Rattle.acpiroute_lib.specs.WhyStages.{IsPhase, named_phase, started_phase, machine_phase};
-ghost use Rattle.acpiroute_lib.specs.Ended.{IsMachineEnd, IsRouted, IsEvaluated, IsEvaluatedAt, IsUnnamed};
+ghost use Rattle.acpiroute_lib.specs.Ended.{options_of, IsMachineEnd, IsRouted, IsEvaluated, IsEvaluatedAt};
+ghost use Rattle.acpiroute_lib.specs.Ended.{IsUnnamed};
 
 use crate::eval_command::data;
 use crate::run_end::RunEnd;
 use acpi_configure::Options;
 use acpi_explain::{End, Phase, eval_end, route_end};
 use acpi_machine::Machine;
-use acpiroute_words::{Argument, Asking, Question};
+use acpiroute_words::{Argument, Asking, Flags, Question};
 use aml_meaning::Datum;
 use aml_path::Path;
 use ar_space::{Refusal, Space};
 use route_report::Mode;
 use std::alloc::Global;
+
+/// What a run of `route` is asked for, by its words.
+pub(crate) fn options_of(avoid: &[u32], flags: Flags) -> Options<'_>
+    ensures { result.now ≡ options_of avoid.now flags }
+{
+    Options {
+        dry: flags.dry,
+        avoid,
+        spare: flags.spare,
+        spread: flags.spread,
+        kernel: flags.kernel,
+    }
+}
 
 /// Routes a machine, once it is initialized.
 fn route_machine<S: Space>(
@@ -102,18 +116,8 @@ pub(crate) fn machine_end<S: Space>(
     ensures phase { IsPhase (machine_phase S.accesses asking.now machine.old) result }
 {
     match &asking.question {
-        Question::Route {
-            dry,
-            avoid,
-            spare,
-            spread,
-        } => {
-            let options = Options {
-                dry: *dry,
-                avoid: avoid.as_slice(),
-                spare: *spare,
-                spread: *spread,
-            };
+        Question::Route { avoid, flags } => {
+            let options = options_of(avoid.as_slice(), *flags);
             route_machine(alloc, asking.mode, &options, machine)
         }
         Question::Eval { path, arguments } => evaluate_machine(

@@ -21,8 +21,8 @@ mod value_text;
 mod why_command;
 
 pub use acpiroute_words::{
-    Argument, ArgumentBytes, Arguments, Asked, Asking, Evaluation, Failed, Growing, Interrupts,
-    Outside, Question, Request, Sink, Source, parse, write_error_line,
+    Argument, ArgumentBytes, Arguments, Asked, Asking, Evaluation, Failed, Flags, Growing,
+    Interrupts, Outside, Question, Request, Sink, Source, parse, write_error_line,
 };
 pub use aml_meaning::Profile;
 pub use eval_command::value_answer;

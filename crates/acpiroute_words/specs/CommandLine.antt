@@ -14,6 +14,7 @@ use Rattle.acpiroute_words.specs.declared.request.Question.TheVariants as questi
 use Rattle.acpiroute_words.specs.declared.request.Asked.{Asked}
 use Rattle.acpiroute_words.specs.declared.request.Asking.{Asking}
 use Rattle.acpiroute_words.specs.declared.request.Evaluation.{Evaluation}
+use Rattle.acpiroute_words.specs.declared.request.Flags.{Flags}
 use Rattle.acpiroute_words.specs.declared.request.Asked.TheVariants.{For, BadAvoid}
 
 -- ---- the commands and options
@@ -47,12 +48,15 @@ spare_rule = flag_rule (codes "spare")
 abbrev pub spread_rule : Rule
 spread_rule = flag_rule (codes "spread")
 
--- `route`, without the options that change what it chooses
+abbrev pub kernel_rule : Rule
+kernel_rule = flag_rule (codes "kernel")
+
+-- `route`, without the options that change what it chooses or writes
 abbrev pub first_route_app : App
 first_route_app = with_rule (with_rule (with_rule (with_rule (new_app (codes "route")) mode_rule) steps_rule) dry_rule) avoid_rule
 
 abbrev pub route_app : App
-route_app = with_rule (with_rule (with_rule first_route_app spare_rule) spread_rule) profile_rule
+route_app = with_rule (with_rule (with_rule (with_rule first_route_app spare_rule) spread_rule) kernel_rule) profile_rule
 
 abbrev pub names_app : App
 names_app = with_rule (with_rule (new_app (codes "names")) steps_rule) profile_rule
@@ -89,7 +93,7 @@ abbrev pub first_why_app : App
 first_why_app = with_rule (with_rule (with_rule (with_rule (new_app (codes "why")) mode_rule) steps_rule) dry_rule) avoid_rule
 
 abbrev pub second_why_app : App
-second_why_app = with_rule (with_rule (with_rule first_why_app spare_rule) spread_rule) profile_rule
+second_why_app = with_rule (with_rule (with_rule (with_rule first_why_app spare_rule) spread_rule) kernel_rule) profile_rule
 
 abbrev pub why_app : App
 why_app = with_rule (with_rule (with_rule (with_rule second_why_app registers_rule) question_rule) question_path_rule) arguments_rule
@@ -137,22 +141,28 @@ is_sparing rows = is_true (first_of (codes "spare") rows)
 abbrev pub is_spreading : List Row → Bool
 is_spreading rows = is_true (first_of (codes "spread") rows)
 
+abbrev pub is_for_kernel : List Row → Bool
+is_for_kernel rows = is_true (first_of (codes "kernel") rows)
+
+abbrev pub flags_of : List Row → Flags
+flags_of rows = record { dry = is_dry rows; spare = is_sparing rows; spread = is_spreading rows; kernel = is_for_kernel rows }
+
 abbrev pub avoid_of : List Row → Option (List ℕ)
 avoid_of rows = interrupts_named (first_of (codes "avoid") rows)
 
 -- a text of `--avoid` that is no list of interrupts is told where nothing else is wrong, by a line of its own
-abbrev pub route_with : Mode → Evaluation → Bool → Option (List ℕ) → Bool → Bool → Asked
-route_with mode evaluation dry None spare spread = BadAvoid
-route_with mode evaluation dry (Some avoid) spare spread = For (request.Route mode evaluation dry avoid spare spread)
+abbrev pub route_with : Mode → Evaluation → Option (List ℕ) → Flags → Asked
+route_with mode evaluation None flags = BadAvoid
+route_with mode evaluation (Some avoid) flags = For (request.Route mode evaluation avoid flags)
 
-unfoldable pub route_by : Option Mode → Option Evaluation → Bool → Option (List ℕ) → Bool → Bool → Option Asked
-route_by maybe_mode maybe_evaluation dry avoid spare spread = do
+unfoldable pub route_by : Option Mode → Option Evaluation → Option (List ℕ) → Flags → Option Asked
+route_by maybe_mode maybe_evaluation avoid flags = do
   mode ← maybe_mode
   evaluation ← maybe_evaluation
-  Some (route_with mode evaluation dry avoid spare spread)
+  Some (route_with mode evaluation avoid flags)
 
 unfoldable pub route_of : List Row → Option Asked
-route_of rows = route_by (mode_of rows) (evaluation_of rows) (is_dry rows) (avoid_of rows) (is_sparing rows) (is_spreading rows)
+route_of rows = route_by (mode_of rows) (evaluation_of rows) (avoid_of rows) (flags_of rows)
 
 unfoldable pub names_of : List Row → Option Asked
 names_of rows = do
@@ -180,7 +190,7 @@ told_of false asking = For (request.Why asking)
 
 -- of `route`
 abbrev pub why_with : Bool → Asked → Asked
-why_with registers (For (request.Route mode evaluation dry avoid spare spread)) = told_of registers (record { mode = mode; evaluation = evaluation; question = question.Route dry avoid spare spread })
+why_with registers (For (request.Route mode evaluation avoid flags)) = told_of registers (record { mode = mode; evaluation = evaluation; question = question.Route avoid flags })
 why_with registers other = other
 
 -- of `eval`
@@ -193,7 +203,7 @@ wants_registers rows = is_true (first_of (codes "registers") rows)
 
 -- options that are of no use where an object is evaluated
 abbrev pub has_route_options : List Row → Bool
-has_route_options rows = is_dry rows || (is_sparing rows || (is_spreading rows || (wants_registers rows || is_some (first_of (codes "avoid") rows))))
+has_route_options rows = is_dry rows || (is_sparing rows || (is_spreading rows || (is_for_kernel rows || (wants_registers rows || is_some (first_of (codes "avoid") rows)))))
 
 abbrev pub why_asked : Option Text → List Row → Option Asked
 why_asked None rows = option_map (why_with (wants_registers rows)) (route_of rows)

@@ -83,7 +83,7 @@ fn bad_question<'a>(matches: &ArgMatches<'a>) -> Option<BadValue<'a>> {
     } else if matches.get_str("path").is_none() {
         "a path has to stand behind it"
     } else {
-        "not with --dry, --avoid, --spare, --spread or --registers"
+        "not with --dry, --avoid, --spare, --spread, --kernel or --registers"
     };
     Some(BadValue {
         value,

@@ -5,6 +5,7 @@ ghost use Rattle.clap.specs.declared.builder.command.Command.TheViews.{out-Comma
 ghost use Rattle.acpiroute_words.specs.CommandLine.{app, bare_app, first_route_app, route_app, names_app};
 ghost use Rattle.acpiroute_words.specs.CommandLine.{first_eval_app, eval_app, check_app, mode_rule, steps_rule};
 ghost use Rattle.acpiroute_words.specs.CommandLine.{profile_rule, dry_rule, avoid_rule, spare_rule, spread_rule};
+ghost use Rattle.acpiroute_words.specs.CommandLine.{kernel_rule, flags_of};
 ghost use Rattle.acpiroute_words.specs.CommandLine.{path_rule, arguments_rule, evaluation_by, evaluation_of};
 ghost use Rattle.acpiroute_words.specs.CommandLine.{route_with, route_by, route_of, names_of, eval_of, eval_with};
 ghost use Rattle.acpiroute_words.specs.CommandLine.{parsed_command, parsed_subcommand, clap_faults, command_of};
@@ -14,7 +15,7 @@ use crate::arguments::Arguments;
 use crate::bad_values::bad_value;
 use crate::help_texts;
 use crate::interrupts::Interrupts;
-use crate::request::{Asked, Evaluation, Request};
+use crate::request::{Asked, Evaluation, Flags, Request};
 use crate::values::{
     arguments_named, interrupts_named, is_true, mode_named, profile_named, steps_named,
 };
@@ -95,6 +96,16 @@ pub(crate) fn spread_arg<'a>(alloc: Global) -> Arg<'a>
         .help("Let link devices share interrupts as little as they can")
 }
 
+pub(crate) fn kernel_arg<'a>(alloc: Global) -> Arg<'a>
+    ensures rule { rule_of result ≡ kernel_rule }
+    ensures local { result.global ≡ false }
+{
+    Arg::new(alloc, "kernel")
+        .long("kernel")
+        .action(ArgAction::SetTrue)
+        .help("Write how interrupts are triggered, and the bus of each routing table, for a kernel")
+}
+
 fn path_arg<'a>(alloc: Global) -> Arg<'a>
     ensures rule { rule_of result ≡ path_rule }
     ensures local { result.global ≡ false }
@@ -148,6 +159,7 @@ pub(crate) fn route_command<'a>(alloc: Global) -> Result<Command<'a>, AllocError
     first_route_command(alloc)?
         .arg(spare_arg(alloc))?
         .arg(spread_arg(alloc))?
+        .arg(kernel_arg(alloc))?
         .arg(profile_arg(alloc))
 }
 
@@ -263,10 +275,20 @@ pub(crate) fn route_of(alloc: Global, matches: &ArgMatches<'_>) -> Result<Option
     let avoid = interrupts_named(alloc, matches.get_str("avoid"))?;
     let mode = mode_named(matches.get_str("mode"));
     let evaluation = evaluation_of(matches);
-    let dry = is_true(matches.get_str("dry"));
-    let spare = is_true(matches.get_str("spare"));
-    let spread = is_true(matches.get_str("spread"));
-    Ok(route_by(mode, evaluation, dry, avoid, spare, spread))
+    Ok(route_by(mode, evaluation, avoid, flags_of(matches)))
+}
+
+/// The options of `route` that have no value.
+#[tactic(auto, using(crate::proofs::Getters::first_text))]
+fn flags_of(matches: &ArgMatches<'_>) -> Flags
+    ensures { result ≡ flags_of (rows_of (found_of matches.now)) }
+{
+    Flags {
+        dry: is_true(matches.get_str("dry")),
+        spare: is_true(matches.get_str("spare")),
+        spread: is_true(matches.get_str("spread")),
+        kernel: is_true(matches.get_str("kernel")),
+    }
 }
 
 /// A request of `route`, where its mode is said, and how AML is evaluated.
@@ -274,38 +296,27 @@ pub(crate) fn route_of(alloc: Global, matches: &ArgMatches<'_>) -> Result<Option
 fn route_by(
     mode: Option<Mode>,
     evaluation: Option<Evaluation>,
-    dry: bool,
     avoid: Option<Interrupts>,
-    spare: bool,
-    spread: bool,
+    flags: Flags,
 ) -> Option<Asked>
-    ensures { result ≡ route_by mode evaluation dry avoid spare spread }
+    ensures { result ≡ route_by mode evaluation avoid flags }
 {
     let mode = mode?;
     let evaluation = evaluation?;
-    Some(route_with(mode, evaluation, dry, avoid, spare, spread))
+    Some(route_with(mode, evaluation, avoid, flags))
 }
 
 /// What `route` is asked where these interrupts are to be avoided, or that they are no list.
-fn route_with(
-    mode: Mode,
-    evaluation: Evaluation,
-    dry: bool,
-    avoid: Option<Interrupts>,
-    spare: bool,
-    spread: bool,
-) -> Asked
-    ensures { result ≡ route_with mode evaluation dry avoid spare spread }
+fn route_with(mode: Mode, evaluation: Evaluation, avoid: Option<Interrupts>, flags: Flags) -> Asked
+    ensures { result ≡ route_with mode evaluation avoid flags }
 {
     match avoid {
         None => Asked::BadAvoid,
         Some(avoid) => Asked::For(Request::Route {
             mode,
             evaluation,
-            dry,
             avoid,
-            spare,
-            spread,
+            flags,
         }),
     }
 }

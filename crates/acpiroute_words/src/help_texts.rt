@@ -40,6 +40,10 @@ or _CRS was refused by number R: nothing is spared for it. Interrupts that no _C
 Without --spread only the busiest interrupt counts: others may be shared more than they need be, or stay idle. With --spread as few \
 interrupts as possible are as busy as that one, then as few as possible nearly so, and so on.
 
+With --kernel the report has lines more, behind all others: 'trigger link PATH level low', 'trigger wired N ..' and 'trigger sci N ..' say \
+how an interrupt is triggered, and 'bus DEVICE S B' which bus the routing table of a device is for: S is its PCI segment group and B its bus. \
+Where that is refused, the line has 'refused R' in place of both.
+
 An interrupt of --avoid is given to no link device; what is wired to it stays there, and counts. Where all that a link device offers is \
 avoided or spared, the machine is refused by number 123. The report's line 'sci N' says that the System Control Interrupt is one source on N; 'sci \
 none', that there is none.
@@ -95,7 +99,7 @@ The report is read from the standard input: acpiroute check < report
 
 The lines 'link', up to 'now', 'wired', 'sci', 'avoid' and 'spared' are believed: whether they tell the machine truly, check can't know. \
 By them the lines 'give', 'busiest', 'bound' and 'spread' are tested. The lines 'mode', 'ioapic', 'override', 'pin', 'set' and \
-'after' are passed over, and of 'unread' and 'first' the form alone is tested.
+'after' are passed over, and of 'unread', 'first', 'trigger' and 'bus' the form alone is tested.
 
 Exit status: 0 where the claim holds, 4 where it doesn't, 1 for a refusal, 2 for a faulty command line. 'acpiroute --help' lists \
 the refusals.";

@@ -34,5 +34,5 @@ pub use interrupts::Interrupts;
 pub use passed_lines::put_passed_lines;
 pub use put::{put_hexadecimal, put_number, put_path};
 pub use refusal_text::refusal_words;
-pub use request::{Asked, Asking, Evaluation, Question, Request};
+pub use request::{Asked, Asking, Evaluation, Flags, Question, Request};
 pub use streams::{Failed, Growing, Outside, Sink, Source};

@@ -15,15 +15,26 @@ pub struct Evaluation {
     pub steps: u64,
 }
 
+/// The options of `route` that have no value.
+#[derive(Clone, Copy, Debug)]
+pub struct Flags {
+    /// Set no link device.
+    pub dry: bool,
+    /// Give none an interrupt of another device.
+    pub spare: bool,
+    /// Let link devices share interrupts as little as they can.
+    pub spread: bool,
+    /// Write lines for a kernel.
+    pub kernel: bool,
+}
+
 /// What is asked of an initialized machine.
 #[derive(Debug, Drop)]
 pub enum Question {
     /// What `route` does, with the options of its request.
     Route {
-        dry: bool,
         avoid: Interrupts,
-        spare: bool,
-        spread: bool,
+        flags: Flags,
     },
     /// What `eval` does, with the text of a path and with arguments.
     Eval {
@@ -43,16 +54,13 @@ pub struct Asking {
 /// What the words of the command line ask for.
 #[derive(Debug, Drop)]
 pub enum Request {
-    /// Route the interrupts of a machine in this mode, its AML evaluated like this, set no link device where `dry`,
-    /// and give none an interrupt of those to avoid, nor, where `spare`, one of another device. Where `spread`, link
-    /// devices share interrupts as little as they can.
+    /// Route the interrupts of a machine in this mode, its AML evaluated like this, give no link device an interrupt of
+    /// those to avoid, and do what the flags say.
     Route {
         mode: Mode,
         evaluation: Evaluation,
-        dry: bool,
         avoid: Interrupts,
-        spare: bool,
-        spread: bool,
+        flags: Flags,
     },
     /// Write the names of a machine, its tables evaluated like this.
     Names {

@@ -7,8 +7,8 @@ ghost use Rattle.acpiroute_words.specs.CommandLine.{first_why_app, second_why_ap
 ghost use Rattle.acpiroute_words.specs.CommandLine.{why_evaluated, has_route_options, why_asked, why_of};
 
 use crate::command_line::{
-    arguments_arg, avoid_arg, dry_arg, eval_of, mode_arg, profile_arg, route_of, spare_arg,
-    spread_arg, steps_arg,
+    arguments_arg, avoid_arg, dry_arg, eval_of, kernel_arg, mode_arg, profile_arg, route_of,
+    spare_arg, spread_arg, steps_arg,
 };
 use crate::help_texts;
 use crate::request::{Asked, Asking, Question, Request};
@@ -74,6 +74,7 @@ fn second_why_command<'a>(alloc: Global) -> Result<Command<'a>, AllocError>
     first_why_command(alloc)?
         .arg(spare_arg(alloc))?
         .arg(spread_arg(alloc))?
+        .arg(kernel_arg(alloc))?
         .arg(profile_arg(alloc))
 }
 
@@ -108,18 +109,11 @@ fn why_with(registers: bool, asked: Asked) -> Asked
             Request::Route {
                 mode,
                 evaluation,
-                dry,
                 avoid,
-                spare,
-                spread,
+                flags,
             },
         ) => {
-            let question = Question::Route {
-                dry,
-                avoid,
-                spare,
-                spread,
-            };
+            let question = Question::Route { avoid, flags };
             told_of(
                 registers,
                 Asking {
@@ -162,6 +156,7 @@ fn has_route_options(matches: &ArgMatches<'_>) -> bool
     is_true(matches.get_str("dry"))
         || is_true(matches.get_str("spare"))
         || is_true(matches.get_str("spread"))
+        || is_true(matches.get_str("kernel"))
         || is_true(matches.get_str("registers"))
         || matches.get_str("avoid").is_some()
 }

@@ -14,6 +14,7 @@ pub mod MachineNotes
 pub mod MachineNoting
 pub mod MachineShapes
 pub mod MachinesTogether
+pub mod BusesTogether
 pub mod MachinesWidened
 pub mod NumbersTold
 pub mod OthersTogether
@@ -21,4 +22,5 @@ pub mod ProfilesAsked
 pub mod ReportsCarried
 pub mod ReportsTold
 pub mod ReportsWidened
+pub mod TellingWidened
 pub mod SettingsTogether

@@ -81,7 +81,7 @@ stays_bad Bad k h (Err e) s = tt
 -- ---- one line
 
 module _ {S A L : Type 0} (Bad : L → Type 0) (tell : Outcome A → L) (told : (r : Outcome A) → IsLeftOut r → Bad (tell r)) where
-  line_widens : (p q : Outcome A × MachineState S) → IsLeftOut p.0 ⊎ (q ≡ call_widened p) → Bad (tell p.0) ⊎ (◌≡◌ {A = Outcome L × MachineState S} (Ok (tell q.0), q.1) (Ok (tell p.0), machine_widened p.1))
+  pub line_widens : (p q : Outcome A × MachineState S) → IsLeftOut p.0 ⊎ (q ≡ call_widened p) → Bad (tell p.0) ⊎ (◌≡◌ {A = Outcome L × MachineState S} (Ok (tell q.0), q.1) (Ok (tell p.0), machine_widened p.1))
   line_widens p q (inl out) = inl (told p.0 out)
   line_widens p q (inr same) = inr (ap (λ (x : Outcome A × MachineState S). (Ok (tell x.0), x.1)) same)
 

@@ -68,7 +68,7 @@ module _ {S T : Type 0} {accesses : Accesses S} {accesses2 : Accesses T} {side :
 
   -- ---- objects that are evaluated
 
-  on_world_together : {A : Type 0} {m : Change (State S) A} {n : Change (State T) A} → Together side worlds m n → Together side machines (on_world m) (on_world n)
+  pub on_world_together : {A : Type 0} {m : Change (State S) A} {n : Change (State T) A} → Together side worlds m n → Together side machines (on_world m) (on_world n)
   unfolding on_world
   on_world_together {m = m} {n = n} h = record {
     left_parted = λ s t p. h.left_parted s.world t p;

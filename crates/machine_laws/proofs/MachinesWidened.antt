@@ -18,6 +18,7 @@ use Rattle.aml_laws.proofs.WorldsTogether.{world_over, worlds}
 use Rattle.aml_laws.proofs.Widening.{same_space}
 use Rattle.acpi_machine.specs.MachineStates.{MachineState}
 use Rattle.acpi_machine.specs.Loading.{loaded_tables}
+use Rattle.acpi_machine.specs.Buses.{bus_found}
 use Rattle.acpi_machine.specs.Calls.{evaluated_object, initialized}
 use Rattle.acpi_resources.specs.Records.{InterruptOffer}
 use Rattle.acpi_prt.specs.RoutingTables.{routing_table}
@@ -30,6 +31,7 @@ use Rattle.machine_laws.proofs.MachineShapes.{machine_beside, machines}
 use Rattle.machine_laws.proofs.MachinesTogether.{loaded_tables_together, evaluated_object_together, initialized_together}
 use Rattle.machine_laws.proofs.ProfilesAsked.{Asks}
 use Rattle.machine_laws.proofs.LinksTogether.{routing_table_together, possible_resources_together, current_resources_together, resources_set_together, gathered_together}
+use Rattle.machine_laws.proofs.BusesTogether.{bus_found_together}
 use Rattle.machine_laws.proofs.OthersTogether.{device_resources_together}
 
 by_left_out : {A Q : Type 0} (r : Outcome A) → IsEnded LeftOut r ⊎ Q → IsLeftOut r ⊎ Q
@@ -121,6 +123,10 @@ module _ {S : Type 0} (accesses : Accesses S) where
   pub device_widened : (device : List Seg) (s : MachineState S) → IsLeftOut (device_resources accesses device s).0 ⊎ (device_resources accesses device (machine_widened s) ≡ call_widened (device_resources accesses device s))
   unfolding in_terms raised
   device_widened device s = term_call_widened _ (device_resources_together {side = in_terms} (λ n. refl) device) s
+
+  pub bus_widened : (device : List Seg) (s : MachineState S) → IsLeftOut (bus_found accesses device s).0 ⊎ (bus_found accesses device (machine_widened s) ≡ call_widened (bus_found accesses device s))
+  unfolding in_terms raised
+  bus_widened device s = term_call_widened _ (bus_found_together {side = in_terms} (λ n. refl) device) s
 
   -- ---- routing tables, offers, and all that is gathered
 

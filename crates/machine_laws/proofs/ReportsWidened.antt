@@ -102,7 +102,7 @@ module _ (r : RoutingReport) (none : TellsNothingLeftOut r) (settings : List Set
   none_settled (inr bad) = let found = among_contains AfterBad settings.1 bad in none.afters found.0 (subst (λ (lines : List ReportedAfter). Contains lines found.0) (sym afters) found.1) found.2
 
 -- a call that came out well comes to the same
-same_widened : {S A : Type 0} (Bad : Outcome A → Type 0) (m : Change (MachineState S) A) (s t : MachineState S) (a : A) → m s ≡ (Ok a, t) → (Bad (Ok a) → ⊥) → Widens Bad m s → m (machine_widened s) ≡ (Ok a, machine_widened t)
+pub same_widened : {S A : Type 0} (Bad : Outcome A → Type 0) (m : Change (MachineState S) A) (s t : MachineState S) (a : A) → m s ≡ (Ok a, t) → (Bad (Ok a) → ⊥) → Widens Bad m s → m (machine_widened s) ≡ (Ok a, machine_widened t)
 same_widened Bad m s t a is none (inl bad) = absurd (none (subst (λ (p : Outcome _ × MachineState _). Bad p.0) is bad))
 same_widened Bad m s t a is none (inr same) = same ∙ ap (λ (p : Outcome _ × MachineState _). call_widened p) is
 

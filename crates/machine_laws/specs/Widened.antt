@@ -12,7 +12,10 @@ use Rattle.route_report.specs.declared.report.SetLine.{SetLine}
 use Rattle.route_report.specs.declared.report.SetOutcome.{SetOutcome}
 use Rattle.route_report.specs.declared.report.SetOutcome.TheVariants as outcome
 use Rattle.route_report.specs.declared.report.UnreadLine.{UnreadLine}
-use Rattle.route_report.specs.Readable.{unread_devices}
+use Rattle.route_report.specs.declared.report.BusLine.{BusLine}
+use Rattle.route_report.specs.declared.report.BusState.{BusState}
+use Rattle.route_report.specs.declared.report.BusState.TheVariants as bus
+use Rattle.route_report.specs.Readable.{unread_devices, buses_told}
 use Rattle.route_report.specs.Reports.{AfterState, Now, Refused, ReportedAfter, RoutingReport}
 
 -- the same machine in the wide profile
@@ -50,9 +53,15 @@ abbrev pub IsUnread : AfterState → Type 0
 IsUnread (Now now) = ⊥
 IsUnread (Refused n) = IsNumberLeftOut n
 
--- no line of a report tells of a term that a profile leaves out: none of setting a link, none of reading it again, and none of a device
--- whose interrupts were to be spared
+-- the bus of a routing table couldn't be found for such a term, or for a bridge
+abbrev pub IsUnreached : BusState → Type 0
+IsUnreached (bus.Known segment n) = ⊥
+IsUnreached (bus.Refused n) = IsNumberLeftOut n
+
+-- no line of a report tells of a term that a profile leaves out: none of setting a link, none of reading it again, none of a device whose
+-- interrupts were to be spared, and none of the bus of a routing table
 pub record TellsNothingLeftOut (r : RoutingReport) : Type 0 where
   pub sets : (line : SetLine) → Contains r.sets line → IsUnset line.outcome → ⊥
   pub afters : (line : ReportedAfter) → Contains r.afters line → IsUnread line.state → ⊥
   pub unread : (line : UnreadLine) → Contains (unread_devices r.options) line → IsNumberLeftOut line.refusal → ⊥
+  pub buses : (line : BusLine) → Contains (buses_told r.options) line → IsUnreached line.state → ⊥

@@ -12,7 +12,9 @@ pub use notes::{
     routing_faults_are_answers_of_the_last_access,
 };
 pub use profiles::{
-    the_wide_profile_calls_as_the_core_one_does, the_wide_profile_gathers_what_the_core_one_does,
+    the_wide_profile_calls_as_the_core_one_does,
+    the_wide_profile_finds_the_buses_that_the_core_one_does,
+    the_wide_profile_gathers_what_the_core_one_does,
     the_wide_profile_reports_what_the_core_one_does,
 };
 pub use reports::{

@@ -10,12 +10,14 @@ ghost use Rattle.aml_laws.specs.Widened.{widened, IsLeftOut, IsLeftOutAt};
 ghost use Rattle.acpi_resources.specs.Records.{InterruptOffer};
 ghost use Rattle.acpi_machine.specs.MachineStates.{MachineState};
 ghost use Rattle.acpi_machine.specs.Loading.{loaded_tables};
+ghost use Rattle.acpi_machine.specs.Buses.{bus_found};
 ghost use Rattle.acpi_machine.specs.Calls.{evaluated_object, initialized};
 ghost use Rattle.acpi_prt.specs.RoutingTables.{routing_table};
 ghost use Rattle.acpi_links.specs.Resources.{possible_resources, current_resources};
 ghost use Rattle.acpi_links.specs.Settings.{resources_set};
 ghost use Rattle.acpi_links.specs.Gatherings.{gathered};
 ghost use Rattle.acpi_configure.specs.Configured.{IsReport};
+ghost use Rattle.acpi_configure.specs.ForKernels.{IsReportFor};
 ghost use Rattle.acpi_configure.specs.Options.{RunOptions};
 ghost use Rattle.acpi_configure.specs.WithOptions.{IsReportWith};
 ghost use Rattle.route_report.specs.Reports.{RoutingReport};
@@ -50,6 +52,14 @@ pub fn the_wide_profile_calls_as_the_core_one_does<S>()
         call_widened (resources_set accesses link offer n s)) }
 {}
 
+/// The same of the bus that a routing table is for: where the core profile reaches it, so does the wide one, by the same
+/// accesses.
+#[tactic(auto, using(crate::proofs::MachinesWidened::bus_widened))]
+pub fn the_wide_profile_finds_the_buses_that_the_core_one_does<S>()
+    ensures { (accesses : Accesses S) (device : List Seg) (s : MachineState S) → IsLeftOut (bus_found accesses device s).0 ⊎
+        (bus_found accesses device (machine_widened s) ≡ call_widened (bus_found accesses device s)) }
+{}
+
 /// The same of a routing table, of what a link may be set to, and of all that is gathered before links are set. The
 /// core profile may also refuse an exclusive offer (`Exclusive`), or a `_HID` that is a control method (`NotALink`).
 #[tactic(auto, using(crate::proofs::MachinesWidened::routing_table_widened, crate::proofs::MachinesWidened::possible_widened, crate::proofs::MachinesWidened::gathering_widened))]
@@ -66,8 +76,9 @@ pub fn the_wide_profile_gathers_what_the_core_one_does<S>()
 {}
 
 /// A report of a machine is one of the same machine in the wide profile, if no line of it tells of what the
-/// profile leaves out, and it leaves the same machine with the same registers: with options, and without.
-#[tactic(auto, using(crate::proofs::ReportsWidened::report_widened, crate::proofs::ReportsWidened::report_with_options_widened))]
+/// profile leaves out, and it leaves the same machine with the same registers: with options, with lines for a kernel, and
+/// without.
+#[tactic(auto, using(crate::proofs::ReportsWidened::report_widened, crate::proofs::ReportsWidened::report_with_options_widened, crate::proofs::TellingWidened::report_for_kernels_widened))]
 pub fn the_wide_profile_reports_what_the_core_one_does<S>()
     ensures report { (accesses : Accesses S) (dry : Bool) (avoid : List ℕ) (before after : MachineState S)
         (report : RoutingReport) → TellsNothingLeftOut report → IsReport accesses dry avoid before after report →
@@ -75,4 +86,7 @@ pub fn the_wide_profile_reports_what_the_core_one_does<S>()
     ensures with_options { (accesses : Accesses S) (o : RunOptions) (before after : MachineState S)
         (report : RoutingReport) → TellsNothingLeftOut report → IsReportWith accesses o before after report →
         IsReportWith accesses o (machine_widened before) (machine_widened after) report }
+    ensures for_kernels { (accesses : Accesses S) (o : RunOptions) (before after : MachineState S)
+        (report : RoutingReport) → TellsNothingLeftOut report → IsReportFor accesses o before after report →
+        IsReportFor accesses o (machine_widened before) (machine_widened after) report }
 {}

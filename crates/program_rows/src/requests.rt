@@ -1,6 +1,7 @@
 //! What the words of the command line ask for, as text.
 use acpiroute_lib::{
-    Argument, Arguments, Asked, Asking, Evaluation, Interrupts, Profile, Question, Request, parse,
+    Argument, Arguments, Asked, Asking, Evaluation, Flags, Interrupts, Profile, Question, Request,
+    parse,
 };
 use ar_space::PathText;
 use route_report::Mode;
@@ -91,14 +92,12 @@ fn avoid_text(alloc: Global, avoid: &Interrupts) -> Result<String, AllocError> {
     Ok(text)
 }
 
-/// Which rules of the choice are asked for, each behind a blank.
-fn rules_text(spare: bool, spread: bool) -> &'static str {
-    match (spare, spread) {
-        (false, false) => "",
-        (false, true) => " spread",
-        (true, false) => " spare",
-        (true, true) => " spare spread",
-    }
+/// The options of `route` that have no value, each behind a blank, but for `dry`.
+fn flags_text(alloc: Global, flags: Flags) -> Result<String, AllocError> {
+    let spare = if flags.spare { " spare" } else { "" };
+    let spread = if flags.spread { " spread" } else { "" };
+    let kernel = if flags.kernel { " kernel" } else { "" };
+    format!(in alloc; "{spare}{spread}{kernel}")
 }
 
 /// A request of `route` as text.
@@ -106,28 +105,22 @@ fn route_text(
     alloc: Global,
     mode: Mode,
     evaluation: &Evaluation,
-    dry: bool,
     avoid: &Interrupts,
-    rules: &str,
+    flags: Flags,
 ) -> Result<String, AllocError> {
     let mode = mode_word(mode);
     let evaluation = evaluation_text(alloc, evaluation)?;
-    let dry = if dry { " dry" } else { "" };
+    let dry = if flags.dry { " dry" } else { "" };
     let avoid = avoid_text(alloc, avoid)?;
-    format!(in alloc; "route mode {mode} {evaluation}{dry}{avoid}{rules}")
+    let flags = flags_text(alloc, flags)?;
+    format!(in alloc; "route mode {mode} {evaluation}{dry}{avoid}{flags}")
 }
 
 /// A run of which something is to be told, as text.
 fn asking_text(alloc: Global, asking: &Asking) -> Result<String, AllocError> {
     match &asking.question {
-        Question::Route {
-            dry,
-            avoid,
-            spare,
-            spread,
-        } => {
-            let rules = rules_text(*spare, *spread);
-            route_text(alloc, asking.mode, &asking.evaluation, *dry, avoid, rules)
+        Question::Route { avoid, flags } => {
+            route_text(alloc, asking.mode, &asking.evaluation, avoid, *flags)
         }
         Question::Eval { path, arguments } => {
             eval_text(alloc, asking.mode, &asking.evaluation, path, arguments)
@@ -141,14 +134,9 @@ fn request_text(alloc: Global, request: &Request) -> Result<String, AllocError> 
         Request::Route {
             mode,
             evaluation,
-            dry,
             avoid,
-            spare,
-            spread,
-        } => {
-            let rules = rules_text(*spare, *spread);
-            route_text(alloc, *mode, evaluation, *dry, avoid, rules)
-        }
+            flags,
+        } => route_text(alloc, *mode, evaluation, avoid, *flags),
         Request::Names { evaluation } => {
             let evaluation = evaluation_text(alloc, evaluation)?;
             format!(in alloc; "names {evaluation}")

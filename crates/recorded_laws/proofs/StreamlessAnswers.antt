@@ -154,7 +154,7 @@ registers_streamless asking text (Ok w) is = tt
 registers_streamless asking text (Err e) is = text_streamless text e is
 
 pub answer_streamless : (request : Request) (input : List ℕ) (r : Outcome Written) → IsAnswer request input r → Streamless r
-answer_streamless (Route mode evaluation dry avoid spare spread) input r is = routed_on_streamless _ _ r (machine_of_text_in_streamless mode evaluation input) is
+answer_streamless (Route mode evaluation avoid flags) input r is = routed_on_streamless _ _ r (machine_of_text_in_streamless mode evaluation input) is
 answer_streamless (Why asking) input r is = why_streamless asking input r is
 answer_streamless (Registers asking) input r is = registers_streamless asking input r is
 answer_streamless (Names evaluation) input r is = subst (λ (y : Outcome Written). Streamless y) is (names_streamless evaluation input)

@@ -25,7 +25,7 @@ use Rattle.acpiroute_lib.specs.Machines.{machine_left, machine_with, machine_of_
 use Rattle.acpiroute_lib.specs.NamesCommand.{names_of_machine, names_answer}
 use Rattle.machine_laws.specs.Widened.{machine_widened, call_widened}
 use Rattle.machine_laws.proofs.MachinesWidened.{tables_widened, initialization_widened, object_widened}
-use Rattle.machine_laws.proofs.ReportsWidened.{report_with_options_widened}
+use Rattle.machine_laws.proofs.TellingWidened.{report_for_kernels_widened}
 use Rattle.recorded_laws.specs.Widened.{evaluation_widened, IsWholeReport}
 
 -- the machine is refused for a term that the profile leaves out, or it is the same in the wide profile
@@ -139,7 +139,7 @@ route_of_machine o w m (is, whole) = (
   record {
     report = is.report;
     after = machine_widened is.after;
-    is_report = report_with_options_widened byte_accesses o m is.after is.report whole is.is_report;
+    is_report = report_for_kernels_widened byte_accesses o m is.after is.report whole is.is_report;
     is_text = is.is_text;
     is_read_back = is.is_read_back;
     is_checked = is.is_checked;

@@ -11,17 +11,25 @@ use Rattle.ar_space.specs.Outcome.{Outcome, ◌>>=◌}
 use Rattle.aml_path.specs.declared.segment.Seg.{Seg}
 use Rattle.aml_path.specs.Text.{text_of, path_of_text}
 use Rattle.route_check.specs.Claims.{BoundingSet, interrupts_of_bound}
-use Rattle.route_report.specs.Reading.{Said, ascends, here, number_here, path_here, named, numbered, one_of, expected, offered, offers, with_next, until, link, link_line, with_link, wired, wired_line, with_wired, sci, sci_line, with_sci, ascending_after, avoid, avoid_line, with_avoid, give, give_line, with_give, busiest, busiest_line, with_busiest, with_path, set_links, with_number, numbers_after, set, bound, bound_line, with_bound, some_numbers, spared, spared_line, with_spared, unread, unread_line, with_unread, rule_line, with_rule, keyed, line}
+use Rattle.route_report.specs.Reading.{Said, ascends, here, number_here, path_here, named, numbered, one_of, expected, offered, offers, with_next, until, link, link_line, with_link, wired, wired_line, with_wired, sci, sci_line, with_sci, ascending_after, avoid, avoid_line, with_avoid, give, give_line, with_give, busiest, busiest_line, with_busiest, with_path, set_links, with_number, numbers_after, set, bound, bound_line, with_bound, some_numbers, spared, spared_line, with_spared, unread, unread_line, with_option, triggered, link_triggered, number_triggered, source_triggered, trigger, trigger_line, bus_refused, bus_known, bus_state, bus, bus_line, claimless, rule_line, with_rule, keyed, line}
 use Rattle.acpi_resources.specs.declared.form.Form.{Form}
 use Rattle.acpi_resources.specs.declared.form.Form.TheVariants as form
 use Rattle.acpi_resources.specs.declared.form.Polarity.{Polarity}
 use Rattle.acpi_resources.specs.declared.form.Polarity.TheVariants as polarity
 use Rattle.route_report.specs.Reports.{ReportedLink, SparedDevice}
-use Rattle.route_report.specs.Printing.{Words, form_word, polarity_word, now_words, link_words, wired_words, sci_words, source_words, number_words, avoid_words, spared_words, unread_words, rule_words, give_words, busiest_words, path_words, set_of_bound, bound_words}
+use Rattle.route_report.specs.Printing.{Words, form_word, polarity_word, now_words, link_words, wired_words, sci_words, source_words, number_words, avoid_words, spared_words, unread_words, trigger_word, how_words, triggered_words, trigger_words, bus_state_words, bus_words, rule_words, give_words, busiest_words, path_words, set_of_bound, bound_words}
 use Rattle.route_report.specs.declared.report.UnreadLine.{UnreadLine}
+use Rattle.route_report.specs.declared.report.InterruptSource.{InterruptSource}
+use Rattle.route_report.specs.declared.report.InterruptSource.TheVariants as source
+use Rattle.route_report.specs.declared.report.Trigger.{Trigger}
+use Rattle.route_report.specs.declared.report.Trigger.TheVariants as triggers
+use Rattle.route_report.specs.declared.report.TriggerLine.{TriggerLine}
+use Rattle.route_report.specs.declared.report.BusState.{BusState}
+use Rattle.route_report.specs.declared.report.BusState.TheVariants as state
+use Rattle.route_report.specs.declared.report.BusLine.{BusLine}
 use Rattle.route_report.specs.declared.report.Rule.{Rule}
 use Rattle.route_report.specs.declared.report.Rule.TheVariants as rule
-use Rattle.route_report.specs.Readable.{link_of, IsReadableOffer}
+use Rattle.route_report.specs.Readable.{link_of, IsReadableOffer, IsSmallSource, IsSmallBus}
 use Rattle.route_report.proofs.Ascending.{increasing_tail}
 use Rattle.route_report.proofs.Decimals.{same_bytes, equal_bytes, number_of_decimal}
 
@@ -198,10 +206,41 @@ unfolding line keyed spared_line spared with_spared ◌>>=◌
 spared_again back n s d ms is some small = rw (named_again back n s.device (map decimal s.interrupts), some_again n s.interrupts some small, is) refl
 
 pub unread_again : (back : PathsAreReadBack) (n : ℕ) (u : UnreadLine) (d : Said) (ms : List ℕ) → d.spared ≡ Some ms → u.refusal < 2 ^ 32 → line n (unread_words u) d ≡ Ok d
-unfolding line keyed unread_line unread with_unread ◌>>=◌
+unfolding line keyed claimless unread_line unread with_option ◌>>=◌
 unread_again back n u d ms is small = rw (named_again back n u.device (decimal u.refusal ∷ []), numbered_again n u.refusal [] small, is) refl
 
 pub rule_again : (n : ℕ) (r : Rule) (d : Said) → d.rule ≡ None → line n (rule_words r) d ≡ Ok (record d { rule = Some r })
 unfolding line keyed rule_line with_rule ◌>>=◌
 rule_again n rule.First d none = rw none refl
 rule_again n rule.Spread d none = rw none refl
+
+-- ---- the lines for a kernel
+
+how_again : (n : ℕ) (t : Trigger) (p : Polarity) → triggered n (how_words t p) ≡ Ok tt
+unfolding triggered one_of ◌>>=◌
+how_again n triggers.Level polarity.Low = refl
+how_again n triggers.Level polarity.High = refl
+how_again n triggers.Edge polarity.Low = refl
+how_again n triggers.Edge polarity.High = refl
+
+source_triggered_again : (back : PathsAreReadBack) (n : ℕ) (s : InterruptSource) (t : Trigger) (p : Polarity) → IsSmallSource s → trigger n (triggered_words s ++ how_words t p) ≡ Ok tt
+unfolding trigger source_triggered link_triggered number_triggered ◌>>=◌
+source_triggered_again back n (source.Link q) t p small = rw (named_again back n q (how_words t p), how_again n t p) refl
+source_triggered_again back n (source.Wired k) t p small = rw (numbered_again n k (how_words t p) small, how_again n t p) refl
+source_triggered_again back n (source.Sci k) t p small = rw (numbered_again n k (how_words t p) small, how_again n t p) refl
+
+pub trigger_again : (back : PathsAreReadBack) (n : ℕ) (t : TriggerLine) (d : Said) (ms : List ℕ) → d.spared ≡ Some ms → IsSmallSource t.source → line n (trigger_words t) d ≡ Ok d
+unfolding line keyed claimless trigger_line with_option ◌>>=◌
+trigger_again back n t d ms is small = rw (source_triggered_again back n t.source t.trigger t.polarity small, is) refl
+
+not_refused : (k : ℕ) → k < 2 ^ 32 → bytes_eq (decimal k) (codes "refused") ≡ false
+not_refused k small = no_number_by k 114 (101 ∷ 102 ∷ 117 ∷ 115 ∷ 101 ∷ 100 ∷ []) (bytes_eq (decimal k) (codes "refused")) refl small (λ h. let bad = h.0 in omega arith)
+
+bus_state_again : (n : ℕ) (s : BusState) → IsSmallBus s → bus_state n (bus_state_words s) ≡ Ok tt
+unfolding bus_state bus_refused bus_known ◌>>=◌
+bus_state_again n (state.Known segment k) small = rw (not_refused segment small.0, number_again n segment small.0, numbered_again n k [] small.1) refl
+bus_state_again n (state.Refused r) small = rw (numbered_again n r [] small) refl
+
+pub bus_again : (back : PathsAreReadBack) (n : ℕ) (b : BusLine) (d : Said) (ms : List ℕ) → d.spared ≡ Some ms → IsSmallBus b.state → line n (bus_words b) d ≡ Ok d
+unfolding line keyed claimless bus_line bus with_option ◌>>=◌
+bus_again back n b d ms is small = rw (named_again back n b.device (bus_state_words b.state), bus_state_again n b.state small, is) refl

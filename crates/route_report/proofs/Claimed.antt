@@ -61,7 +61,7 @@ count_at wired up i j d lt b =
     let other = get_or-map (λ (w : ℕ × ℕ). w.0) wired j d 0 b in
     ap₂ nat_cmp (sym one) (sym other) ∙ number_at (map (λ w. w.0) wired) up i j 0 lt (omega arith)
 
-numbers_sorted : (xs : List ℕ) → IsStrictlyIncreasing xs → IsSorted nat_cmp xs
+pub numbers_sorted : (xs : List ℕ) → IsStrictlyIncreasing xs → IsSorted nat_cmp xs
 numbers_sorted xs up k d low b = not_less _ _ (nat_cmp_total.antisymm (get_or xs (k + 1) d) (get_or xs k d)) (number_at xs up k (k + 1) d (omega arith) b)
 
 gives_at : (links : List OfferingLink) (choice : List ℕ) → IsStrictlySortedBy path_cmp (paths_of links) → (i j : ℕ) (d : List Seg × ℕ) → i < j → j < length (gives_of links choice) → path_cmp (get_or (gives_of links choice) i d).0 (get_or (gives_of links choice) j d).0 ≡ Less

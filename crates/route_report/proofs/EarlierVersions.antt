@@ -14,9 +14,9 @@ use Rattle.route_report.specs.Lines.{lines}
 use Rattle.route_report.specs.Ordered.{barred_by}
 use Rattle.route_report.specs.Reports.{is_spread}
 use Rattle.route_report.specs.EarlierVersions.{IsEarlier, is_of_options, tells_of_options, or_none, avoided_by, avoided_in, IsWithoutOptions}
-use Rattle.route_report.specs.Reading.{Said, first_said, bad_line, word, expected, here, avoid, spared, unread, ended, with_avoid, with_spared, with_unread, with_rule, avoid_line, keyed, claimed, line, heading, lines_read, all_read, claim_of_text}
+use Rattle.route_report.specs.Reading.{Said, first_said, bad_line, word, expected, here, avoid, spared, unread, trigger, bus, ended, with_avoid, with_spared, with_option, with_rule, avoid_line, keyed, claimed, line, heading, lines_read, all_read, claim_of_text}
 use Rattle.route_report.proofs.Decimals.{equal_bytes}
-use Rattle.route_report.proofs.Effects.{says_spared, says_unread, says_rule, after, read_as, effect, line_gives, either_way}
+use Rattle.route_report.proofs.Effects.{says_spared, says_option, says_rule, after, read_as, effect, line_gives, either_way}
 use Rattle.route_report.proofs.Kept.{line_keeps}
 use Rattle.route_report.proofs.Renumbered.{avoid_alike}
 use Rattle.route_report.proofs.Turns.{went_on}
@@ -37,10 +37,11 @@ module _ (n : ℕ) (d : Said) (plain : IsPlain d.spared d.rule) where
   spared_refused (Ok ns) = ap (λ o. result_ok (here n o >>= (λ ms. Ok (record d { spared = Some (ms ++ ns) })))) plain.0
   spared_refused (Err e) = refl
 
-  unread_refused : (x : Outcome (Unit {0})) → result_ok (after n (read_as (λ _. says_unread) x) d) ≡ None
-  unfolding with_unread
-  unread_refused (Ok u) = ap (λ o. result_ok (if is_some o then Ok d else bad_line n)) plain.0
-  unread_refused (Err e) = refl
+  -- a line that claims nothing
+  claimless_refused : (x : Outcome (Unit {0})) → result_ok (after n (read_as (λ _. says_option) x) d) ≡ None
+  unfolding with_option
+  claimless_refused (Ok u) = ap (λ o. result_ok (if is_some o then Ok d else bad_line n)) plain.0
+  claimless_refused (Err e) = refl
 
   rule_refused : (r : Rule) (x : Outcome (Unit {0})) → result_ok (after n (read_as (λ _. says_rule r) x) d) ≡ None
   unfolding with_rule
@@ -50,8 +51,9 @@ module _ (n : ℕ) (d : Said) (plain : IsPlain d.spared d.rule) where
   option_refused : (key : List ℕ) (ws : List (List ℕ)) → is_of_options key ≡ true → result_ok (after n (effect (key ∷ ws)) d) ≡ None
   option_refused key ws told =
       let is : (word : List ℕ) → result_ok (after n (effect (word ∷ ws)) d) ≡ None → bytes_eq key word ≡ true → result_ok (after n (effect (key ∷ ws)) d) ≡ None = λ word none same. ap (λ w. result_ok (after n (effect (w ∷ ws)) d)) (equal_bytes key word same) ∙ none in
-      either_way _ _ told (λ e. either_way _ _ e (λ e. either_way _ _ e (is (codes "spared") (spared_refused (spared 0 ws))) (is (codes "unread") (unread_refused (unread 0 ws))))
-      (is (codes "first") (rule_refused rule.First (ended 0 ws)))) (is (codes "spread") (rule_refused rule.Spread (ended 0 ws)))
+      either_way _ _ told (λ e. either_way _ _ e (λ e. either_way _ _ e (λ e. either_way _ _ e (λ e. either_way _ _ e (is (codes "spared") (spared_refused (spared 0 ws))) (is (codes "unread") (claimless_refused (unread 0 ws))))
+      (is (codes "first") (rule_refused rule.First (ended 0 ws)))) (is (codes "spread") (rule_refused rule.Spread (ended 0 ws))))
+      (is (codes "trigger") (claimless_refused (trigger 0 ws)))) (is (codes "bus") (claimless_refused (bus 0 ws)))
 
   not_told : (b : Bool) → (b ≡ true → ⊥) → b ≡ false
   not_told true h = absurd (h refl)

@@ -8,9 +8,9 @@ use Rattle.route_check.specs.Claims.{BoundingSet}
 use Rattle.route_report.specs.Counting.{first_of}
 use Rattle.route_report.specs.declared.report.Rule.{Rule}
 use Rattle.route_report.specs.declared.report.Rule.TheVariants as rule
-use Rattle.route_report.specs.Reading.{Said, is_passed_over, bad_line, ended, link, wired, sci, avoid, spared, unread, give, busiest, bound, with_link, with_wired, with_sci, with_avoid, with_spared, with_unread, with_rule, with_give, with_busiest, with_bound, link_line, wired_line, sci_line, avoid_line, spared_line, unread_line, rule_line, give_line, busiest_line, bound_line, keyed, line}
+use Rattle.route_report.specs.Reading.{Said, is_passed_over, bad_line, ended, link, wired, sci, avoid, spared, unread, trigger, bus, give, busiest, bound, with_link, with_wired, with_sci, with_avoid, with_spared, with_option, with_rule, with_give, with_busiest, with_bound, link_line, wired_line, sci_line, avoid_line, spared_line, unread_line, trigger_line, bus_line, rule_line, give_line, busiest_line, bound_line, claimless, keyed, line}
 use Rattle.route_report.proofs.Decimals.{equal_bytes}
-use Rattle.route_report.proofs.Renumbered.{Alike, link_alike, wired_alike, sci_alike, avoid_alike, ended_alike, spared_alike, unread_alike, give_alike, busiest_alike, bound_alike}
+use Rattle.route_report.proofs.Renumbered.{Alike, link_alike, wired_alike, sci_alike, avoid_alike, ended_alike, spared_alike, unread_alike, trigger_alike, bus_alike, give_alike, busiest_alike, bound_alike}
 
 pub data Effect : Type 0 where
   refuses : Effect
@@ -20,7 +20,7 @@ pub data Effect : Type 0 where
   says_sci : Option ℕ → Effect
   says_avoid : List ℕ → Effect
   says_spared : List ℕ → Effect
-  says_unread : Effect
+  says_option : Effect
   says_rule : Rule → Effect
   says_give : List Seg × ℕ → Effect
   says_busiest : ℕ → Effect
@@ -35,7 +35,7 @@ after n (says_wired w) d = with_wired n w d
 after n (says_sci s) d = with_sci n s d
 after n (says_avoid ns) d = with_avoid n ns d
 after n (says_spared ns) d = with_spared n ns d
-after n says_unread d = with_unread n d
+after n says_option d = with_option n d
 after n (says_rule r) d = with_rule n r d
 after n (says_give g) d = with_give n g d
 after n (says_busiest k) d = with_busiest n k d
@@ -53,12 +53,14 @@ keyed_effect key ws =
     else if bytes_eq key (codes "sci") then read_as says_sci (sci 0 ws)
     else if bytes_eq key (codes "avoid") then read_as says_avoid (avoid 0 ws)
     else if bytes_eq key (codes "spared") then read_as says_spared (spared 0 ws)
-    else if bytes_eq key (codes "unread") then read_as (λ _. says_unread) (unread 0 ws)
     else if bytes_eq key (codes "first") then read_as (λ _. says_rule rule.First) (ended 0 ws)
     else if bytes_eq key (codes "spread") then read_as (λ _. says_rule rule.Spread) (ended 0 ws)
     else if bytes_eq key (codes "give") then read_as says_give (give 0 ws)
     else if bytes_eq key (codes "busiest") then read_as says_busiest (busiest 0 ws)
     else if bytes_eq key (codes "bound") then read_as says_bound (bound 0 ws)
+    else if bytes_eq key (codes "unread") then read_as (λ _. says_option) (unread 0 ws)
+    else if bytes_eq key (codes "trigger") then read_as (λ _. says_option) (trigger 0 ws)
+    else if bytes_eq key (codes "bus") then read_as (λ _. says_option) (bus 0 ws)
     else if is_passed_over key then says_nothing
     else refuses
 
@@ -79,20 +81,22 @@ module _ (n : ℕ) (d : Said) where
   either_gives false x y f g e i = i
 
   keyed_gives : (key : List ℕ) (ws : List (List ℕ)) → Alike (keyed n key ws d) (after n (keyed_effect key ws) d)
-  unfolding keyed link_line wired_line sci_line avoid_line spared_line unread_line rule_line give_line busiest_line bound_line
+  unfolding keyed claimless link_line wired_line sci_line avoid_line spared_line unread_line trigger_line bus_line rule_line give_line busiest_line bound_line
   keyed_gives key ws =
       either_gives (bytes_eq key (codes "link")) _ _ _ _ (read_gives says_link (link n ws) (link 0 ws) (link_alike n 0 ws))
       (either_gives (bytes_eq key (codes "wired")) _ _ _ _ (read_gives says_wired (wired n ws) (wired 0 ws) (wired_alike n 0 ws))
       (either_gives (bytes_eq key (codes "sci")) _ _ _ _ (read_gives says_sci (sci n ws) (sci 0 ws) (sci_alike n 0 ws))
       (either_gives (bytes_eq key (codes "avoid")) _ _ _ _ (read_gives says_avoid (avoid n ws) (avoid 0 ws) (avoid_alike n 0 ws))
       (either_gives (bytes_eq key (codes "spared")) _ _ _ _ (read_gives says_spared (spared n ws) (spared 0 ws) (spared_alike n 0 ws))
-      (either_gives (bytes_eq key (codes "unread")) _ _ _ _ (read_gives (λ _. says_unread) (unread n ws) (unread 0 ws) (unread_alike n 0 ws))
       (either_gives (bytes_eq key (codes "first")) _ _ _ _ (read_gives (λ _. says_rule rule.First) (ended n ws) (ended 0 ws) (ended_alike n 0 ws))
       (either_gives (bytes_eq key (codes "spread")) _ _ _ _ (read_gives (λ _. says_rule rule.Spread) (ended n ws) (ended 0 ws) (ended_alike n 0 ws))
       (either_gives (bytes_eq key (codes "give")) _ _ _ _ (read_gives says_give (give n ws) (give 0 ws) (give_alike n 0 ws))
       (either_gives (bytes_eq key (codes "busiest")) _ _ _ _ (read_gives says_busiest (busiest n ws) (busiest 0 ws) (busiest_alike n 0 ws))
       (either_gives (bytes_eq key (codes "bound")) _ _ _ _ (read_gives says_bound (bound n ws) (bound 0 ws) (bound_alike n 0 ws))
-      (either_gives (is_passed_over key) _ _ _ _ refl refl)))))))))))
+      (either_gives (bytes_eq key (codes "unread")) _ _ _ _ (read_gives (λ _. says_option) (unread n ws) (unread 0 ws) (unread_alike n 0 ws))
+      (either_gives (bytes_eq key (codes "trigger")) _ _ _ _ (read_gives (λ _. says_option) (trigger n ws) (trigger 0 ws) (trigger_alike n 0 ws))
+      (either_gives (bytes_eq key (codes "bus")) _ _ _ _ (read_gives (λ _. says_option) (bus n ws) (bus 0 ws) (bus_alike n 0 ws))
+      (either_gives (is_passed_over key) _ _ _ _ refl refl)))))))))))))
 
   pub line_gives : (ws : List (List ℕ)) → Alike (line n ws d) (after n (effect ws) d)
   unfolding line ◌>>=◌

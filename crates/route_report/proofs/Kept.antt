@@ -2,7 +2,7 @@
 use Rattle.std.proofs.Common.{◌≡◌, ◌∙◌, ap, subst, refl, ℕ, List, [], ◌∷◌, ◌++◌, Bool, true, false, Ok, Option, Some, None, codes, bytes_eq, if◌then◌else◌}
 use Rattle.std.specs.Prelude.{is_some}
 use Rattle.ar_space.specs.Outcome.{Outcome, ◌>>=◌}
-use Rattle.route_report.specs.Reading.{Said, bad_line, here, ended, link, wired, sci, avoid, spared, unread, give, busiest, bound, with_link, with_wired, with_sci, with_avoid, with_spared, with_unread, with_rule, with_give, with_busiest, with_bound, link_line, wired_line, sci_line, avoid_line, spared_line, unread_line, rule_line, give_line, busiest_line, bound_line, keyed, line}
+use Rattle.route_report.specs.Reading.{Said, bad_line, here, ended, link, wired, sci, avoid, spared, unread, trigger, bus, give, busiest, bound, with_link, with_wired, with_sci, with_avoid, with_spared, with_option, with_rule, with_give, with_busiest, with_bound, link_line, wired_line, sci_line, avoid_line, spared_line, unread_line, trigger_line, bus_line, rule_line, give_line, busiest_line, bound_line, claimless, keyed, line}
 use Rattle.route_report.specs.declared.report.Rule.{Rule}
 use Rattle.route_report.specs.declared.report.Rule.TheVariants as rule
 use Rattle.route_report.proofs.Decimals.{equal_bytes}
@@ -42,20 +42,22 @@ module _ (P : Option (Option ℕ) → Option (List ℕ) → Option (List ℕ) �
     told_keeps (Some ms) k is on = on ms is
 
     keyed_keeps : (key : List ℕ) (ws : List (List ℕ)) → all ≡ key ∷ ws → Keeps (keyed n key ws d)
-    unfolding keyed link_line wired_line sci_line avoid_line spared_line unread_line rule_line give_line busiest_line bound_line with_link with_wired with_sci with_avoid with_spared with_unread with_rule with_give with_busiest with_bound
+    unfolding keyed claimless link_line wired_line sci_line avoid_line spared_line unread_line trigger_line bus_line rule_line give_line busiest_line bound_line with_link with_wired with_sci with_avoid with_spared with_option with_rule with_give with_busiest with_bound
     keyed_keeps key ws these =
         if_keeps (bytes_eq key (codes "link")) _ _ (λ _. step_keeps (link n ws) _ (λ l _. room_keeps _ _ holds))
         (λ _. if_keeps (bytes_eq key (codes "wired")) _ _ (λ _. step_keeps (wired n ws) _ (λ w _. room_keeps _ _ holds))
         (λ _. if_keeps (bytes_eq key (codes "sci")) _ _ (λ _. step_keeps (sci n ws) _ (λ s _. unless_keeps _ _ (of_sci s)))
         (λ _. if_keeps (bytes_eq key (codes "avoid")) _ _ (λ same. step_keeps (avoid n ws) _ (λ ns is. unless_keeps _ _ (of_avoid ws ns (these ∙ ap (λ w. w ∷ ws) (equal_bytes key (codes "avoid") same)) is)))
         (λ _. if_keeps (bytes_eq key (codes "spared")) _ _ (λ _. step_keeps (spared n ws) _ (λ ns _. told_keeps d.spared _ refl (λ ms is. said_keeps _ (of_spared ms ns is))))
-        (λ _. if_keeps (bytes_eq key (codes "unread")) _ _ (λ _. step_keeps (unread n ws) _ (λ _ _. room_keeps _ d holds))
         (λ _. if_keeps (bytes_eq key (codes "first")) _ _ (λ _. step_keeps (ended n ws) _ (λ _ _. unless_keeps _ _ (of_rule rule.First)))
         (λ _. if_keeps (bytes_eq key (codes "spread")) _ _ (λ _. step_keeps (ended n ws) _ (λ _ _. unless_keeps _ _ (of_rule rule.Spread)))
         (λ _. if_keeps (bytes_eq key (codes "give")) _ _ (λ _. step_keeps (give n ws) _ (λ g _. said_keeps _ holds))
         (λ _. if_keeps (bytes_eq key (codes "busiest")) _ _ (λ _. step_keeps (busiest n ws) _ (λ k _. unless_keeps _ _ (λ _. holds)))
         (λ _. if_keeps (bytes_eq key (codes "bound")) _ _ (λ _. step_keeps (bound n ws) _ (λ b _. unless_keeps _ _ (λ _. holds)))
-        (λ _. room_keeps _ d holds)))))))))))
+        (λ _. if_keeps (bytes_eq key (codes "unread")) _ _ (λ _. step_keeps (unread n ws) _ (λ _ _. room_keeps _ d holds))
+        (λ _. if_keeps (bytes_eq key (codes "trigger")) _ _ (λ _. step_keeps (trigger n ws) _ (λ _ _. room_keeps _ d holds))
+        (λ _. if_keeps (bytes_eq key (codes "bus")) _ _ (λ _. step_keeps (bus n ws) _ (λ _ _. room_keeps _ d holds))
+        (λ _. room_keeps _ d holds)))))))))))))
 
     words_keep : (ws : List (List ℕ)) → all ≡ ws → Keeps (line n ws d)
     unfolding line ◌>>=◌

@@ -14,6 +14,8 @@ pub mod Plain
 pub mod Putting
 pub mod Rearranged
 pub mod Renumbered
+mod PlainLines
+pub mod KernelLines
 pub mod Sections
 pub mod ShortNumbers
 pub mod Shuffles

@@ -20,8 +20,8 @@ use Rattle.route_report.specs.Reports.{is_spread}
 use Rattle.route_report.specs.Ordered.{among, in_order, barred, barred_by, link_order, wired_order, give_order, bound_in_order, claim_in_order}
 use Rattle.route_report.specs.declared.report.Rule.{Rule}
 use Rattle.route_report.specs.Counting.{counts}
-use Rattle.route_report.specs.Reading.{Said, first_said, bad_line, here, with_link, with_wired, with_sci, with_avoid, with_spared, with_unread, with_rule, with_give, with_busiest, with_bound, claimed, line, lines_read, heading, all_read, claim_of_text}
-use Rattle.route_report.proofs.Effects.{Effect, refuses, says_nothing, says_link, says_wired, says_sci, says_avoid, says_spared, says_unread, says_rule, says_give, says_busiest, says_bound, after, effect, line_gives, passed_line}
+use Rattle.route_report.specs.Reading.{Said, first_said, bad_line, here, with_link, with_wired, with_sci, with_avoid, with_spared, with_option, with_rule, with_give, with_busiest, with_bound, claimed, line, lines_read, heading, all_read, claim_of_text}
+use Rattle.route_report.proofs.Effects.{Effect, refuses, says_nothing, says_link, says_wired, says_sci, says_avoid, says_spared, says_option, says_rule, says_give, says_busiest, says_bound, after, effect, line_gives, passed_line}
 use Rattle.route_report.proofs.Orders.{link_exact, wired_exact, give_exact, link_total, wired_total, give_total}
 use Rattle.route_report.proofs.Renumbered.{Alike, then_alike}
 use Rattle.route_report.proofs.Shuffles.{shuffled}
@@ -66,7 +66,7 @@ with_effect (says_wired w) t = record t { wired = among wired_order w t.wired }
 with_effect (says_sci s) t = record t { sci = once_more s t.sci }
 with_effect (says_avoid ns) t = record t { avoid = once_more ns t.avoid }
 with_effect (says_spared ns) t = record t { tells = true; spared = all_among nat_cmp ns t.spared }
-with_effect says_unread t = record t { tells = true }
+with_effect says_option t = record t { tells = true }
 with_effect (says_rule r) t = record t { rule = once_more r t.rule }
 with_effect (says_give g) t = record t { gives = among give_order g t.gives }
 with_effect (says_busiest k) t = record t { busiest = once_more k t.busiest }
@@ -104,7 +104,7 @@ effects_commute (says_give g) (says_give h) t = ap (λ gs. record t { gives = gs
 effects_commute (says_busiest j) (says_busiest k) t = ap (λ o. record t { busiest = o }) (once_more_commutes j k t.busiest)
 effects_commute (says_bound b) (says_bound c) t = ap (λ o. record t { bound = o }) (once_more_commutes b c t.bound)
 effects_commute refuses refuses t = refl
-effects_commute says_unread says_unread t = refl
+effects_commute says_option says_option t = refl
 effects_commute says_nothing g t = refl
 effects_commute _ _ t = refl
 
@@ -286,7 +286,7 @@ module _ (n : ℕ) (t : Total) (k : Said → Outcome RoutingClaim) (on : (e : Sa
   spared_on ns None e = sym (rw e (never t.refused))
   spared_on ns (Some ms) e = on (record d { spared = Some (ms ++ ns) }) (record { links = within.links; wired = within.wired }) ∙ (rw (e, among_behind ms ns t.spared) refl)
 
-  unread_on : (o : Option (List ℕ)) → d.spared ≡ o → result_ok ((if is_some o then Ok d else bad_line n) >>= k) ≡ finished d (with_effect says_unread t)
+  unread_on : (o : Option (List ℕ)) → d.spared ≡ o → result_ok ((if is_some o then Ok d else bad_line n) >>= k) ≡ finished d (with_effect says_option t)
   unfolding ◌>>=◌
   unread_on None e = sym (rw e (never t.refused))
   unread_on (Some ms) e = on d within ∙ (rw e refl)
@@ -308,7 +308,7 @@ module _ (n : ℕ) (t : Total) (k : Said → Outcome RoutingClaim) (on : (e : Sa
 
   -- a line, and then the others
   effect_on : (f : Effect) → result_ok (after n f d >>= k) ≡ finished d (with_effect f t)
-  unfolding ◌>>=◌ with_link with_wired with_sci with_avoid with_spared with_unread with_rule with_give with_busiest with_bound
+  unfolding ◌>>=◌ with_link with_wired with_sci with_avoid with_spared with_option with_rule with_give with_busiest with_bound
   effect_on refuses = refl
   effect_on says_nothing = on d within
   effect_on (says_link l) = link_on l (nat_lt (length d.links) 256) refl
@@ -316,7 +316,7 @@ module _ (n : ℕ) (t : Total) (k : Said → Outcome RoutingClaim) (on : (e : Sa
   effect_on (says_sci s) = sci_on s d.sci refl
   effect_on (says_avoid ns) = avoid_on ns d.avoid refl
   effect_on (says_spared ns) = spared_on ns d.spared refl
-  effect_on says_unread = unread_on d.spared refl
+  effect_on says_option = unread_on d.spared refl
   effect_on (says_rule r) = rule_on r d.rule refl
   effect_on (says_give g) = on (record d { gives = d.gives ++ g ∷ [] }) (record { links = within.links; wired = within.wired }) ∙ (rw (among_push give_order d.gives t.gives g) refl)
   effect_on (says_busiest j) = busiest_on j d.busiest refl

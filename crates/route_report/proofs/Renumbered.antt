@@ -6,7 +6,7 @@ use Rattle.ar_space.specs.Outcome.{Outcome, ◌>>=◌}
 use Rattle.aml_path.specs.declared.segment.Seg.{Seg}
 use Rattle.aml_path.specs.Text.{text_of, path_of_text}
 use Rattle.route_report.specs.Lines.{number}
-use Rattle.route_report.specs.Reading.{ascends, in_line, here, word, ended, expected, one_of, number_here, path_here, numbered, named, with_next, until, offers, offered, link, wired, sci, ascending_after, avoid, some_numbers, spared, unread, give, busiest, with_path, set_links, with_number, numbers_after, set, bound}
+use Rattle.route_report.specs.Reading.{ascends, in_line, here, word, ended, expected, one_of, number_here, path_here, numbered, named, with_next, until, offers, offered, link, wired, sci, ascending_after, avoid, some_numbers, spared, unread, triggered, link_triggered, number_triggered, source_triggered, trigger, bus_refused, bus_known, bus_state, bus, give, busiest, with_path, set_links, with_number, numbers_after, set, bound}
 
 -- two outcomes give the same value, or are both a refusal
 abbrev pub Alike : {A : Type 0} → Outcome A → Outcome A → Type 0
@@ -160,6 +160,48 @@ module _ (n m : ℕ) where
   pub unread_alike : (ws : List (List ℕ)) → Alike (unread n ws) (unread m ws)
   unfolding unread
   unread_alike ws = then_alike (named n ws) (named m ws) _ _ (named_alike ws) (λ p. then_alike (numbered n p.1) (numbered m p.1) _ _ (numbered_alike p.1) (λ r. ended_alike r.1))
+
+  triggered_alike : (ws : List (List ℕ)) → Alike (triggered n ws) (triggered m ws)
+  unfolding triggered
+  triggered_alike ws =
+      then_alike (one_of n (codes "level") (codes "edge") ws) (one_of m (codes "level") (codes "edge") ws) _ _ (one_of_alike (codes "level") (codes "edge") ws)
+      (λ t. then_alike (one_of n (codes "low") (codes "high") t) (one_of m (codes "low") (codes "high") t) _ _ (one_of_alike (codes "low") (codes "high") t) (λ p. ended_alike p))
+
+  link_triggered_alike : (ws : List (List ℕ)) → Alike (link_triggered n ws) (link_triggered m ws)
+  unfolding link_triggered
+  link_triggered_alike ws = then_alike (named n ws) (named m ws) _ _ (named_alike ws) (λ p. triggered_alike p.1)
+
+  number_triggered_alike : (ws : List (List ℕ)) → Alike (number_triggered n ws) (number_triggered m ws)
+  unfolding number_triggered
+  number_triggered_alike ws = then_alike (numbered n ws) (numbered m ws) _ _ (numbered_alike ws) (λ a. triggered_alike a.1)
+
+  source_triggered_alike : (w : List ℕ) (ws : List (List ℕ)) → Alike (source_triggered n w ws) (source_triggered m w ws)
+  unfolding source_triggered
+  source_triggered_alike w ws =
+      if_alike (bytes_eq w (codes "link")) _ _ _ _ (link_triggered_alike ws)
+      (if_alike (bytes_eq w (codes "wired") || bytes_eq w (codes "sci")) _ _ _ _ (number_triggered_alike ws) refl)
+
+  pub trigger_alike : (ws : List (List ℕ)) → Alike (trigger n ws) (trigger m ws)
+  unfolding trigger
+  trigger_alike ws = then_alike (word n ws) (word m ws) _ _ (word_alike ws) (λ w. source_triggered_alike w.0 w.1)
+
+  bus_refused_alike : (ws : List (List ℕ)) → Alike (bus_refused n ws) (bus_refused m ws)
+  unfolding bus_refused
+  bus_refused_alike ws = then_alike (numbered n ws) (numbered m ws) _ _ (numbered_alike ws) (λ r. ended_alike r.1)
+
+  bus_known_alike : (w : List ℕ) (ws : List (List ℕ)) → Alike (bus_known n w ws) (bus_known m w ws)
+  unfolding bus_known
+  bus_known_alike w ws =
+      then_alike (number_here n w) (number_here m w) _ _ (here_alike (number w))
+      (λ _. then_alike (numbered n ws) (numbered m ws) _ _ (numbered_alike ws) (λ b. ended_alike b.1))
+
+  bus_state_alike : (ws : List (List ℕ)) → Alike (bus_state n ws) (bus_state m ws)
+  unfolding bus_state
+  bus_state_alike ws = then_alike (word n ws) (word m ws) _ _ (word_alike ws) (λ w. if_alike (bytes_eq w.0 (codes "refused")) _ _ _ _ (bus_refused_alike w.1) (bus_known_alike w.0 w.1))
+
+  pub bus_alike : (ws : List (List ℕ)) → Alike (bus n ws) (bus m ws)
+  unfolding bus
+  bus_alike ws = then_alike (named n ws) (named m ws) _ _ (named_alike ws) (λ p. bus_state_alike p.1)
 
   set_alike : (w : List ℕ) (ws : List (List ℕ)) → Alike (set n w ws) (set m w ws)
   unfolding set

@@ -9,7 +9,7 @@ use Rattle.aml_path.specs.declared.segment.Seg.{Seg}
 use Rattle.aml_path.specs.Text.{text_of}
 use Rattle.route_check.specs.Claims.{BoundingSet, RoutingClaim}
 use Rattle.route_report.specs.Lines.{joined}
-use Rattle.route_report.specs.Reading.{Said, first_said, line, keyed, heading, expected, claimed, lines_read, all_read, claim_of_text}
+use Rattle.route_report.specs.Reading.{Said, first_said, line, keyed, claimless, heading, expected, claimed, lines_read, all_read, claim_of_text}
 use Rattle.ar_tables.specs.declared.mode.Mode.{Mode}
 use Rattle.ar_tables.specs.declared.mode.Mode.TheVariants as mode
 use Rattle.acpi_resources.specs.declared.form.Form.{Form}
@@ -30,207 +30,20 @@ use Rattle.route_report.specs.declared.report.SetLine.{SetLine}
 use Rattle.route_report.specs.declared.report.UnreadLine.{UnreadLine}
 use Rattle.route_report.specs.declared.report.Rule.{Rule}
 use Rattle.route_report.specs.declared.report.Rule.TheVariants as rule
+use Rattle.route_report.specs.declared.report.InterruptSource.{InterruptSource}
+use Rattle.route_report.specs.declared.report.InterruptSource.TheVariants as source
+use Rattle.route_report.specs.declared.report.Trigger.{Trigger}
+use Rattle.route_report.specs.declared.report.Trigger.TheVariants as trigger
+use Rattle.route_report.specs.declared.report.TriggerLine.{TriggerLine}
+use Rattle.route_report.specs.declared.report.BusState.{BusState}
+use Rattle.route_report.specs.declared.report.BusState.TheVariants as bus
+use Rattle.route_report.specs.declared.report.BusLine.{BusLine}
 use Rattle.route_report.specs.Reports.{ReportedLink, AfterState, Now, Refused, ReportedAfter, SparedDevice, ReportedOptions, RoutingReport}
-use Rattle.route_report.specs.Printing.{Words, mode_word, form_word, polarity_word, pin_word, number_words, path_words, now_words, version_word, heading_words, mode_words, io_apic_words, override_words, source_words, sci_words, avoid_words, spared_words, unread_words, rule_words, option_lines, link_words, wired_words, route_words, pin_words, give_words, busiest_words, set_of_bound, bound_words, outcome_words, set_words, state_words, after_words, found_lines, chosen_lines, text_of_report}
-use Rattle.route_report.specs.Readable.{link_of, spared_numbers, spared_by, spared_devices, unread_devices, claim_of_report, IsReadableOffer, IsReadable, IsSmall, rule_by}
+use Rattle.route_report.specs.Printing.{Words, mode_word, form_word, polarity_word, pin_word, number_words, path_words, now_words, version_word, heading_words, mode_words, io_apic_words, override_words, source_words, sci_words, avoid_words, spared_words, unread_words, rule_words, option_lines, link_words, wired_words, route_words, pin_words, give_words, busiest_words, set_of_bound, bound_words, outcome_words, set_words, state_words, after_words, trigger_word, how_words, triggered_words, trigger_words, bus_state_words, bus_words, kernel_lines, found_lines, chosen_lines, text_of_report}
+use Rattle.route_report.specs.Readable.{link_of, spared_numbers, spared_by, spared_devices, unread_devices, claim_of_report, IsReadableOffer, IsReadable, IsSmall, IsSmallSource, IsSmallBus, triggers_told, buses_told, rule_by}
 use Rattle.route_report.proofs.Plain.{Plain, PlainWords, literal, decimal_plain, upper_plain, path_plain, words_again, lines_again}
-use Rattle.route_report.proofs.Again.{PathsAreReadBack, link_again, wired_again, sci_again, avoid_again, spared_again, unread_again, rule_again, give_again, busiest_again, bound_again}
-
--- the words of each line are plain
-key : (k : List ℕ) (ws : Words) → All Plain k → PlainWords ws → PlainWords (k ∷ ws)
-key k ws h i = All-cons (All Plain) k ws h i
-
-none : PlainWords []
-none = All-nil (All Plain)
-
-decimals : (ns : List ℕ) → PlainWords (map decimal ns)
-decimals ns = All-map (All Plain) decimal ns (λ i d l. decimal_plain (get_or ns i d))
-
-paths : (ps : List (List Seg)) → PlainWords (map text_of ps)
-paths ps = All-map (All Plain) text_of ps (λ i d l. path_plain (get_or ps i d))
-
-number_words_plain : (ns : List ℕ) → PlainWords (number_words ns)
-number_words_plain [] = key (codes "-") [] (literal (codes "-") refl) none
-number_words_plain (n ∷ ns) = decimals (n ∷ ns)
-
-path_words_plain : (ps : List (List Seg)) → PlainWords (path_words ps)
-path_words_plain [] = key (codes "-") [] (literal (codes "-") refl) none
-path_words_plain (p ∷ ps) = paths (p ∷ ps)
-
-now_plain : (now : Option (List ℕ)) → PlainWords (now_words now)
-now_plain None = key (codes "none") [] (literal (codes "none") refl) none
-now_plain (Some ns) = number_words_plain ns
-
-mode_word_plain : (m : Mode) → All Plain (mode_word m)
-mode_word_plain mode.Apic = literal (codes "apic") refl
-mode_word_plain mode.Pic = literal (codes "pic") refl
-
-form_plain : (f : Form) → All Plain (form_word f)
-form_plain form.Small = literal (codes "small") refl
-form_plain form.Extended = literal (codes "extended") refl
-
-polarity_plain : (p : Polarity) → All Plain (polarity_word p)
-polarity_plain polarity.Low = literal (codes "low") refl
-polarity_plain polarity.High = literal (codes "high") refl
-
-pin_word_plain : (p : PinName) → All Plain (pin_word p)
-pin_word_plain pin.A = literal (codes "A") refl
-pin_word_plain pin.B = literal (codes "B") refl
-pin_word_plain pin.C = literal (codes "C") refl
-pin_word_plain pin.D = literal (codes "D") refl
-
-version_plain : (o : Option ReportedOptions) → All Plain (version_word o)
-version_plain None = literal (codes "2") refl
-version_plain (Some o) = literal (codes "3") refl
-
-heading_plain : (o : Option ReportedOptions) → PlainWords (heading_words o)
-heading_plain o = key (codes "acpiroute") (version_word o ∷ []) (literal (codes "acpiroute") refl) (key (version_word o) [] (version_plain o) none)
-
-mode_plain : (m : Mode) → PlainWords (mode_words m)
-mode_plain m = key (codes "mode") (mode_word m ∷ []) (literal (codes "mode") refl) (key (mode_word m) [] (mode_word_plain m) none)
-
-io_apic_plain : (a : IoApicLine) → PlainWords (io_apic_words a)
-io_apic_plain a =
-    let address = encode_upper (to_be_bytes w32 a.address) in
-    key (codes "ioapic") (decimal a.id ∷ codes "at" ∷ address ∷ codes "base" ∷ decimal a.gsi_base ∷ []) (literal (codes "ioapic") refl)
-    (key (decimal a.id) (codes "at" ∷ address ∷ codes "base" ∷ decimal a.gsi_base ∷ []) (decimal_plain a.id)
-    (key (codes "at") (address ∷ codes "base" ∷ decimal a.gsi_base ∷ []) (literal (codes "at") refl)
-    (key address (codes "base" ∷ decimal a.gsi_base ∷ []) (upper_plain (to_be_bytes w32 a.address))
-    (key (codes "base") (decimal a.gsi_base ∷ []) (literal (codes "base") refl)
-    (key (decimal a.gsi_base) [] (decimal_plain a.gsi_base) none)))))
-
-override_plain : (o : OverrideLine) → PlainWords (override_words o)
-override_plain o =
-    let flags = encode_upper (to_be_bytes w16 o.flags) in
-    key (codes "override") (decimal o.source ∷ codes "to" ∷ decimal o.gsi ∷ codes "flags" ∷ flags ∷ []) (literal (codes "override") refl)
-    (key (decimal o.source) (codes "to" ∷ decimal o.gsi ∷ codes "flags" ∷ flags ∷ []) (decimal_plain o.source)
-    (key (codes "to") (decimal o.gsi ∷ codes "flags" ∷ flags ∷ []) (literal (codes "to") refl)
-    (key (decimal o.gsi) (codes "flags" ∷ flags ∷ []) (decimal_plain o.gsi)
-    (key (codes "flags") (flags ∷ []) (literal (codes "flags") refl)
-    (key flags [] (upper_plain (to_be_bytes w16 o.flags)) none)))))
-
-source_plain : (s : Option ℕ) → PlainWords (source_words s)
-source_plain None = key (codes "none") [] (literal (codes "none") refl) none
-source_plain (Some n) = key (decimal n) [] (decimal_plain n) none
-
-sci_plain : (s : Option ℕ) → PlainWords (sci_words s)
-sci_plain s = key (codes "sci") (source_words s) (literal (codes "sci") refl) (source_plain s)
-
-avoid_plain : (ns : List ℕ) → PlainWords (avoid_words ns)
-avoid_plain ns = key (codes "avoid") (number_words ns) (literal (codes "avoid") refl) (number_words_plain ns)
-
-link_plain : (l : ReportedLink) → PlainWords (link_words l)
-link_plain l =
-    let now = now_words l.now in
-    let tail = map decimal l.offers ++ codes "now" ∷ now in
-    key (codes "link") (text_of l.path ∷ form_word l.form ∷ polarity_word l.polarity ∷ codes "offers" ∷ tail) (literal (codes "link") refl)
-    (key (text_of l.path) (form_word l.form ∷ polarity_word l.polarity ∷ codes "offers" ∷ tail) (path_plain l.path)
-    (key (form_word l.form) (polarity_word l.polarity ∷ codes "offers" ∷ tail) (form_plain l.form)
-    (key (polarity_word l.polarity) (codes "offers" ∷ tail) (polarity_plain l.polarity)
-    (key (codes "offers") tail (literal (codes "offers") refl)
-    (All-append (All Plain) (map decimal l.offers) (codes "now" ∷ now) (decimals l.offers) (key (codes "now") now (literal (codes "now") refl) (now_plain l.now)))))))
-
-wired_plain : (w : ℕ × ℕ) → PlainWords (wired_words w)
-wired_plain w =
-    key (codes "wired") (decimal w.0 ∷ decimal w.1 ∷ []) (literal (codes "wired") refl)
-    (key (decimal w.0) (decimal w.1 ∷ []) (decimal_plain w.0) (key (decimal w.1) [] (decimal_plain w.1) none))
-
-route_plain : (r : PinRoute) → PlainWords (route_words r)
-route_plain (route.Link n p) = key (decimal n) (text_of p ∷ []) (decimal_plain n) (key (text_of p) [] (path_plain p) none)
-route_plain (route.Wired n) = key (decimal n) (codes "wired" ∷ []) (decimal_plain n) (key (codes "wired") [] (literal (codes "wired") refl) none)
-route_plain (route.Absent p) = key (codes "absent") (text_of p ∷ []) (literal (codes "absent") refl) (key (text_of p) [] (path_plain p) none)
-
-pin_plain : (p : PinLine) → PlainWords (pin_words p)
-pin_plain p =
-    let rest = route_words p.route in
-    key (codes "pin") (text_of p.device ∷ decimal p.number ∷ pin_word p.pin ∷ rest) (literal (codes "pin") refl)
-    (key (text_of p.device) (decimal p.number ∷ pin_word p.pin ∷ rest) (path_plain p.device)
-    (key (decimal p.number) (pin_word p.pin ∷ rest) (decimal_plain p.number)
-    (key (pin_word p.pin) rest (pin_word_plain p.pin) (route_plain p.route))))
-
-give_plain : (g : List Seg × ℕ) → PlainWords (give_words g)
-give_plain g =
-    key (codes "give") (text_of g.0 ∷ decimal g.1 ∷ []) (literal (codes "give") refl)
-    (key (text_of g.0) (decimal g.1 ∷ []) (path_plain g.0) (key (decimal g.1) [] (decimal_plain g.1) none))
-
-busiest_plain : (k : ℕ) → PlainWords (busiest_words k)
-busiest_plain k = key (codes "busiest") (decimal k ∷ []) (literal (codes "busiest") refl) (key (decimal k) [] (decimal_plain k) none)
-
-set_of_bound_plain : (b : Option BoundingSet) → PlainWords (set_of_bound b)
-set_of_bound_plain None = key (codes "none") [] (literal (codes "none") refl) none
-set_of_bound_plain (Some b) =
-    All-append (All Plain) (path_words b.links) (codes "over" ∷ map decimal b.interrupts) (path_words_plain b.links) (key (codes "over") (map decimal b.interrupts) (literal (codes "over") refl) (decimals b.interrupts))
-
-bound_plain : (b : Option BoundingSet) → PlainWords (bound_words b)
-bound_plain b = key (codes "bound") (set_of_bound b) (literal (codes "bound") refl) (set_of_bound_plain b)
-
-refused_plain : (r : ℕ) → PlainWords (codes "refused" ∷ decimal r ∷ [])
-refused_plain r = key (codes "refused") (decimal r ∷ []) (literal (codes "refused") refl) (key (decimal r) [] (decimal_plain r) none)
-
-outcome_plain : (o : SetOutcome) → PlainWords (outcome_words o)
-outcome_plain outcome.Done = key (codes "ok") [] (literal (codes "ok") refl) none
-outcome_plain outcome.NoSetting = key (codes "none") [] (literal (codes "none") refl) none
-outcome_plain (outcome.Refused r) = refused_plain r
-
-set_plain : (s : SetLine) → PlainWords (set_words s)
-set_plain s = key (codes "set") (text_of s.path ∷ outcome_words s.outcome) (literal (codes "set") refl) (key (text_of s.path) (outcome_words s.outcome) (path_plain s.path) (outcome_plain s.outcome))
-
-state_plain : (a : AfterState) → PlainWords (state_words a)
-state_plain (Now now) = now_plain now
-state_plain (Refused r) = refused_plain r
-
-after_plain : (a : ReportedAfter) → PlainWords (after_words a)
-after_plain a = key (codes "after") (text_of a.path ∷ state_words a.state) (literal (codes "after") refl) (key (text_of a.path) (state_words a.state) (path_plain a.path) (state_plain a.state))
-
-section : {X : Type 0} (view : X → Words) → ((x : X) → PlainWords (view x)) → (xs : List X) → All PlainWords (map view xs)
-section view plain xs = All-map PlainWords view xs (λ i d l. plain (get_or xs i d))
-
-spared_plain : (s : SparedDevice) → PlainWords (spared_words s)
-spared_plain s = key (codes "spared") (text_of s.device ∷ map decimal s.interrupts) (literal (codes "spared") refl) (key (text_of s.device) (map decimal s.interrupts) (path_plain s.device) (decimals s.interrupts))
-
-unread_plain : (u : UnreadLine) → PlainWords (unread_words u)
-unread_plain u =
-    key (codes "unread") (text_of u.device ∷ decimal u.refusal ∷ []) (literal (codes "unread") refl)
-    (key (text_of u.device) (decimal u.refusal ∷ []) (path_plain u.device) (key (decimal u.refusal) [] (decimal_plain u.refusal) none))
-
-rule_plain : (r : Rule) → PlainWords (rule_words r)
-rule_plain rule.First = key (codes "first") [] (literal (codes "first") refl) none
-rule_plain rule.Spread = key (codes "spread") [] (literal (codes "spread") refl) none
-
-options_plain : (o : Option ReportedOptions) → All PlainWords (option_lines o)
-options_plain None = All-nil PlainWords
-options_plain (Some o) =
-    let rules = rule_words o.rule ∷ [] in
-    All-append PlainWords (map spared_words o.spared) (map unread_words o.unread ++ rules) (section spared_words spared_plain o.spared)
-    (All-append PlainWords (map unread_words o.unread) rules (section unread_words unread_plain o.unread) (All-cons PlainWords (rule_words o.rule) [] (rule_plain o.rule) (All-nil PlainWords)))
-
-found_plain : (r : RoutingReport) → All PlainWords (found_lines r)
-found_plain r =
-    let pins = map pin_words r.pins in
-    let wireds = map wired_words r.wired ++ pins in
-    let links = map link_words r.links ++ wireds in
-    let options = option_lines r.options ++ links in
-    let others = sci_words r.sci ∷ avoid_words r.avoid ∷ options in
-    let overrides = map override_words r.overrides ++ others in
-    let io_apics = map io_apic_words r.io_apics ++ overrides in
-    All-cons PlainWords (heading_words r.options) (mode_words r.mode ∷ io_apics) (heading_plain r.options)
-    (All-cons PlainWords (mode_words r.mode) io_apics (mode_plain r.mode)
-    (All-append PlainWords (map io_apic_words r.io_apics) overrides (section io_apic_words io_apic_plain r.io_apics)
-    (All-append PlainWords (map override_words r.overrides) others (section override_words override_plain r.overrides)
-    (All-cons PlainWords (sci_words r.sci) (avoid_words r.avoid ∷ options) (sci_plain r.sci)
-    (All-cons PlainWords (avoid_words r.avoid) options (avoid_plain r.avoid)
-    (All-append PlainWords (option_lines r.options) links (options_plain r.options)
-    (All-append PlainWords (map link_words r.links) wireds (section link_words link_plain r.links)
-    (All-append PlainWords (map wired_words r.wired) pins (section wired_words wired_plain r.wired) (section pin_words pin_plain r.pins)))))))))
-
-chosen_plain : (r : RoutingReport) → All PlainWords (chosen_lines r)
-chosen_plain r =
-    let afters = map after_words r.afters in
-    let sets = map set_words r.sets ++ afters in
-    All-append PlainWords (map give_words r.gives) (busiest_words r.busiest ∷ bound_words r.bound ∷ sets) (section give_words give_plain r.gives)
-    (All-cons PlainWords (busiest_words r.busiest) (bound_words r.bound ∷ sets) (busiest_plain r.busiest)
-    (All-cons PlainWords (bound_words r.bound) sets (bound_plain r.bound)
-    (All-append PlainWords (map set_words r.sets) afters (section set_words set_plain r.sets) (section after_words after_plain r.afters))))
+use Rattle.route_report.proofs.PlainLines.{none, mode_plain, io_apic_plain, override_plain, sci_plain, avoid_plain, link_plain, wired_plain, pin_plain, give_plain, busiest_plain, bound_plain, set_plain, after_plain, section, spared_plain, unread_plain, rule_plain, trigger_plain, bus_plain, found_plain, chosen_plain}
+use Rattle.route_report.proofs.Again.{PathsAreReadBack, link_again, wired_again, sci_again, avoid_again, spared_again, unread_again, trigger_again, bus_again, rule_again, give_again, busiest_again, bound_again}
 
 -- the rest of a report's lines
 abbrev reads : ℕ → List Words → Said → Outcome RoutingClaim
@@ -253,27 +66,27 @@ over k tail plain passes n [] rest d = (n, refl)
 over k tail plain passes n (x ∷ xs) rest d = reach n k (tail x) (map (λ y. k ∷ tail y) xs ++ rest) d d rest d (plain x) (passes n x d) (over k tail plain passes (n + 1) xs rest d)
 
 mode_passed : (n : ℕ) (m : Mode) (d : Said) → line n (mode_words m) d ≡ Ok d
-unfolding line keyed ◌>>=◌
+unfolding line keyed claimless ◌>>=◌
 mode_passed n m d = refl
 
 io_apic_passed : (n : ℕ) (a : IoApicLine) (d : Said) → line n (io_apic_words a) d ≡ Ok d
-unfolding line keyed ◌>>=◌
+unfolding line keyed claimless ◌>>=◌
 io_apic_passed n a d = refl
 
 override_passed : (n : ℕ) (o : OverrideLine) (d : Said) → line n (override_words o) d ≡ Ok d
-unfolding line keyed ◌>>=◌
+unfolding line keyed claimless ◌>>=◌
 override_passed n o d = refl
 
 pin_passed : (n : ℕ) (p : PinLine) (d : Said) → line n (pin_words p) d ≡ Ok d
-unfolding line keyed ◌>>=◌
+unfolding line keyed claimless ◌>>=◌
 pin_passed n p d = refl
 
 set_passed : (n : ℕ) (s : SetLine) (d : Said) → line n (set_words s) d ≡ Ok d
-unfolding line keyed ◌>>=◌
+unfolding line keyed claimless ◌>>=◌
 set_passed n s d = refl
 
 after_passed : (n : ℕ) (a : ReportedAfter) (d : Said) → line n (after_words a) d ≡ Ok d
-unfolding line keyed ◌>>=◌
+unfolding line keyed claimless ◌>>=◌
 after_passed n a d = refl
 
 -- lines that add to what is claimed
@@ -338,6 +151,18 @@ all_unread back n (u ∷ us) rest d ms is small =
     reach n (codes "unread") (text_of u.device ∷ decimal u.refusal ∷ []) (map unread_words us ++ rest) d d rest d (unread_plain u) (unread_again back n u d ms is (All-head (λ x. x.refusal < 2 ^ 32) u us small))
     (all_unread back (n + 1) us rest d ms is (All-tail (λ x. x.refusal < 2 ^ 32) u us small))
 
+all_triggers : (back : PathsAreReadBack) (n : ℕ) (ts : List TriggerLine) (rest : List Words) (d : Said) (ms : List ℕ) → d.spared ≡ Some ms → All (λ t. IsSmallSource t.source) ts → Reaches n (map trigger_words ts ++ rest) d rest d
+all_triggers back n [] rest d ms is small = (n, refl)
+all_triggers back n (t ∷ ts) rest d ms is small =
+    reach n (codes "trigger") (triggered_words t.source ++ how_words t.trigger t.polarity) (map trigger_words ts ++ rest) d d rest d (trigger_plain t) (trigger_again back n t d ms is (All-head (λ x. IsSmallSource x.source) t ts small))
+    (all_triggers back (n + 1) ts rest d ms is (All-tail (λ x. IsSmallSource x.source) t ts small))
+
+all_buses : (back : PathsAreReadBack) (n : ℕ) (bs : List BusLine) (rest : List Words) (d : Said) (ms : List ℕ) → d.spared ≡ Some ms → All (λ b. IsSmallBus b.state) bs → Reaches n (map bus_words bs ++ rest) d rest d
+all_buses back n [] rest d ms is small = (n, refl)
+all_buses back n (b ∷ bs) rest d ms is small =
+    reach n (codes "bus") (text_of b.device ∷ bus_state_words b.state) (map bus_words bs ++ rest) d d rest d (bus_plain b) (bus_again back n b d ms is (All-head (λ x. IsSmallBus x.state) b bs small))
+    (all_buses back (n + 1) bs rest d ms is (All-tail (λ x. IsSmallBus x.state) b bs small))
+
 rule_read : (n : ℕ) (r : Rule) (rest : List Words) (d : Said) → d.rule ≡ None → Reaches n (rule_words r ∷ rest) d rest (record d { rule = Some r })
 rule_read n rule.First rest d none = let e : Said = record d { rule = Some rule.First } in reach n (codes "first") [] rest d e rest e (rule_plain rule.First) (rule_again n rule.First d none) (n + 1, refl)
 rule_read n rule.Spread rest d none = let e : Said = record d { rule = Some rule.Spread } in reach n (codes "spread") [] rest d e rest e (rule_plain rule.Spread) (rule_again n rule.Spread d none) (n + 1, refl)
@@ -354,6 +179,15 @@ options_read back n (Some o) rest d is ruled some small few =
     let spareds = next n (map spared_words o.spared ++ unreads) d unreads e rest f (all_spared back n o.spared unreads d [] is some small)
     (λ m. next m unreads e rules e rest f (all_unread back m o.unread rules e (spared_numbers o.spared) refl few) (λ k. rule_read k o.rule rest e ruled)) in
     (spareds.0, ap (λ ls. reads n ls d) (simp append_assoc refl) ∙ spareds.1)
+
+kernel_read : (back : PathsAreReadBack) (n : ℕ) (o : Option ReportedOptions) (rest : List Words) (d : Said) → d.spared ≡ spared_by o → All (λ t. IsSmallSource t.source) (triggers_told o) → All (λ b. IsSmallBus b.state) (buses_told o)
+    → Reaches n (kernel_lines o ++ rest) d rest d
+kernel_read back n None rest d is triggers buses = (n, refl)
+kernel_read back n (Some o) rest d is triggers buses =
+    let buses_left = map bus_words o.buses ++ rest in
+    let read = next n (map trigger_words o.triggers ++ buses_left) d buses_left d rest d (all_triggers back n o.triggers buses_left d (spared_numbers o.spared) is triggers)
+    (λ m. all_buses back m o.buses rest d (spared_numbers o.spared) is buses) in
+    (read.0, ap (λ ls. reads n ls d) (simp append_assoc refl) ∙ read.1)
 
 -- what the first line says
 abbrev blank : Option ReportedOptions → Said
@@ -384,7 +218,7 @@ abbrev all_said : RoutingReport → Said
 all_said r = record (busy r) { bound = Some r.bound }
 
 abbrev last_lines : RoutingReport → List Words
-last_lines r = map set_words r.sets ++ (map after_words r.afters ++ [])
+last_lines r = map set_words r.sets ++ (map after_words r.afters ++ (kernel_lines r.options ++ []))
 
 abbrev chosen_rest : RoutingReport → List Words
 chosen_rest r = busiest_words r.busiest ∷ bound_words r.bound ∷ last_lines r
@@ -396,18 +230,20 @@ all_lines r = mode_words r.mode ∷ (map io_apic_words r.io_apics ++ (map overri
 flat : (r : RoutingReport) → found_lines r ++ chosen_lines r ≡ heading_words r.options ∷ all_lines r
 flat r = simp (append_assoc, append-nil) refl
 
-read_last : (r : RoutingReport) (d : Said) (n : ℕ) → Reaches n (last_lines r) d [] d
-read_last r d n =
-    let afters = map after_words r.afters ++ [] in
+read_last : (back : PathsAreReadBack) (r : RoutingReport) → IsSmall r → (d : Said) → d.spared ≡ spared_by r.options → (n : ℕ) → Reaches n (last_lines r) d [] d
+read_last back r small d is n =
+    let kernel = kernel_lines r.options ++ [] in
+    let afters = map after_words r.afters ++ kernel in
     next n (last_lines r) d afters d [] d (over (codes "set") (λ (s : SetLine). text_of s.path ∷ outcome_words s.outcome) set_plain set_passed n r.sets afters d)
-    (λ m. over (codes "after") (λ (a : ReportedAfter). text_of a.path ∷ state_words a.state) after_plain after_passed m r.afters [] d)
+    (λ m. next m afters d kernel d [] d (over (codes "after") (λ (a : ReportedAfter). text_of a.path ∷ state_words a.state) after_plain after_passed m r.afters kernel d)
+    (λ m. kernel_read back m r.options [] d is small.triggers small.buses))
 
 read_chosen : (back : PathsAreReadBack) (r : RoutingReport) → IsSmall r → (n : ℕ) → Reaches n (map give_words r.gives ++ chosen_rest r) (with_wires r) [] (all_said r)
 read_chosen back r small n =
     next n (map give_words r.gives ++ chosen_rest r) (with_wires r) (chosen_rest r) (given r) [] (all_said r) (all_gives back n r.gives (chosen_rest r) (with_wires r) small.gives)
     (λ m. reach m (codes "busiest") (decimal r.busiest ∷ []) (bound_words r.bound ∷ last_lines r) (given r) (busy r) [] (all_said r) (busiest_plain r.busiest) (busiest_again m r.busiest (given r) refl small.busiest)
     (reach (m + 1) (codes "bound") (set_of_bound r.bound) (last_lines r) (busy r) (all_said r) [] (all_said r) (bound_plain r.bound) (bound_again back (m + 1) r.bound (busy r) refl small.interrupts)
-    (read_last r (all_said r) (m + 1 + 1))))
+    (read_last back r small (all_said r) refl (m + 1 + 1))))
 
 read_all : (back : PathsAreReadBack) (r : RoutingReport) → IsReadable r → IsSmall r → (n : ℕ) → Reaches n (all_lines r) (blank r.options) [] (all_said r)
 read_all back r readable small n =

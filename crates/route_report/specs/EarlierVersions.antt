@@ -11,9 +11,12 @@ use Rattle.route_report.specs.Reading.{avoid}
 abbrev pub IsEarlier : List ℕ → Type 0
 IsEarlier first = (first ≡ codes "acpiroute 1") ⊎ (first ≡ codes "acpiroute 2")
 
--- a line that only version 3 has, by its first word: a device whose interrupts are spared or can't be read, or the rule of the choice
+-- a line that only version 3 has, by its first word: a device whose interrupts are spared or can't be read, the rule of the choice, how an
+-- interrupt is triggered, or the bus of a routing table
 abbrev pub is_of_options : List ℕ → Bool
-is_of_options key = bytes_eq key (codes "spared") || bytes_eq key (codes "unread") || bytes_eq key (codes "first") || bytes_eq key (codes "spread")
+is_of_options key =
+    bytes_eq key (codes "spared") || bytes_eq key (codes "unread") || bytes_eq key (codes "first") || bytes_eq key (codes "spread")
+    || bytes_eq key (codes "trigger") || bytes_eq key (codes "bus")
 
 abbrev pub tells_of_options : List ℕ → Bool
 tells_of_options line = is_of_options (first_of (words line))

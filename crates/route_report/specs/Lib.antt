@@ -6,3 +6,4 @@ pub mod Counting
 pub mod EarlierVersions
 pub mod Printing
 pub mod Readable
+pub mod ForKernels

@@ -25,6 +25,14 @@ use Rattle.route_report.specs.declared.report.SetLine.{SetLine}
 use Rattle.route_report.specs.declared.report.UnreadLine.{UnreadLine}
 use Rattle.route_report.specs.declared.report.Rule.{Rule}
 use Rattle.route_report.specs.declared.report.Rule.TheVariants as rule
+use Rattle.route_report.specs.declared.report.InterruptSource.{InterruptSource}
+use Rattle.route_report.specs.declared.report.InterruptSource.TheVariants as source
+use Rattle.route_report.specs.declared.report.Trigger.{Trigger}
+use Rattle.route_report.specs.declared.report.Trigger.TheVariants as trigger
+use Rattle.route_report.specs.declared.report.TriggerLine.{TriggerLine}
+use Rattle.route_report.specs.declared.report.BusState.{BusState}
+use Rattle.route_report.specs.declared.report.BusState.TheVariants as bus
+use Rattle.route_report.specs.declared.report.BusLine.{BusLine}
 use Rattle.route_report.specs.Reports.{ReportedLink, AfterState, Now, Refused, ReportedAfter, SparedDevice, ReportedOptions, RoutingReport}
 
 abbrev pub Words : Type 0
@@ -109,7 +117,7 @@ abbrev pub rule_words : Rule → Words
 rule_words rule.First = codes "first" ∷ []
 rule_words rule.Spread = codes "spread" ∷ []
 
--- the lines of version 3 alone
+-- the lines of version 3 alone, but for those for a kernel
 abbrev pub option_lines : Option ReportedOptions → List Words
 option_lines None = []
 option_lines (Some o) = map spared_words o.spared ++ (map unread_words o.unread ++ rule_words o.rule ∷ [])
@@ -165,13 +173,42 @@ state_words (Refused r) = codes "refused" ∷ decimal r ∷ []
 abbrev pub after_words : ReportedAfter → Words
 after_words a = codes "after" ∷ text_of a.path ∷ state_words a.state
 
+-- `trigger link P level high`, `trigger wired N level high`, `trigger sci N level high`; `edge`, or `low`
+abbrev pub trigger_word : Trigger → List ℕ
+trigger_word trigger.Level = codes "level"
+trigger_word trigger.Edge = codes "edge"
+
+abbrev pub how_words : Trigger → Polarity → Words
+how_words t p = trigger_word t ∷ polarity_word p ∷ []
+
+abbrev pub triggered_words : InterruptSource → Words
+triggered_words (source.Link p) = codes "link" ∷ text_of p ∷ []
+triggered_words (source.Wired n) = codes "wired" ∷ decimal n ∷ []
+triggered_words (source.Sci n) = codes "sci" ∷ decimal n ∷ []
+
+abbrev pub trigger_words : TriggerLine → Words
+trigger_words t = codes "trigger" ∷ (triggered_words t.source ++ how_words t.trigger t.polarity)
+
+-- `bus D S B`, `bus D refused R`
+abbrev pub bus_state_words : BusState → Words
+bus_state_words (bus.Known segment n) = decimal segment ∷ decimal n ∷ []
+bus_state_words (bus.Refused r) = codes "refused" ∷ decimal r ∷ []
+
+abbrev pub bus_words : BusLine → Words
+bus_words b = codes "bus" ∷ text_of b.device ∷ bus_state_words b.state
+
+-- the lines for a kernel, which stand behind all others
+abbrev pub kernel_lines : Option ReportedOptions → List Words
+kernel_lines None = []
+kernel_lines (Some o) = map trigger_words o.triggers ++ map bus_words o.buses
+
 -- all lines, in their order: what was found, and what was chosen
 abbrev pub found_lines : RoutingReport → List Words
 found_lines r = heading_words r.options ∷ mode_words r.mode ∷ (map io_apic_words r.io_apics ++ (map override_words r.overrides
     ++ (sci_words r.sci ∷ avoid_words r.avoid ∷ (option_lines r.options ++ (map link_words r.links ++ (map wired_words r.wired ++ map pin_words r.pins))))))
 
 abbrev pub chosen_lines : RoutingReport → List Words
-chosen_lines r = map give_words r.gives ++ (busiest_words r.busiest ∷ bound_words r.bound ∷ (map set_words r.sets ++ map after_words r.afters))
+chosen_lines r = map give_words r.gives ++ (busiest_words r.busiest ∷ bound_words r.bound ∷ (map set_words r.sets ++ (map after_words r.afters ++ kernel_lines r.options)))
 
 unfoldable pub text_of_report : RoutingReport → List ℕ
 text_of_report r = text_of_lines (found_lines r ++ chosen_lines r)

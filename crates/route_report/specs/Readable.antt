@@ -7,6 +7,12 @@ use Rattle.route_report.specs.Ordered.{barred_by, claim_in_order}
 use Rattle.route_report.specs.declared.report.Rule.{Rule}
 use Rattle.route_report.specs.declared.report.Rule.TheVariants as rule
 use Rattle.route_report.specs.declared.report.UnreadLine.{UnreadLine}
+use Rattle.route_report.specs.declared.report.InterruptSource.{InterruptSource}
+use Rattle.route_report.specs.declared.report.InterruptSource.TheVariants as source
+use Rattle.route_report.specs.declared.report.TriggerLine.{TriggerLine}
+use Rattle.route_report.specs.declared.report.BusState.{BusState}
+use Rattle.route_report.specs.declared.report.BusState.TheVariants as bus
+use Rattle.route_report.specs.declared.report.BusLine.{BusLine}
 use Rattle.route_report.specs.Reports.{is_spread, ReportedLink, SparedDevice, ReportedOptions, RoutingReport}
 
 abbrev pub link_of : ReportedLink → OfferingLink
@@ -36,6 +42,15 @@ abbrev pub unread_devices : Option ReportedOptions → List UnreadLine
 unread_devices None = []
 unread_devices (Some o) = o.unread
 
+-- how interrupts are triggered, and the buses of routing tables
+abbrev pub triggers_told : Option ReportedOptions → List TriggerLine
+triggers_told None = []
+triggers_told (Some o) = o.triggers
+
+abbrev pub buses_told : Option ReportedOptions → List BusLine
+buses_told None = []
+buses_told (Some o) = o.buses
+
 -- what the report claims, each list in order
 abbrev pub claim_of_report : RoutingReport → RoutingClaim
 claim_of_report r = claim_in_order (record { links = map link_of r.links; wired = r.wired; sci = r.sci; avoid = barred_by r.avoid (spared_by r.options); gives = r.gives; busiest = r.busiest; bound = r.bound; spread = is_spread (rule_by r.options) })
@@ -53,6 +68,16 @@ pub record IsReadable (r : RoutingReport) : Type 0 where
   pub avoid : IsStrictlyIncreasing r.avoid
   pub spared : All (λ s. 0 < length s.interrupts) (spared_devices r.options)
 
+-- the numbers of a line have 32 bits
+abbrev pub IsSmallSource : InterruptSource → Type 0
+IsSmallSource (source.Link p) = Unit {0}
+IsSmallSource (source.Wired n) = n < 2 ^ 32
+IsSmallSource (source.Sci n) = n < 2 ^ 32
+
+abbrev pub IsSmallBus : BusState → Type 0
+IsSmallBus (bus.Known segment n) = (segment < 2 ^ 32) × (n < 2 ^ 32)
+IsSmallBus (bus.Refused r) = r < 2 ^ 32
+
 -- its numbers have 32 bits, as those of every report in memory do
 pub record IsSmall (r : RoutingReport) : Type 0 where
   pub offers : All (λ l. All (λ n. n < 2 ^ 32) l.offers) r.links
@@ -64,3 +89,5 @@ pub record IsSmall (r : RoutingReport) : Type 0 where
   pub gives : All (λ g. g.1 < 2 ^ 32) r.gives
   pub busiest : r.busiest < 2 ^ 32
   pub interrupts : All (λ n. n < 2 ^ 32) (interrupts_of_bound r.bound)
+  pub triggers : All (λ t. IsSmallSource t.source) (triggers_told r.options)
+  pub buses : All (λ b. IsSmallBus b.state) (buses_told r.options)

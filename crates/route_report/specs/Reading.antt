@@ -239,6 +239,58 @@ module _ (n : ℕ) where
     r ← numbered p.1
     ended r.1
 
+  -- `level` or `edge`, and `low` or `high`
+  unfoldable pub triggered : List (List ℕ) → Outcome (Unit {0})
+  triggered ws = do
+    t ← one_of (codes "level") (codes "edge") ws
+    p ← one_of (codes "low") (codes "high") t
+    ended p
+
+  -- `link P`, `wired N` or `sci N`, and how that is triggered
+  unfoldable pub link_triggered : List (List ℕ) → Outcome (Unit {0})
+  link_triggered ws = do
+    p ← named ws
+    triggered p.1
+
+  unfoldable pub number_triggered : List (List ℕ) → Outcome (Unit {0})
+  number_triggered ws = do
+    a ← numbered ws
+    triggered a.1
+
+  unfoldable pub source_triggered : List ℕ → List (List ℕ) → Outcome (Unit {0})
+  source_triggered key ws =
+      if bytes_eq key (codes "link") then link_triggered ws
+      else if bytes_eq key (codes "wired") || bytes_eq key (codes "sci") then number_triggered ws
+      else bad_line
+
+  unfoldable pub trigger : List (List ℕ) → Outcome (Unit {0})
+  trigger ws = do
+    w ← word ws
+    source_triggered w.0 w.1
+
+  -- `S B`, or `refused R`
+  unfoldable pub bus_refused : List (List ℕ) → Outcome (Unit {0})
+  bus_refused ws = do
+    r ← numbered ws
+    ended r.1
+
+  unfoldable pub bus_known : List ℕ → List (List ℕ) → Outcome (Unit {0})
+  bus_known segment ws = do
+    _ ← number_here segment
+    b ← numbered ws
+    ended b.1
+
+  unfoldable pub bus_state : List (List ℕ) → Outcome (Unit {0})
+  bus_state ws = do
+    w ← word ws
+    if bytes_eq w.0 (codes "refused") then bus_refused w.1 else bus_known w.0 w.1
+
+  -- `D`, and its bus
+  unfoldable pub bus : List (List ℕ) → Outcome (Unit {0})
+  bus ws = do
+    p ← named ws
+    bus_state p.1
+
   -- `P.. over N..`
   unfoldable pub set : List ℕ → List (List ℕ) → Outcome BoundingSet
   set w ws = do
@@ -275,15 +327,15 @@ module _ (n : ℕ) where
   unfoldable pub with_avoid : List ℕ → Said → Outcome Said
   with_avoid ns d = if is_some d.avoid then bad_line else Ok (record d { avoid = Some ns })
 
-  -- and with the interrupts of one device more, or the word that those of one can't be read, where lines may tell of these; and with
-  -- one rule of the choice
+  -- and with the interrupts of one device more, where lines may tell of options; the same with a line of options that claims nothing;
+  -- and with one rule of the choice
   unfoldable pub with_spared : List ℕ → Said → Outcome Said
   with_spared ns d = do
     ms ← here d.spared
     Ok (record d { spared = Some (ms ++ ns) })
 
-  unfoldable pub with_unread : Said → Outcome Said
-  with_unread d = if is_some d.spared then Ok d else bad_line
+  unfoldable pub with_option : Said → Outcome Said
+  with_option d = if is_some d.spared then Ok d else bad_line
 
   unfoldable pub with_rule : Rule → Said → Outcome Said
   with_rule r d = if is_some d.rule then bad_line else Ok (record d { rule = Some r })
@@ -323,7 +375,17 @@ module _ (n : ℕ) where
   unfoldable pub unread_line : List (List ℕ) → Said → Outcome Said
   unread_line ws d = do
     _ ← unread ws
-    with_unread d
+    with_option d
+
+  unfoldable pub trigger_line : List (List ℕ) → Said → Outcome Said
+  trigger_line ws d = do
+    _ ← trigger ws
+    with_option d
+
+  unfoldable pub bus_line : List (List ℕ) → Said → Outcome Said
+  bus_line ws d = do
+    _ ← bus ws
+    with_option d
 
   unfoldable pub rule_line : Rule → List (List ℕ) → Said → Outcome Said
   rule_line r ws d = do
@@ -345,7 +407,16 @@ module _ (n : ℕ) where
     b ← bound ws
     with_bound b d
 
-  -- a line by its first word
+  -- a line by its first word: one that claims nothing
+  unfoldable pub claimless : List ℕ → List (List ℕ) → Said → Outcome Said
+  claimless key ws d =
+      if bytes_eq key (codes "unread") then unread_line ws d
+      else if bytes_eq key (codes "trigger") then trigger_line ws d
+      else if bytes_eq key (codes "bus") then bus_line ws d
+      else if is_passed_over key then Ok d
+      else bad_line
+
+  -- or one that may claim something
   unfoldable pub keyed : List ℕ → List (List ℕ) → Said → Outcome Said
   keyed key ws d =
       if bytes_eq key (codes "link") then link_line ws d
@@ -353,14 +424,12 @@ module _ (n : ℕ) where
       else if bytes_eq key (codes "sci") then sci_line ws d
       else if bytes_eq key (codes "avoid") then avoid_line ws d
       else if bytes_eq key (codes "spared") then spared_line ws d
-      else if bytes_eq key (codes "unread") then unread_line ws d
       else if bytes_eq key (codes "first") then rule_line rule.First ws d
       else if bytes_eq key (codes "spread") then rule_line rule.Spread ws d
       else if bytes_eq key (codes "give") then give_line ws d
       else if bytes_eq key (codes "busiest") then busiest_line ws d
       else if bytes_eq key (codes "bound") then bound_line ws d
-      else if is_passed_over key then Ok d
-      else bad_line
+      else claimless key ws d
 
   unfoldable pub line : List (List ℕ) → Said → Outcome Said
   line ws d = do

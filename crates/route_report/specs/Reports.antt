@@ -10,6 +10,8 @@ use Rattle.route_report.specs.declared.report.OverrideLine.{OverrideLine}
 use Rattle.route_report.specs.declared.report.PinLine.{PinLine}
 use Rattle.route_report.specs.declared.report.SetLine.{SetLine}
 use Rattle.route_report.specs.declared.report.UnreadLine.{UnreadLine}
+use Rattle.route_report.specs.declared.report.TriggerLine.{TriggerLine}
+use Rattle.route_report.specs.declared.report.BusLine.{BusLine}
 use Rattle.route_report.specs.declared.report.Rule.{Rule}
 use Rattle.route_report.specs.declared.report.Rule.TheVariants as rule
 use Rattle.route_report.specs.declared.report.After.{After}
@@ -45,11 +47,13 @@ abbrev pub is_spread : Rule → Bool
 is_spread rule.First = false
 is_spread rule.Spread = true
 
--- what options of a run add to its report
+-- what options of a run add to its report; for a kernel, how interrupts are triggered, and the bus of each routing table
 pub record ReportedOptions : Type 0 where
   pub spared : List SparedDevice
   pub unread : List UnreadLine
   pub rule : Rule
+  pub triggers : List TriggerLine
+  pub buses : List BusLine
 
 pub record RoutingReport : Type 0 where
   pub mode : Mode

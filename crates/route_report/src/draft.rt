@@ -2,7 +2,7 @@
 ghost use Rattle.std.specs.Prelude.{◌≡◌, [], Ok, option_map};
 ghost use Rattle.ar_space.specs.Outcome.{Answers, NotMemory, seen};
 ghost use Rattle.route_report.specs.Reading.{first_said, with_link, with_wired, with_sci, with_avoid, with_spared};
-ghost use Rattle.route_report.specs.Reading.{with_unread, with_rule, with_give, with_busiest, with_bound, here};
+ghost use Rattle.route_report.specs.Reading.{with_option, with_rule, with_give, with_busiest, with_bound, here};
 ghost use Rattle.route_report.specs.Reading.{claimed};
 ghost use Rattle.route_report.specs.Ordered.{barred_by};
 
@@ -128,10 +128,10 @@ impl Draft {
         Ok(())
     }
 
-    /// The interrupts of a device can't be read, where lines may tell of this.
-    #[tactic(auto, using(ar_space::specs::Outcome::answering), unfolding(crate::specs::Reading::with_unread))]
-    pub(crate) fn add_unread(&self, n: usize) -> Result<(), Refusal>
-        ensures answer { Answers (seen (λ _. self.now) result) (with_unread n self.now) }
+    /// A line of options that claims nothing, where lines may tell of options.
+    #[tactic(auto, using(ar_space::specs::Outcome::answering), unfolding(crate::specs::Reading::with_option))]
+    pub(crate) fn add_option(&self, n: usize) -> Result<(), Refusal>
+        ensures answer { Answers (seen (λ _. self.now) result) (with_option n self.now) }
         ensures memory { NotMemory result }
     {
         if self.spared.is_some() {

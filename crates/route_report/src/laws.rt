@@ -8,7 +8,10 @@ ghost use Rattle.route_check.specs.Claimed.{claim_of};
 ghost use Rattle.route_check.specs.Claims.{RoutingClaim};
 ghost use Rattle.route_report.specs.Counting.{counts};
 ghost use Rattle.route_report.specs.EarlierVersions.{IsEarlier, IsWithoutOptions};
+ghost use Rattle.route_report.specs.ForKernels.{with_kernel_lines};
 ghost use Rattle.route_report.specs.Lines.{lines};
+ghost use Rattle.route_report.specs.declared.report.BusLine.{BusLine};
+ghost use Rattle.route_report.specs.declared.report.TriggerLine.{TriggerLine};
 ghost use Rattle.route_report.specs.Reports.{RoutingReport, SparedDevice};
 ghost use Rattle.route_report.specs.Ordered.{barred_by, claim_in_order, IsInOrder, HasSameElements};
 ghost use Rattle.route_report.specs.Printing.{text_of_report};
@@ -67,6 +70,14 @@ pub fn an_avoided_interrupt_stays_avoided()
 pub fn nothing_else_is_avoided()
     ensures { (report : RoutingReport) (n : ℕ) → Contains (claim_of_report report).avoid n → Contains report.avoid n ⊎
         Any (λ s. Contains s.interrupts n) (spared_devices report.options) }
+{}
+
+/// Lines for a kernel claim nothing: with them a report that can be read back still can, and claims the same.
+pub fn lines_for_a_kernel_claim_nothing()
+    ensures readable { (report : RoutingReport) (triggers : List TriggerLine) (buses : List BusLine) →
+        IsReadable report → IsReadable (with_kernel_lines report triggers buses) }
+    ensures claim { (report : RoutingReport) (triggers : List TriggerLine) (buses : List BusLine) →
+        IsReadable report → claim_of_report (with_kernel_lines report triggers buses) ≡ claim_of_report report }
 {}
 
 /// Putting the lists of a claim in order neither adds an element nor drops one, and changes nothing else.

@@ -2,8 +2,10 @@
 //! read from such a text.
 #![tactic(auto)]
 
+mod claimless;
 mod draft;
 mod heading;
+mod kernel_lines;
 pub mod laws;
 mod line;
 mod lines;
@@ -21,6 +23,7 @@ pub use ar_tables::Mode;
 pub use printing::print;
 pub use reading::read;
 pub use report::{
-    After, AfterLine, IoApicLine, LinkLine, OptionLines, OverrideLine, PinLine, PinName, PinRoute,
-    Report, Rule, SetLine, SetOutcome, SparedLine, UnreadLine,
+    After, AfterLine, BusLine, BusState, InterruptSource, IoApicLine, LinkLine, OptionLines,
+    OverrideLine, PinLine, PinName, PinRoute, Report, Rule, SetLine, SetOutcome, SparedLine,
+    Trigger, TriggerLine, UnreadLine,
 };

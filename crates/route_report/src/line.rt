@@ -2,12 +2,13 @@
 ghost use Rattle.std.specs.Prelude.{◌≡◌, [], codes};
 ghost use Rattle.ar_space.specs.Outcome.{Answers, NotMemory, seen};
 ghost use Rattle.text_words.specs.Words.{words};
-ghost use Rattle.route_report.specs.Reading.{ascends, is_passed_over, with_next, until, offers, offered, link, wired};
-ghost use Rattle.route_report.specs.Reading.{sci, ascending_after, avoid, spared, unread, give, busiest, with_path};
+ghost use Rattle.route_report.specs.Reading.{ascends, with_next, until, offers, offered, link, wired};
+ghost use Rattle.route_report.specs.Reading.{sci, ascending_after, avoid, spared, give, busiest, with_path};
 ghost use Rattle.route_report.specs.Reading.{set_links, with_number, numbers_after, some_numbers, set, bound};
-ghost use Rattle.route_report.specs.Reading.{link_line, wired_line, sci_line, avoid_line, spared_line, unread_line};
+ghost use Rattle.route_report.specs.Reading.{link_line, wired_line, sci_line, avoid_line, spared_line};
 ghost use Rattle.route_report.specs.Reading.{rule_line, give_line, busiest_line, bound_line, keyed, line};
 
+use crate::claimless::claimless;
 use crate::draft::Draft;
 use crate::report::Rule;
 use crate::words::{bad_line, ended, expected, number, number_here, one_of, path, path_here, word};
@@ -262,16 +263,6 @@ fn spared(alloc: Global, n: usize, words: &mut Words<'_>) -> Result<Vec<u32>, Re
     some_numbers(alloc, n, words)
 }
 
-/// `D R`
-#[tactic(auto, using(ar_space::specs::Outcome::answering), unfolding(crate::specs::Reading::unread))]
-fn unread(alloc: Global, n: usize, words: &mut Words<'_>) -> Result<(), Refusal>
-    ensures { Answers result (unread n words.old) }
-{
-    path(alloc, n, words)?;
-    number(n, words)?;
-    ended(n, words)
-}
-
 /// `P.. over N..`
 #[tactic(auto, using(ar_space::specs::Outcome::answering), unfolding(crate::specs::Reading::set))]
 fn set(alloc: Global, n: usize, first: &[u8], words: &mut Words<'_>) -> Result<Bound, Refusal>
@@ -294,18 +285,6 @@ fn bound(alloc: Global, n: usize, words: &mut Words<'_>) -> Result<Option<Bound>
     } else {
         Ok(Some(set(alloc, n, first, words)?))
     }
-}
-
-/// Whether a line that begins with this word claims nothing.
-fn is_passed_over(key: &[u8]) -> bool
-    ensures { result ≡ is_passed_over key.now }
-{
-    key == b"mode".as_slice()
-        || key == b"ioapic".as_slice()
-        || key == b"override".as_slice()
-        || key == b"pin".as_slice()
-        || key == b"set".as_slice()
-        || key == b"after".as_slice()
 }
 
 /// Adds a link.
@@ -367,15 +346,6 @@ fn spared_line(
 {
     let interrupts = spared(alloc, n, words)?;
     draft.add_spared(n, interrupts)
-}
-
-/// Reads over a device whose interrupts couldn't be read.
-#[tactic(auto, using(ar_space::specs::Outcome::answering), unfolding(crate::specs::Reading::unread_line))]
-fn unread_line(alloc: Global, n: usize, words: &mut Words<'_>, draft: &Draft) -> Result<(), Refusal>
-    ensures { Answers (seen (λ _. draft.now) result) (unread_line n words.old draft.now) }
-{
-    unread(alloc, n, words)?;
-    draft.add_unread(n)
 }
 
 /// Sets the rule of the choice.
@@ -447,8 +417,6 @@ fn keyed(
         avoid_line(alloc, n, words, draft)
     } else if key == b"spared".as_slice() {
         spared_line(alloc, n, words, draft)
-    } else if key == b"unread".as_slice() {
-        unread_line(alloc, n, words, draft)
     } else if key == b"first".as_slice() {
         rule_line(n, Rule::First, words, draft)
     } else if key == b"spread".as_slice() {
@@ -459,10 +427,8 @@ fn keyed(
         busiest_line(n, words, draft)
     } else if key == b"bound".as_slice() {
         bound_line(alloc, n, words, draft)
-    } else if is_passed_over(key) {
-        Ok(())
     } else {
-        Err(bad_line(n))
+        claimless(alloc, n, key, words, draft)
     }
 }
 

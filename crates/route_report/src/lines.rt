@@ -208,7 +208,7 @@ fn put_each_option(
     Ok(())
 }
 
-/// The lines of version 3 alone, where there are any.
+/// The lines of version 3 alone, where there are any, but for those for a kernel.
 pub(crate) fn put_options(
     alloc: Global,
     text: &mut Vec<u8>,
@@ -247,7 +247,7 @@ fn form_word(form: Form) -> &'static [u8]
     }
 }
 
-fn polarity_word(polarity: Polarity) -> &'static [u8]
+pub(crate) fn polarity_word(polarity: Polarity) -> &'static [u8]
     ensures { result.now ≡ polarity_word polarity }
 {
     match polarity {
@@ -417,7 +417,7 @@ fn put_outcome(text: &mut Vec<u8>, outcome: SetOutcome) -> Result<(), AllocError
 }
 
 /// `refused R`
-fn put_refused(text: &mut Vec<u8>, number: u8) -> Result<(), AllocError>
+pub(crate) fn put_refused(text: &mut Vec<u8>, number: u8) -> Result<(), AllocError>
     ensures { OnOk result (text.new.items ≡ text.old.items ++ spaced (codes "refused" ∷ decimal number ∷ [])) }
 {
     text.extend_from_slice(b" refused")?;

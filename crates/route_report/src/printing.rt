@@ -6,7 +6,9 @@ ghost use Rattle.route_report.specs.Lines.{text_of_lines};
 ghost use Rattle.route_report.specs.Printing.{found_lines, chosen_lines, text_of_report};
 ghost use Rattle.route_report.specs.Reading.{claim_of_text};
 ghost use Rattle.route_report.specs.Readable.{IsReadable, claim_of_report, spared_devices, unread_devices};
+ghost use Rattle.route_report.specs.Readable.{IsSmallSource, IsSmallBus, triggers_told, buses_told};
 
+use crate::kernel_lines::put_kernel;
 use crate::lines::{
     put_all, put_avoid, put_bound, put_busiest, put_heading, put_mode, put_options, put_sci,
 };
@@ -44,12 +46,15 @@ fn put_chosen(alloc: Global, text: &mut Vec<u8>, report: &Report) -> Result<(), 
     ensures gives { OnOk result (All (λ g. g.1 < 2 ^ 32) report.now.gives) }
     ensures busiest { OnOk result (report.now.busiest < 2 ^ 32) }
     ensures interrupts { OnOk result (All (λ n. n < 2 ^ 32) (interrupts_of_bound report.now.bound)) }
+    ensures triggers { OnOk result (All (λ t. IsSmallSource t.source) (triggers_told report.now.options)) }
+    ensures buses { OnOk result (All (λ b. IsSmallBus b.state) (buses_told report.now.options)) }
 {
     put_all(alloc, text, &report.gives)?;
     put_busiest(text, report.busiest)?;
     put_bound(alloc, text, &report.bound)?;
     put_all(alloc, text, &report.sets)?;
     put_all(alloc, text, &report.afters)?;
+    put_kernel(alloc, text, &report.options)?;
     Ok(())
 }
 
@@ -76,6 +81,9 @@ fn put_chosen(alloc: Global, text: &mut Vec<u8>, report: &Report) -> Result<(), 
 /// - `bound none` or `bound P.. over N..`, `-` for no link.
 /// - `set P ok`, `set P none` or `set P refused R` for each link that was to be set.
 /// - `after P V` or `after P refused R` for each of these.
+/// - For a kernel, `trigger link P level high` for each present link, `trigger wired N level high` for each interrupt
+/// that pins are wired to, and `trigger sci N level high` for the System Control Interrupt, or `edge`, or `low`; and
+/// `bus D S B` for each device with a routing table, S its segment group and B its bus, or `bus D refused R`.
 ///
 /// `read` gives the report's own claim of this text, its lists in order, where it has at most 256 links, each with an
 /// offer in ascending order, at most 4096 wired interrupts, the avoided interrupts in ascending order, each once, and

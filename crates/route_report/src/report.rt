@@ -163,6 +163,48 @@ impl Rule {
     }
 }
 
+/// What has an interrupt.
+#[derive(Debug, Drop)]
+pub enum InterruptSource {
+    /// The link at a path.
+    Link(Path),
+    /// Pins that are wired to this interrupt.
+    Wired(u32),
+    /// The System Control Interrupt, which is wired to this one.
+    Sci(u32),
+}
+
+/// How an interrupt is triggered.
+#[derive(Clone, Copy, Debug, PartialEq, Eq)]
+pub enum Trigger {
+    Level,
+    Edge,
+}
+
+/// How the interrupt of one source is triggered.
+#[derive(Debug, Drop)]
+pub struct TriggerLine {
+    pub source: InterruptSource,
+    pub trigger: Trigger,
+    pub polarity: Polarity,
+}
+
+/// Which bus a routing table is for.
+#[derive(Clone, Copy, Debug, PartialEq, Eq)]
+pub enum BusState {
+    /// This bus of this PCI segment group.
+    Known { segment: u16, bus: u8 },
+    /// The number of the refusal.
+    Refused(u8),
+}
+
+/// Which bus the routing table of one device is for: the bus that its pins' devices are on.
+#[derive(Debug, Drop)]
+pub struct BusLine {
+    pub device: Path,
+    pub state: BusState,
+}
+
 /// The lines that a report has in version 3 alone.
 #[derive(Debug, Drop)]
 pub struct OptionLines {
@@ -171,6 +213,12 @@ pub struct OptionLines {
     /// The devices whose interrupts couldn't be read, in path order.
     pub unread: Vec<UnreadLine>,
     pub rule: Rule,
+    /// For a kernel, how each interrupt is triggered: first those of links, then of wired pins, then the System
+    /// Control Interrupt. Empty where no kernel wants it.
+    pub triggers: Vec<TriggerLine>,
+    /// For a kernel, the bus of each routing table, in the path order of their devices. Empty where no kernel wants
+    /// it.
+    pub buses: Vec<BusLine>,
 }
 
 impl Model for OptionLines {
@@ -178,10 +226,11 @@ impl Model for OptionLines {
 
     ghost Value = { ReportedOptions };
 
-    ghost view = { λ o. record { spared = o.spared.items; unread = o.unread.items; rule = o.rule } };
+    ghost view = { λ o. record { spared = o.spared.items; unread = o.unread.items; rule = o.rule; triggers = o.triggers.items; buses = o.buses.items } };
 }
 
-/// What a run found and chose. `print` writes its lines in the order of the fields.
+/// What a run found and chose. `print` writes its lines in the order of the fields, but for those for a kernel, which
+/// stand behind all others.
 #[derive(Debug, Drop)]
 pub struct Report {
     pub mode: Mode,

@@ -120,7 +120,7 @@ enum Line {
 }
 
 /// The lines of a report, by their first words.
-const LINES: [(&str, Line); 16] = [
+const LINES: [(&str, Line); 18] = [
     ("mode", Line::Mode),
     ("ioapic", Line::IoApic),
     ("override", Line::Override),
@@ -129,6 +129,8 @@ const LINES: [(&str, Line); 16] = [
     ("spared", Line::Option(option_lines::Ask::Spared)),
     ("unread", Line::Option(option_lines::Ask::Unread)),
     ("first", Line::Option(option_lines::Ask::First)),
+    ("trigger", Line::Option(option_lines::Ask::Trigger)),
+    ("bus", Line::Option(option_lines::Ask::Bus)),
     ("link", Line::Link),
     ("wired", Line::Wired),
     ("pin", Line::Pin),

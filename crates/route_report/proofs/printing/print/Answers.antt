@@ -30,4 +30,6 @@ returns-clause-read_back c readable =
       gives = c.in_ok-put_chosen.ensures.gives;
       busiest = c.in_ok-put_chosen.ensures.busiest;
       interrupts = c.in_ok-put_chosen.ensures.interrupts;
+      triggers = c.in_ok-put_chosen.ensures.triggers;
+      buses = c.in_ok-put_chosen.ensures.buses;
     })

@@ -14,7 +14,7 @@ use Rattle.acpi_configure.proofs.Placed.{placed, chosen_for_each}
 use Rattle.acpi_configure.proofs.Reported.{reported_with, memory, told, offers_told}
 use Rattle.acpi_configure.proofs.Settled.{chosen_each, offered_each}
 use Rattle.acpi_configure.proofs.Stopped.{behind_choice, does_as, stops_as}
-use Rattle.acpi_configure.proofs.configuring.configure_with.Goals as goal
+use Rattle.acpi_configure.proofs.configuring.configure_plainly.Goals as goal
 
 pub all_lines-requires-clause-each : goal.all_lines-requires-clause-each
 all_lines-requires-clause-each g c =

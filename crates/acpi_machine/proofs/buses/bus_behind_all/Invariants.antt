@@ -1,0 +1,14 @@
+use Rattle.std.proofs.Common.{length}
+use Rattle.ar_space.specs.Change.{Same}
+use Rattle.aml_meaning.specs.Fields.{bus_behind_all}
+use Rattle.acpi_machine.specs.Buses.{address_part}
+use Rattle.acpi_machine.proofs.buses.bus_behind_all.Given as goal
+
+-- the bus behind the bridges that are left is the one behind them all
+abbrev pub invariant-loop-bridge : goal.invariant-loop-bridge
+invariant-loop-bridge g l =
+    Same (bus_behind_all g.S.Space.accesses (address_part g.S.Space.accesses) l.segment l.bus l.fn.bridges.items) l.fn.run
+    (bus_behind_all g.S.Space.accesses (address_part g.S.Space.accesses) l.segment l.behind l.left.items) l.run
+
+abbrev pub decreases-loop-bridge : goal.decreases-loop-bridge
+decreases-loop-bridge g l = length l.left.items

@@ -1,0 +1,54 @@
+-- The bus that a routing table is for (ACPI 6.5, 6.2.13, 6.5.5 and 6.5.6): the one on which the devices of its pins are. It is found as the
+-- bus of a PCI function is where AML accesses its configuration space (5.5.2.4).
+use Rattle.std.specs.Prelude.{ℕ, nat_lt, ◌&&◌, List, [], ◌∷◌, ◌++◌, codes, Ok, Err, refl, if◌then◌else◌}
+use Rattle.ar_space.specs.declared.refusal.Refusal.TheVariants as refusal
+use Rattle.ar_space.specs.declared.refusal.FieldFault.TheVariants.{RegionLimit}
+use Rattle.ar_space.specs.Accesses.{Accesses}
+use Rattle.ar_space.specs.Outcome.{Outcome}
+use Rattle.ar_space.specs.Change.{Change, settle, ◌>>=◌}
+use Rattle.aml_path.specs.declared.segment.Seg.{Seg}
+use Rattle.aml_meaning.specs.declared.pci_functions.Sought.TheVariants as sought
+use Rattle.aml_meaning.specs.Bridges.{bridges_above}
+use Rattle.aml_meaning.specs.Calling.{ending, with_steps}
+use Rattle.aml_meaning.specs.FieldCalls.{called_at}
+use Rattle.aml_meaning.specs.Fields.{inherited, bus_behind_all}
+use Rattle.aml_meaning.specs.Meaning.{meaning}
+use Rattle.aml_meaning.specs.PciFunctions.{segment_group, base_bus, nearest, behind_asked}
+use Rattle.aml_meaning.specs.Run.{Run, lift}
+use Rattle.acpi_machine.specs.Calls.{on_world, unless_spent}
+use Rattle.acpi_machine.specs.MachineStates.{MachineState}
+use Rattle.acpi_machine.specs.declared.buses.PciBus.{PciBus}
+
+-- the name of a routing table
+abbrev pub prt : Seg
+prt = record { bytes = codes "_PRT"; valid = refl }
+
+-- a segment group has 16 bits, and a bus has 8
+abbrev pub bus_numbered : ℕ → ℕ → Outcome PciBus
+bus_numbered segment bus =
+    if nat_lt segment 65536 && nat_lt bus 256 then Ok (record { segment = segment; bus = bus }) else Err (refusal.Field RegionLimit)
+
+-- accesses: what the register space makes of them
+module _ {S : Type 0} (accesses : Accesses S) where
+  -- what an object of the address answers, asked as for a field of PCI_Config that is read for a caller
+  abbrev pub address_part : List Seg → Run S ℕ
+  address_part = called_at accesses (meaning accesses) 1
+
+  -- `_SEG` and `_BBN` of the nearest of the device with the table and the scopes above it; then, from there down to the device itself, the bus
+  -- behind each bridge. In the core profile neither the device nor one above it may be a bridge.
+  unfoldable pub bus_of_table : List Seg → Run S PciBus
+  bus_of_table device = do
+    bridge ← lift (nearest sought.Bridge device)
+    reached ← lift (behind_asked bridge)
+    bridges ← lift (bridges_above (device ++ prt ∷ []))
+    segment ← inherited accesses address_part segment_group device
+    bus ← inherited accesses address_part base_bus device
+    behind ← bus_behind_all accesses address_part segment bus bridges
+    settle (bus_numbered segment behind)
+
+  -- in one evaluation
+  unfoldable pub bus_answered : List Seg → Change (MachineState S) PciBus
+  bus_answered device s = on_world (ending (with_steps s.steps (bus_of_table device))) s
+
+  unfoldable pub bus_found : List Seg → Change (MachineState S) PciBus
+  bus_found device = unless_spent (bus_answered device)

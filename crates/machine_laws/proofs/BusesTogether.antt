@@ -1,0 +1,66 @@
+-- The buses of routing tables, of machines side by side.
+use Rattle.std.specs.Prelude.{◌≡◌, ℕ, List, [], ◌∷◌, Option, Some, None, refl}
+use Rattle.std.proofs.Common.{subst}
+use Rattle.ar_space.specs.Accesses.{Accesses}
+use Rattle.aml_path.specs.declared.segment.Seg.{Seg}
+use Rattle.aml_meaning.specs.Fields.{part_in, inherited, bus_behind, bus_behind_all}
+use Rattle.aml_meaning.specs.PciFunctions.{nearest}
+use Rattle.aml_meaning.specs.declared.pci_functions.Sought.{Sought}
+use Rattle.aml_meaning.specs.Calling.{ending, with_steps}
+use Rattle.aml_laws.proofs.BridgesTogether.{behind_asked_together, bridges_above_together, secondary_bus_together}
+use Rattle.aml_laws.proofs.MeaningTogether.{meaning_together}
+use Rattle.aml_laws.proofs.OperandsTogether.{called_at_together}
+use Rattle.aml_laws.proofs.Together.{Sides, Together, plain, give_together, settle_together, then_together}
+use Rattle.aml_laws.proofs.WorldsTogether.{lift_together, runs, space_together, worlds, ending_together, with_steps_together}
+use Rattle.acpi_machine.specs.Buses.{address_part, bus_of_table, bus_answered, bus_found}
+use Rattle.machine_laws.proofs.MachinesTogether.{machines, on_world_together, unless_spent_together}
+
+module _ {S T : Type 0} {accesses : Accesses S} {accesses2 : Accesses T} {side : Sides accesses accesses2} where
+  nearest_together : (x : Sought) (q : List Seg) → Together side worlds (nearest x q) (nearest x q)
+  unfolding nearest
+  nearest_together x q = plain (λ w. refl) (λ w. refl) (λ w t. refl)
+
+  part_together : (q : List Seg) → Together side runs (address_part accesses q) (address_part accesses2 q)
+  part_together q = called_at_together meaning_together 1 q
+
+  part_in_together : (s : Seg) (o : Option (List Seg)) → Together side runs (part_in accesses (address_part accesses) s o) (part_in accesses2 (address_part accesses2) s o)
+  part_in_together s None = give_together _
+  part_in_together s (Some q) = part_together _
+
+  inherited_together : (s : Seg) (q : List Seg) → Together side runs (inherited accesses (address_part accesses) s q) (inherited accesses2 (address_part accesses2) s q)
+  unfolding inherited
+  inherited_together s q = then_together (lift_together (nearest_together _ q)) (λ o. part_in_together s o)
+
+  bus_behind_together : (seg bus : ℕ) (q : List Seg) → Together side runs (bus_behind accesses (address_part accesses) seg bus q) (bus_behind accesses2 (address_part accesses2) seg bus q)
+  unfolding bus_behind
+  bus_behind_together seg bus q = then_together (part_together _) (λ address. lift_together (space_together (secondary_bus_together seg bus address)))
+
+  bus_behind_all_together : (seg bus : ℕ) (qs : List (List Seg)) → Together side runs (bus_behind_all accesses (address_part accesses) seg bus qs) (bus_behind_all accesses2 (address_part accesses2) seg bus qs)
+  unfolding bus_behind_all
+  bus_behind_all_together seg bus [] = give_together _
+  bus_behind_all_together seg bus (q ∷ qs) = then_together (bus_behind_together seg bus q) (λ behind. bus_behind_all_together seg behind qs)
+
+  bus_of_table_together : (device : List Seg) → Together side runs (bus_of_table accesses device) (bus_of_table accesses2 device)
+  unfolding bus_of_table
+  bus_of_table_together device =
+      then_together (lift_together (nearest_together _ device)) (λ bridge. then_together (lift_together (behind_asked_together bridge)) (λ reached.
+      then_together (lift_together (bridges_above_together _)) (λ bridges. then_together (inherited_together _ device) (λ segment.
+      then_together (inherited_together _ device) (λ bus. then_together (bus_behind_all_together segment bus bridges) (λ behind. settle_together _))))))
+
+-- same: the right one has as many steps
+module _ {S T : Type 0} {accesses : Accesses S} {accesses2 : Accesses T} {side : Sides accesses accesses2} (same : (n : ℕ) → side.more n ≡ n) where
+  in_steps : (device : List Seg) (steps : ℕ) → Together side worlds (ending (with_steps steps (bus_of_table accesses device))) (ending (with_steps steps (bus_of_table accesses2 device)))
+  in_steps device steps =
+      subst (λ n. Together side worlds (ending (with_steps steps (bus_of_table accesses device))) (ending (with_steps n (bus_of_table accesses2 device)))) (same steps) (ending_together (with_steps_together steps (bus_of_table_together device)))
+
+  bus_answered_together : (device : List Seg) → Together side machines (bus_answered accesses device) (bus_answered accesses2 device)
+  unfolding bus_answered
+  bus_answered_together device = record {
+    left_parted = λ s t h. (on_world_together same (in_steps device s.steps)).left_parted s t h;
+    right_parted = λ s u h. (on_world_together same (in_steps device u.steps)).right_parted s u h;
+    goes = λ s t i. (on_world_together same (in_steps device s.steps)).goes s t i;
+  }
+
+  pub bus_found_together : (device : List Seg) → Together side machines (bus_found accesses device) (bus_found accesses2 device)
+  unfolding bus_found
+  bus_found_together device = unless_spent_together same (bus_answered_together device)
