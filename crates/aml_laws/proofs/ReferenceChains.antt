@@ -1,39 +1,60 @@
 -- A chain of references is followed to its end where enough of them may be followed, and refused where it is longer.
-use Rattle.std.specs.Prelude.{◌≡◌, ◌≢◌, ◌≤◌, ◌<◌, ◌+◌, ◌-◌, ℕ, zero, suc, false, Ok, Err, refl}
+use Rattle.std.specs.Prelude.{◌≡◌, ◌≢◌, ◌≤◌, ◌<◌, ◌+◌, ◌-◌, ℕ, zero, suc, List, Bool, true, false, Some, Ok, Err, refl}
+use Rattle.std.specs.FinMap.{get}
 use Rattle.std.proofs.Common.{arith, ap, subst, sym, ◌∙◌}
 use Rattle.ar_space.specs.declared.refusal.Refusal.{Refusal}
 use Rattle.ar_space.specs.declared.refusal.Refusal.TheVariants as refusal
 use Rattle.ar_space.specs.declared.refusal.EvaluationFault.TheVariants.{DeadReference}
 use Rattle.ar_space.specs.Outcome.{Outcome}
 use Rattle.ar_space.specs.Change.{Change, give, stop, settle, go_on, ◌>>=◌}
+use Rattle.aml_path.specs.declared.segment.Seg.{Seg}
+use Rattle.aml_namespace.specs.Namespace.{numbered}
 use Rattle.aml_objects.specs.Objects.{element_at, byte_at}
 use Rattle.aml_objects.specs.declared.object.Element.{Element}
 use Rattle.aml_objects.specs.declared.object.Element.TheVariants as element
+use Rattle.aml_objects.specs.declared.entry.Entry.{Entry}
+use Rattle.aml_objects.specs.declared.entry.Field.{Field}
 use Rattle.aml_objects.specs.declared.entry.NamedObject.{NamedObject}
 use Rattle.aml_objects.specs.declared.entry.NamedObject.TheVariants as object
 use Rattle.aml_objects.specs.declared.value.Value.{Value}
 use Rattle.aml_objects.specs.declared.value.Value.TheVariants as value
+use Rattle.aml_objects.specs.declared.value.Slot.{Slot}
 use Rattle.aml_objects.specs.declared.value.Reference.{Reference}
 use Rattle.aml_objects.specs.declared.value.Reference.TheVariants as reference
 use Rattle.aml_meaning.specs.declared.store_target.Held.{Held}
 use Rattle.aml_meaning.specs.declared.store_target.Held.TheVariants as held
 use Rattle.aml_meaning.specs.declared.store_target.Stored.{Stored}
+use Rattle.aml_meaning.specs.declared.store_target.StoreTarget.TheVariants as targets
+use Rattle.aml_meaning.specs.declared.object_type.ObjectType.{ObjectType}
+use Rattle.aml_meaning.specs.declared.object_type.ObjectType.TheVariants as types
 use Rattle.aml_meaning.specs.declared.object_type.Referent.{Referent}
+use Rattle.aml_meaning.specs.declared.object_type.Referent.TheVariants as referent
 use Rattle.aml_meaning.specs.State.{State, on_objects}
 use Rattle.aml_meaning.specs.Readings.{entry_found}
-use Rattle.aml_meaning.specs.StoreTargets.{frame_found, slot_held, declaration, once, declared_once, value_once, slot_once, named_once, name_once, element_once, held_once, byte_once, dereferenced, referent_of, byte_followed, value_followed, referent_followed, declared_followed, slot_followed, element_named, name_followed, element_followed, held_followed, reference_followed, followed}
+use Rattle.aml_meaning.specs.StoreTargets.{frame_found, slot_held, declaration, once, declared_once, value_once, slot_once, named_once, name_once, element_once, held_once, byte_once, dereferenced, referent_of, byte_followed, value_followed, referent_followed, declared_followed, slot_followed, element_named, name_followed, element_followed, held_followed, reference_followed, followed, own_slot, slot_referent, declared_referent, name_referent, target_referent}
 use Rattle.aml_meaning.specs.Stores.{store_in_frame, store_in_frame_numbered, store_at_reference, stored_through}
-use Rattle.aml_laws.specs.Limits.{holds_reference, Chain, last, next, IsLink, ArgumentChain, alone, link}
+use Rattle.aml_laws.specs.Limits.{is_reference, is_byte, HasType, of_scope, of_device, of_processor, of_power_resource, of_thermal_zone, of_method, of_region, of_field_unit, of_buffer_field, of_mutex, of_event, RefersLast, to_value, to_name, to_field, to_byte, Chain, last, next, IsLink, ArgumentChain, alone, link}
+
+-- what a byte gives is no reference
+nowhere_by : {S : Type 0} (x : Outcome ℕ) (u : State S) (q : Reference) → (go_on x u (λ b. give (held.Value (value.Integer b)))).0 ≡ Ok (held.Value (value.Reference q)) → ⊥
+unfolding go_on give
+nowhere_by (Ok b) u q is = cc is
+nowhere_by (Err e) u q is = cc is
+
+abbrev is_element : Reference → Bool
+is_element (reference.Element o i) = true
+is_element _ = false
 
 module _ {S : Type 0} (follow : Reference → Change (State S) Referent) (w : State S) (from : Reference) where
-  -- What is read one step on, and what is followed: where the one is no reference, the other is answered; where it is another
-  -- reference, that one is followed.
+  -- What is read one step on, and what is followed: where the one is no reference, it is answered; where it is another reference, that
+  -- one is followed; and where an element of a package names a field, that is answered.
   pub record InStep (read : Outcome Held × State S) (end : Outcome Referent × State S) : Type 0 where
-    pub ends : (h : Held) → read.0 ≡ Ok h → holds_reference h ≡ false → (x : Referent) × (end ≡ (Ok x, w))
+    pub ends : (v : Value) → read.0 ≡ Ok (held.Value v) → is_reference v ≡ false → end ≡ (Ok (referent.Value v), w)
     pub goes_on : (q : Reference) → read.0 ≡ Ok (held.Value (value.Reference q)) → q ≢ from → end ≡ follow q w
+    pub fields : (f : Field) → is_element from ≡ true → read.0 ≡ Ok (held.Field f) → end ≡ (Ok (referent.Field f), w)
 
   refused_in_step : (e : Refusal) (u v : State S) → InStep (Err e, u) (Err e, v)
-  refused_in_step e u v = record { ends = λ h is apart. absurd (cc is); goes_on = λ q is other. absurd (cc is) }
+  refused_in_step e u v = record { ends = λ v is apart. absurd (cc is); goes_on = λ q is other. absurd (cc is); fields = λ f at is. absurd (cc is) }
 
   go_on_in_step : {A : Type 0} (x : Outcome A) (u : State S) (k : A → Change (State S) Held) (j : A → Change (State S) Referent) → u ≡ w → ((a : A) → InStep (k a w) (j a w)) → InStep (go_on x u k) (go_on x u j)
   unfolding go_on
@@ -44,47 +65,70 @@ module _ {S : Type 0} (follow : Reference → Change (State S) Referent) (w : St
   unfolding ◌>>=◌
   then_in_step m k j e all = go_on_in_step (m w).0 (m w).1 k j e all
 
-  -- what is read is this, and what is followed is answered
-  plain_in_step : (h : Held) (x : Referent) → holds_reference h ≡ false → InStep (Ok h, w) (Ok x, w)
-  plain_in_step h x apart = record { ends = λ g is other. (x, refl); goes_on = λ q is other. let same : h ≡ held.Value (value.Reference q) = cc is in absurd (cc (sym apart ∙ ap holds_reference same)) }
+  -- what is read is this value, and it is answered
+  plain_in_step : (v : Value) → is_reference v ≡ false → InStep (Ok (held.Value v), w) (Ok (referent.Value v), w)
+  plain_in_step v apart = record {
+    ends = λ u is other. let same : v ≡ u = cc is in ap (λ y. (Ok (referent.Value y), w)) same;
+    goes_on = λ q is other. let same : v ≡ value.Reference q = cc is in absurd (cc (sym apart ∙ ap is_reference same));
+    fields = λ f at is. absurd (cc is);
+  }
 
   -- what is read is a reference, and that is followed
   reference_in_step : (r : Reference) → InStep (Ok (held.Value (value.Reference r)), w) (follow r w)
   reference_in_step r = record {
-    ends = λ h is apart. let same : held.Value (value.Reference r) ≡ h = cc is in absurd (cc (sym apart ∙ sym (ap holds_reference same)));
+    ends = λ v is apart. let same : value.Reference r ≡ v = cc is in absurd (cc (sym apart ∙ sym (ap is_reference same)));
     goes_on = λ q is other. let same : r ≡ q = cc is in ap (λ p. follow p w) same;
+    fields = λ f at is. absurd (cc is);
   }
 
   -- what is read is the reference itself
   itself_in_step : (x : Referent) → InStep (Ok (held.Value (value.Reference from)), w) (Ok x, w)
-  itself_in_step x = record { ends = λ h is apart. (x, refl); goes_on = λ q is other. let same : from ≡ q = cc is in absurd (other (sym same)) }
+  itself_in_step x = record {
+    ends = λ v is apart. let same : value.Reference from ≡ v = cc is in absurd (cc (sym apart ∙ sym (ap is_reference same)));
+    goes_on = λ q is other. let same : from ≡ q = cc is in absurd (other (sym same));
+    fields = λ f at is. absurd (cc is);
+  }
+
+  -- what is read is a field: of a name, and of an element that is a name
+  named_field_in_step : (f : Field) (x : Referent) → is_element from ≡ false → InStep (Ok (held.Field f), w) (Ok x, w)
+  named_field_in_step f x apart = record { ends = λ v is other. absurd (cc is); goes_on = λ q is other. absurd (cc is); fields = λ g at is. absurd (cc (sym apart ∙ at)) }
+
+  element_field_in_step : (f : Field) → InStep (Ok (held.Field f), w) (Ok (referent.Field f), w)
+  element_field_in_step f = record {
+    ends = λ v is other. absurd (cc is);
+    goes_on = λ q is other. absurd (cc is);
+    fields = λ g at is. let same : f ≡ g = cc is in ap (λ y. (Ok (referent.Field y), w)) same;
+  }
 
   -- ---- values, names, elements
 
   value_in_step : (v : Value) → InStep (value_once v w) (value_followed follow v w)
   unfolding value_once settle give ◌>>=◌ go_on
-  value_in_step value.Uninitialized = record { ends = λ h is apart. absurd (cc is); goes_on = λ q is other. absurd (cc is) }
-  value_in_step (value.Integer n) = plain_in_step _ _ refl
-  value_in_step (value.String o) = plain_in_step _ _ refl
-  value_in_step (value.Buffer o) = plain_in_step _ _ refl
-  value_in_step (value.Package o) = plain_in_step _ _ refl
+  value_in_step value.Uninitialized = record { ends = λ v is apart. absurd (cc is); goes_on = λ q is other. absurd (cc is); fields = λ f at is. absurd (cc is) }
+  value_in_step (value.Integer n) = plain_in_step _ refl
+  value_in_step (value.String o) = plain_in_step _ refl
+  value_in_step (value.Buffer o) = plain_in_step _ refl
+  value_in_step (value.Package o) = plain_in_step _ refl
   value_in_step (value.Reference r) = reference_in_step r
 
   held_in_step : (v : Value) → InStep (Ok (held.Value v), w) (value_followed follow v w)
   unfolding give
   held_in_step (value.Reference r) = reference_in_step r
-  held_in_step value.Uninitialized = plain_in_step _ _ refl
-  held_in_step (value.Integer n) = plain_in_step _ _ refl
-  held_in_step (value.String o) = plain_in_step _ _ refl
-  held_in_step (value.Buffer o) = plain_in_step _ _ refl
-  held_in_step (value.Package o) = plain_in_step _ _ refl
+  held_in_step value.Uninitialized = plain_in_step _ refl
+  held_in_step (value.Integer n) = plain_in_step _ refl
+  held_in_step (value.String o) = plain_in_step _ refl
+  held_in_step (value.Buffer o) = plain_in_step _ refl
+  held_in_step (value.Package o) = plain_in_step _ refl
+
+  no_element : (n : ℕ) → from ≡ reference.Name n → is_element from ≡ false
+  no_element n is = rw is refl
 
   -- n: the number of the declaration, which the reference that is followed holds
   object_in_step : (n : ℕ) (o : NamedObject) → from ≡ reference.Name n → InStep (give (once n o) w) (referent_followed follow (referent_of o) w)
   unfolding give
   object_in_step n (object.Data v) is = held_in_step v
-  object_in_step n (object.FieldUnit u) is = plain_in_step _ _ refl
-  object_in_step n (object.BufferField b) is = plain_in_step _ _ refl
+  object_in_step n (object.FieldUnit u) is = named_field_in_step _ _ (no_element n is)
+  object_in_step n (object.BufferField b) is = named_field_in_step _ _ (no_element n is)
   object_in_step n object.Scope is = rw (← is) (itself_in_step _)
   object_in_step n object.Device is = rw (← is) (itself_in_step _)
   object_in_step n object.Processor is = rw (← is) (itself_in_step _)
@@ -99,8 +143,8 @@ module _ {S : Type 0} (follow : Reference → Change (State S) Referent) (w : St
   named_in_step : (n : ℕ) (o : NamedObject) → InStep (give (named_once n o) w) (element_named follow n o w)
   unfolding give
   named_in_step n (object.Data v) = held_in_step _
-  named_in_step n (object.FieldUnit u) = plain_in_step _ _ refl
-  named_in_step n (object.BufferField b) = plain_in_step _ _ refl
+  named_in_step n (object.FieldUnit u) = element_field_in_step _
+  named_in_step n (object.BufferField b) = element_field_in_step _
   named_in_step n _ = reference_in_step (reference.Name n)
 
   element_in_step : (e : Element) → InStep (element_once e w) (element_followed follow e w)
@@ -122,29 +166,76 @@ module _ {S : Type 0} (follow : Reference → Change (State S) Referent) (w : St
   unfolding held_once held_followed on_objects element_at
   held_at_in_step o i = then_in_step _ _ _ refl element_in_step
 
-  byte_in_step : (o i : ℕ) → InStep (byte_once o i w) (byte_followed o i w)
-  unfolding byte_once byte_followed on_objects byte_at give
-  byte_in_step o i = then_in_step _ _ _ refl (λ b. plain_in_step _ _ refl)
+  in_step : (r : Reference) → from ≡ r → is_byte r ≡ false → InStep (dereferenced r w) (reference_followed follow r w)
+  in_step (reference.Name n) is other = declared_in_step n is
+  in_step (reference.Slot slot n) is other = slot_in_step n slot
+  in_step (reference.Element o i) is other = held_at_in_step o i
+  in_step (reference.Byte o i) is other = absurd (cc other)
 
-  in_step : (r : Reference) → from ≡ r → InStep (dereferenced r w) (reference_followed follow r w)
-  in_step (reference.Name n) is = declared_in_step n is
-  in_step (reference.Slot slot n) is = slot_in_step n slot
-  in_step (reference.Element o i) is = held_at_in_step o i
-  in_step (reference.Byte o i) is = byte_in_step o i
+  -- ---- what holds no value, and bytes
+
+  typed_referent : (o : NamedObject) (t : ObjectType) → HasType o t → referent_of o ≡ referent.Object t
+  typed_referent _ _ of_scope = refl
+  typed_referent _ _ of_device = refl
+  typed_referent _ _ of_processor = refl
+  typed_referent _ _ of_power_resource = refl
+  typed_referent _ _ of_thermal_zone = refl
+  typed_referent _ _ (of_method m) = refl
+  typed_referent _ _ (of_region r) = refl
+  typed_referent _ _ (of_field_unit u) = refl
+  typed_referent _ _ (of_buffer_field b) = refl
+  typed_referent _ _ (of_mutex n) = refl
+  typed_referent _ _ (of_event n) = refl
+
+  name_ends : (n : ℕ) (path : List Seg) (e : Entry) (t : ObjectType) → numbered n w.names.map ≡ Some (path, e) → HasType e.object t → reference_followed follow (reference.Name n) w ≡ (Ok (referent.Object t), w)
+  unfolding declared_followed declaration give go_on ◌>>=◌
+  name_ends n path e t at typed = rw (at, typed_referent e.object t typed) refl
+
+  byte_ends : (o i b : ℕ) → (byte_at o i w.objects).0 ≡ Ok b → reference_followed follow (reference.Byte o i) w ≡ (Ok (referent.Object types.BufferField), w)
+  unfolding byte_followed on_objects byte_at give go_on ◌>>=◌
+  byte_ends o i b at = rw at refl
 
 module _ {S : Type 0} (w : State S) where
-  pub chain_followed : (n m : ℕ) (r : Reference) → Chain w n r → n ≤ m → (x : Referent) × (followed m r w ≡ (Ok x, w))
-  unfolding followed
-  chain_followed n zero r (last _ h is apart) le = absurd (omega arith)
-  chain_followed n (suc m) r (last _ h is apart) le = (in_step (followed m) w r r refl).ends h is apart
-  chain_followed n zero r (next k _ q is other c) le = absurd (omega arith)
-  chain_followed n (suc m) r (next k _ q is other c) le = let rest = chain_followed k m q c (omega arith) in (rest.0, (in_step (followed m) w r r refl).goes_on q is other ∙ rest.1)
+  -- a byte is no reference to another one
+  byte_goes_nowhere : (o i : ℕ) (q : Reference) → (dereferenced (reference.Byte o i) w).0 ≡ Ok (held.Value (value.Reference q)) → ⊥
+  unfolding byte_once on_objects byte_at ◌>>=◌
+  byte_goes_nowhere o i q is = nowhere_by (byte_at o i w.objects).0 w q is
 
-  pub chain_refused : (n m : ℕ) (r : Reference) → Chain w n r → m < n → followed m r w ≡ (Err (refusal.Evaluation DeadReference), w)
+  next_followed : (m : ℕ) (r q : Reference) → (dereferenced r w).0 ≡ Ok (held.Value (value.Reference q)) → q ≢ r → followed (suc m) r w ≡ followed m q w
+  unfolding followed
+  next_followed m (reference.Name n) q is other = (in_step (followed m) w (reference.Name n) (reference.Name n) refl refl).goes_on q is other
+  next_followed m (reference.Slot slot n) q is other = (in_step (followed m) w (reference.Slot slot n) (reference.Slot slot n) refl refl).goes_on q is other
+  next_followed m (reference.Element o i) q is other = (in_step (followed m) w (reference.Element o i) (reference.Element o i) refl refl).goes_on q is other
+  next_followed m (reference.Byte o i) q is other = absurd (byte_goes_nowhere o i q is)
+
+  last_followed : (m : ℕ) (r : Reference) (x : Referent) → RefersLast w r x → followed (suc m) r w ≡ (Ok x, w)
+  unfolding followed
+  last_followed m r _ (to_value _ v other is apart) = (in_step (followed m) w r r refl other).ends v is apart
+  last_followed m _ _ (to_name n path e t at typed) = name_ends (followed m) w (reference.Name n) n path e t at typed
+  last_followed m _ _ (to_field o i f is) = (in_step (followed m) w (reference.Element o i) (reference.Element o i) refl refl).fields f refl is
+  last_followed m _ _ (to_byte o i b at) = byte_ends (followed m) w (reference.Byte o i) o i b at
+
+  pub chain_followed : (n m : ℕ) (r : Reference) (x : Referent) → Chain w n r x → n ≤ m → followed m r w ≡ (Ok x, w)
+  chain_followed n zero r x (last _ _ ends) le = absurd (omega arith)
+  chain_followed n (suc m) r x (last _ _ ends) le = last_followed m r x ends
+  chain_followed n zero r x (next k _ q _ is other c) le = absurd (omega arith)
+  chain_followed n (suc m) r x (next k _ q _ is other c) le = next_followed m r q is other ∙ chain_followed k m q x c (omega arith)
+
+  pub chain_refused : (n m : ℕ) (r : Reference) (x : Referent) → Chain w n r x → m < n → followed m r w ≡ (Err (refusal.Evaluation DeadReference), w)
   unfolding followed stop
-  chain_refused n zero r c less = refl
-  chain_refused n (suc m) r (last _ h is apart) less = absurd (omega arith)
-  chain_refused n (suc m) r (next k _ q is other c) less = (in_step (followed m) w r r refl).goes_on q is other ∙ chain_refused k m q c (omega arith)
+  chain_refused n zero r x c less = refl
+  chain_refused n (suc m) r x (last _ _ ends) less = absurd (omega arith)
+  chain_refused n (suc m) r x (next k _ q _ is other c) less = next_followed m r q is other ∙ chain_refused k m q x c (omega arith)
+
+  -- ---- names and slots that hold a reference
+
+  pub name_followed_through : (path : List Seg) (e : Entry) (r : Reference) → get w.names.map path ≡ Some e → e.object ≡ object.Data (value.Reference r) → target_referent (targets.Name path) w ≡ target_referent (targets.Refers r) w
+  unfolding name_referent declared_referent go_on ◌>>=◌
+  name_followed_through path e r at is = rw (at, is) refl
+
+  pub slot_followed_through : (slot : Slot) (r : Reference) → own_slot slot w ≡ (Ok (value.Reference r), w) → target_referent (targets.Slot slot) w ≡ target_referent (targets.Refers r) w
+  unfolding slot_referent go_on ◌>>=◌
+  slot_followed_through slot r is = rw is refl
 
 -- ---- stores through arguments
 

@@ -1,16 +1,29 @@
 -- Chains of references, and packages one inside another.
 use Rattle.std.specs.Prelude.{◌≡◌, ◌≢◌, ℕ, zero, suc, List, ◌∷◌, Bool, true, false, Ok, Some, slice_get}
+use Rattle.aml_path.specs.declared.segment.Seg.{Seg}
+use Rattle.aml_namespace.specs.Namespace.{numbered}
 use Rattle.aml_objects.specs.declared.object.Element.{Element}
 use Rattle.aml_objects.specs.declared.object.Element.TheVariants as element
 use Rattle.aml_objects.specs.declared.object.Object.TheVariants as object
-use Rattle.aml_objects.specs.Objects.{Objects}
+use Rattle.aml_objects.specs.Objects.{Objects, byte_at}
+use Rattle.aml_objects.specs.declared.entry.BufferField.{BufferField}
+use Rattle.aml_objects.specs.declared.entry.Entry.{Entry}
+use Rattle.aml_objects.specs.declared.entry.Field.{Field}
+use Rattle.aml_objects.specs.declared.entry.FieldUnit.{FieldUnit}
+use Rattle.aml_objects.specs.declared.entry.Method.{Method}
+use Rattle.aml_objects.specs.declared.entry.NamedObject.{NamedObject}
+use Rattle.aml_objects.specs.declared.entry.NamedObject.TheVariants as named
+use Rattle.aml_objects.specs.declared.entry.OperationRegion.{OperationRegion}
 use Rattle.aml_objects.specs.declared.value.Value.{Value}
 use Rattle.aml_objects.specs.declared.value.Value.TheVariants as value
 use Rattle.aml_objects.specs.declared.value.Reference.{Reference}
 use Rattle.aml_objects.specs.declared.value.Reference.TheVariants as reference
 use Rattle.aml_objects.specs.declared.value.Slot.TheVariants.{Argument}
-use Rattle.aml_meaning.specs.declared.store_target.Held.{Held}
 use Rattle.aml_meaning.specs.declared.store_target.Held.TheVariants as held
+use Rattle.aml_meaning.specs.declared.object_type.ObjectType.{ObjectType}
+use Rattle.aml_meaning.specs.declared.object_type.ObjectType.TheVariants as types
+use Rattle.aml_meaning.specs.declared.object_type.Referent.{Referent}
+use Rattle.aml_meaning.specs.declared.object_type.Referent.TheVariants as referent
 use Rattle.aml_meaning.specs.Given.{Given, Nothing, Package, none, more}
 use Rattle.aml_meaning.specs.State.{State}
 use Rattle.aml_meaning.specs.Slots.{frame_index, slot_at}
@@ -20,15 +33,40 @@ abbrev pub is_reference : Value → Bool
 is_reference (value.Reference r) = true
 is_reference _ = false
 
-abbrev pub holds_reference : Held → Bool
-holds_reference (held.Value v) = is_reference v
-holds_reference (held.Field f) = false
+abbrev pub is_byte : Reference → Bool
+is_byte (reference.Byte o i) = true
+is_byte _ = false
 
--- so many references, each but the last of which refers to the next one, and the last to what is no reference
-pub data Chain {S : Type 0} (w : State S) : ℕ → Reference → Type 0 where
-  last : (r : Reference) (h : Held) → (dereferenced r w).0 ≡ Ok h → holds_reference h ≡ false → Chain w 1 r
-  next : (n : ℕ) (r q : Reference) → (dereferenced r w).0 ≡ Ok (held.Value (value.Reference q)) → q ≢ r → Chain w n q
-      → Chain w (suc n) r
+-- the type of a name that holds no value (ACPI 6.5, 19.6: ObjectType, its table)
+pub data HasType : NamedObject → ObjectType → Type 0 where
+  of_scope : HasType named.Scope types.Uninitialized
+  of_device : HasType named.Device types.Device
+  of_processor : HasType named.Processor types.Processor
+  of_power_resource : HasType named.PowerResource types.PowerResource
+  of_thermal_zone : HasType named.ThermalZone types.ThermalZone
+  of_method : (m : Method) → HasType (named.Method m) types.Method
+  of_region : (r : OperationRegion) → HasType (named.OperationRegion r) types.OperationRegion
+  of_field_unit : (u : FieldUnit) → HasType (named.FieldUnit u) types.FieldUnit
+  of_buffer_field : (b : BufferField) → HasType (named.BufferField b) types.BufferField
+  of_mutex : (count : ℕ) → HasType (named.Mutex count) types.Mutex
+  of_event : (count : ℕ) → HasType (named.Event count) types.Event
+
+-- What a reference refers to that refers to no other one: a value; a name that holds none; a field that a package names by an element,
+-- which stands for what the field holds; a byte of a string or a buffer.
+pub data RefersLast {S : Type 0} (w : State S) : Reference → Referent → Type 0 where
+  to_value : (r : Reference) (v : Value) → is_byte r ≡ false → (dereferenced r w).0 ≡ Ok (held.Value v) → is_reference v ≡ false
+      → RefersLast w r (referent.Value v)
+  to_name : (n : ℕ) (path : List Seg) (e : Entry) (t : ObjectType) → numbered n w.names.map ≡ Some (path, e) → HasType e.object t
+      → RefersLast w (reference.Name n) (referent.Object t)
+  to_field : (o i : ℕ) (f : Field) → (dereferenced (reference.Element o i) w).0 ≡ Ok (held.Field f)
+      → RefersLast w (reference.Element o i) (referent.Field f)
+  to_byte : (o i b : ℕ) → (byte_at o i w.objects).0 ≡ Ok b → RefersLast w (reference.Byte o i) (referent.Object types.BufferField)
+
+-- so many references, each but the last of which refers to the next one, and what the last refers to
+pub data Chain {S : Type 0} (w : State S) : ℕ → Reference → Referent → Type 0 where
+  last : (r : Reference) (x : Referent) → RefersLast w r x → Chain w 1 r x
+  next : (n : ℕ) (r q : Reference) (x : Referent) → (dereferenced r w).0 ≡ Ok (held.Value (value.Reference q)) → q ≢ r
+      → Chain w n q x → Chain w (suc n) r x
 
 -- a reference to an argument of a control method that runs, which holds another reference
 pub record IsLink {S : Type 0} (w : State S) (r q : Reference) : Type 0 where

@@ -1,5 +1,6 @@
 //! Limits.
-ghost use Rattle.std.specs.Prelude.{◌≡◌, ◌≤◌, ◌<◌, ◌+◌, ◌-◌, ◌++◌, ◌∷◌, [], ℕ, List, length, Ok, Err};
+ghost use Rattle.std.specs.Prelude.{◌≡◌, ◌≤◌, ◌<◌, ◌+◌, ◌-◌, ◌++◌, ◌∷◌, [], ℕ, List, length, Some, Ok, Err};
+ghost use Rattle.std.specs.FinMap.{get};
 ghost use Rattle.ar_space.specs.declared.refusal.Refusal.TheVariants.{Evaluation};
 ghost use Rattle.ar_space.specs.declared.refusal.EvaluationFault.TheVariants.{ObjectLimit, CallDepth, DeadReference};
 ghost use Rattle.ar_space.specs.Accesses.{Accesses};
@@ -11,12 +12,15 @@ ghost use Rattle.aml_objects.specs.declared.object.Object.TheVariants as object;
 ghost use Rattle.aml_objects.specs.declared.value.Value.{Value};
 ghost use Rattle.aml_objects.specs.declared.value.Value.TheVariants as value;
 ghost use Rattle.aml_objects.specs.declared.value.Reference.{Reference};
+ghost use Rattle.aml_objects.specs.declared.value.Slot.{Slot};
+ghost use Rattle.aml_objects.specs.declared.entry.Entry.{Entry};
+ghost use Rattle.aml_objects.specs.declared.entry.NamedObject.TheVariants as named;
 ghost use Rattle.aml_meaning.specs.declared.store_target.StoreTarget.TheVariants as targets;
 ghost use Rattle.aml_meaning.specs.declared.object_type.Referent.{Referent};
 ghost use Rattle.aml_meaning.specs.State.{State};
 ghost use Rattle.aml_meaning.specs.Invocations.{invoked};
 ghost use Rattle.aml_meaning.specs.Meaning.{meaning};
-ghost use Rattle.aml_meaning.specs.StoreTargets.{target_referent};
+ghost use Rattle.aml_meaning.specs.StoreTargets.{own_slot, target_referent};
 ghost use Rattle.aml_meaning.specs.Stores.{copied_to, stored_through};
 ghost use Rattle.aml_meaning.specs.Importing.{imported};
 ghost use Rattle.aml_meaning.specs.Exporting.{exported};
@@ -59,23 +63,33 @@ pub fn what_is_within_the_limits_is_taken<S>()
         body_frame depth p body arguments w ≡ body_frame 0 p body arguments w }
 {}
 
-/// A chain of at most 64 references is followed to its end, as SizeOf and ObjectType do; a longer one is refused as a
-/// dead reference. Either changes nothing. So it is with CopyObject through arguments that hold references: it goes
-/// to the last, from which as many more are followed as are left, and changes nothing where there are more than 64.
-#[tactic(auto, using(crate::proofs::ReferenceChains::chain_followed, crate::proofs::ReferenceChains::chain_refused, crate::proofs::ReferenceChains::arguments_followed, crate::proofs::ReferenceChains::arguments_refused))]
+/// A chain of at most 64 references is followed to its end, as SizeOf and ObjectType do, and answers what the last one
+/// refers to: a value, the type of a name that holds none, a field that a package names, or a byte. A longer chain is
+/// refused as a dead reference. Either changes nothing. A name or a slot that holds a reference stands for it. So it is
+/// with CopyObject through arguments that hold references: it goes to the last, from which as many more are followed
+/// as are left, and changes nothing where there are more than 64. An answer that is another name's type, or that stops
+/// at a reference on the way, is refused by this.
+#[tactic(auto, using(crate::proofs::ReferenceChains::chain_followed, crate::proofs::ReferenceChains::chain_refused, crate::proofs::ReferenceChains::name_followed_through, crate::proofs::ReferenceChains::slot_followed_through, crate::proofs::ReferenceChains::arguments_followed, crate::proofs::ReferenceChains::arguments_refused))]
 pub fn at_most_64_references_are_followed<S>()
-    ensures followed { (w : State S) (n : ℕ) (r : Reference) → Chain w n r → n ≤ 64 →
-        (x : Referent) × (target_referent (targets.Refers r) w ≡ (Ok x, w)) }
-    ensures refused { (w : State S) (n : ℕ) (r : Reference) → Chain w n r → 64 < n →
+    ensures followed { (w : State S) (n : ℕ) (r : Reference) (x : Referent) → Chain w n r x → n ≤ 64 →
+        target_referent (targets.Refers r) w ≡ (Ok x, w) }
+    ensures refused { (w : State S) (n : ℕ) (r : Reference) (x : Referent) → Chain w n r x → 64 < n →
         target_referent (targets.Refers r) w ≡ (Err (Evaluation DeadReference), w) }
+    ensures names { (w : State S) (path : List Seg) (e : Entry) (r : Reference) → get w.names.map path ≡ Some e →
+        e.object ≡ named.Data (value.Reference r) → target_referent (targets.Name path) w ≡
+        target_referent (targets.Refers r) w }
+    ensures slots { (w : State S) (slot : Slot) (r : Reference) → own_slot slot w ≡ (Ok (value.Reference r), w) →
+        target_referent (targets.Slot slot) w ≡ target_referent (targets.Refers r) w }
     ensures stored { (w : State S) (v : Value) (n : ℕ) (r end : Reference) → ArgumentChain w n r end → n ≤ 64 →
         copied_to (targets.Refers r) v w ≡ stored_through (64 + 1 - n) end v w }
     ensures not_stored { (w : State S) (v : Value) (n : ℕ) (r end : Reference) → ArgumentChain w n r end → 64 < n →
         copied_to (targets.Refers r) v w ≡ (Err (Evaluation DeadReference), w) }
 {}
 
-/// Packages that nest at most 64 deep are taken where there is room for their objects, and those that nest deeper are
-/// refused: those that are handed in, and, where there are steps for 64 elements, those that are handed out.
+/// A chain of packages, each the only element of the one round it, is handed in where it is at most 64 long and there
+/// is room for their objects, and refused as too much where it is longer. A package that has another as its first
+/// element, and so on 65 deep or deeper, isn't handed out: it is refused so where there are steps for 64 elements. Of
+/// all other data `what_is_within_the_limits_is_handed_in` and `data_nests_at_most_64_deep` speak.
 #[tactic(auto, using(crate::proofs::LimitsTaken::package_taken, crate::proofs::LimitsTaken::deep_package_refused, crate::proofs::LimitsTaken::handed_out_refused))]
 pub fn packages_nest_at_most_64_deep<S>()
     ensures taken { (w : State S) (n : ℕ) → n ≤ 64 → length w.objects + n ≤ 262144 →
