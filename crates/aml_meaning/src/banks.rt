@@ -29,10 +29,10 @@ impl RegionField {
 fn is_held(bits: u32, value: u64) -> bool
     ensures { result ≡ nat_lt value (2 ^ bits) }
 {
-    if bits < u64::BITS {
-        return value < 1 << bits;
+    match 2_u64.checked_pow(bits) {
+        Some(end) => value < end,
+        None => true,
     }
-    true
 }
 
 impl<S: Space> WorldState<S> {
