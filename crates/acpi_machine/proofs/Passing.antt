@@ -43,13 +43,13 @@ module _ {S : Type 0} (p : List Seg) where
   pub passed_wide : {r : Outcome (Unit {0})} (w w1 : State S) (t : Tables) (mode : Mode) (n : ℕ) (b : Bool) (e : Refusal) (s : MachineState S) (profile : Profile) (wide : Bool) → record { world = w; tables = t; mode = mode; steps = n; spent = b } ≡ s
       → profile ≡ s.world.profile → wide ≡ is_wide profile → wide ≡ true → Does r w1 (passed_over p e) w → Does r (record { world = w1; tables = t; mode = mode; steps = n; spent = b }) (refused_call p e) s
   unfolding on_world
-  passed_wide w w1 t mode n b e s profile wide same is holds yes h =
-      let flag : is_wide s.world.profile ≡ true = ap is_wide (sym is) ∙ (sym holds ∙ yes) in
+  passed_wide w w1 t mode n b e s profile wide same is told holds h =
+      let flag : is_wide s.world.profile ≡ true = ap is_wide (sym is) ∙ (sym told ∙ holds) in
       record { is = λ ne. ap (λ x. if x then on_world (passed_over p e) s else (Err e, s)) flag ∙ rw (← same, h.is ne) refl }
 
   pub passed_core : (e : Refusal) (s : MachineState S) (profile : Profile) (wide : Bool) → profile ≡ s.world.profile → wide ≡ is_wide profile → wide ≡ false → Does (Err e) s (refused_call p e) s
-  passed_core e s profile wide is holds no =
-      let flag : is_wide s.world.profile ≡ false = ap is_wide (sym is) ∙ (sym holds ∙ no) in
+  passed_core e s profile wide is told fails =
+      let flag : is_wide s.world.profile ≡ false = ap is_wide (sym is) ∙ (sym told ∙ fails) in
       record { is = λ ne. ap (λ x. if x then on_world (passed_over p e) s else (Err e, s)) flag }
 
 pub ruleset passing = (call_answered, call_refused, passed_wide, passed_core)

@@ -44,7 +44,7 @@ use Rattle.aml_meaning.specs.declared.store_target.StoreTarget.{StoreTarget}
 use Rattle.aml_meaning.specs.declared.term_kind.Count.{Count}
 use Rattle.aml_frames.specs.Uses.{optional, target_ends, target_run, access_run}
 use Rattle.aml_meaning.specs.Meaning.{meaning}
-use Rattle.aml_frames.proofs.PassedItems.{never_memory, refused_paid, refused_free}
+use Rattle.aml_frames.proofs.PassedItems.{never_memory, refused_paid, refused_free, refused_met, access_enough, target_enough, four_enough, most_enough}
 use Rattle.aml_frames.proofs.Stepping.{leads_goes_on, leads_goes_off, leads_item, list_passing, leads_no_item, leads_end}
 use Rattle.aml_frames.proofs.Weighing.{charged_step, falling}
 use Rattle.aml_frames.specs.Places.{Site, behind_term}
@@ -214,10 +214,6 @@ module _ {S : Type 0} (ac : Accesses S) (ev : Task → Run S Flow) where
   unfolding then_all unwinding give settle
   does_ended {s = s} c xs f x h i e = record { is = λ _. h.is ∙ ap (λ y. machine ac ev y c xs s) i ∙ ap (λ ys. then_all ac ev (give f) c ys s) e }
 
-  -- a refusal: each call that is being run ends
-  pub does_unwound : {m : Run S Flow} {e : Refusal} {s0 s s1 s2 : State S × ℕ} {d : Site} {ys : List Entry} (c : Site) (xs : List Entry) (x : Control) → Same m s0 (machine ac ev x c xs) s → Goes ac ev (Err e) d ys s1 (machine ac ev x c xs) s → then_all ac ev (stop e) d ys s1 ≡ (Err e, s2) → Does (Err e) s2 m s0
-  does_unwound c xs x h i u = record { is = λ ne. h.is ∙ i.is ne ∙ u }
-
   pub unwound_frame : (e : Refusal) (c : Site) (xs : List Entry) (x : Frame) (s : State S × ℕ) → then_all ac ev (stop e) c (xs ++ entry.Frame x ∷ []) s ≡ then_all ac ev (stop e) c xs s
   unwound_frame e c xs x s = passed ac ev e c xs x s (at_frame ac ev (stop e) c xs x s) ∙ stopped_anywhere ac ev e xs (ends x c) c s
 
@@ -228,19 +224,19 @@ module _ {S : Type 0} (ac : Accesses S) (ev : Task → Run S Flow) where
   -- an item that isn't passed over
   refused_by : (e : Refusal) (c : Site) (xs : List Entry) (x : ListItem) (s : State S × ℕ) → is_passable e ≡ false → then_all ac ev (stop e) c (xs ++ entry.Item x ∷ []) s ≡ then_all ac ev (stop e) (at_position (behind_term x.list x.behind.levels) x.behind.outer) xs s
   unfolding then_all stop item_done go_on
-  refused_by e c xs x s no = rw (unwinding_on ac ev xs (entry.Item x) (at_bottom ac ev)) (rw no refl)
+  refused_by e c xs x s fails = rw (unwinding_on ac ev xs (entry.Item x) (at_bottom ac ev)) (rw fails refl)
 
   pub unwound_item : (e : Refusal) (c : Site) (xs : List Entry) (x : ListItem) (s : State S × ℕ) → is_passable e ≡ false → then_all ac ev (stop e) c (xs ++ entry.Item x ∷ []) s ≡ then_all ac ev (stop e) c xs s
-  unwound_item e c xs x s no = refused_by e c xs x s no ∙ stopped_anywhere ac ev e xs (at_position (behind_term x.list x.behind.levels) x.behind.outer) c s
+  unwound_item e c xs x s fails = refused_by e c xs x s fails ∙ stopped_anywhere ac ev e xs (at_position (behind_term x.list x.behind.levels) x.behind.outer) c s
 
   -- and one that is
   pub passed_on : (e : Refusal) (c : Site) (xs : List Entry) (x : ListItem) (s : State S × ℕ) → is_passable e ≡ true
       → then_all ac ev (stop e) c (xs ++ entry.Item x ∷ []) s ≡ machine ac ev (control.Items x.behind) (behind_term x.list x.behind.levels) xs (with_passed x.list.scope e s.0, s.1)
   unfolding then_all stop item_done go_on
-  passed_on e c xs x s yes = rw (unwinding_on ac ev xs (entry.Item x) (at_bottom ac ev)) (rw yes refl)
+  passed_on e c xs x s holds = rw (unwinding_on ac ev xs (entry.Item x) (at_bottom ac ev)) (rw holds refl)
 
   pub popped_item : (e : Refusal) (c : Site) (xs ys : List Entry) (x : ListItem) (y : Entry) (s : State S × ℕ) → xs ≡ ys ++ y ∷ [] → y ≡ entry.Item x → is_passable e ≡ false → then_all ac ev (stop e) c xs s ≡ then_all ac ev (stop e) c ys s
-  popped_item e c xs ys x y s h i no = ap (λ zs. then_all ac ev (stop e) c zs s) (h ∙ ap (λ z. ys ++ z ∷ []) i) ∙ unwound_item e c ys x s no
+  popped_item e c xs ys x y s h i fails = ap (λ zs. then_all ac ev (stop e) c zs s) (h ∙ ap (λ z. ys ++ z ∷ []) i) ∙ unwound_item e c ys x s fails
 
   pub popped_frame : (e : Refusal) (c : Site) (xs ys : List Entry) (x : Frame) (y : Entry) (s : State S × ℕ) → xs ≡ ys ++ y ∷ [] → y ≡ entry.Frame x → then_all ac ev (stop e) c xs s ≡ then_all ac ev (stop e) c ys s
   popped_frame e c xs ys x y s h i = ap (λ zs. then_all ac ev (stop e) c zs s) (h ∙ ap (λ z. ys ++ z ∷ []) i) ∙ unwound_frame e c ys x s
@@ -268,27 +264,27 @@ module _ {S : Type 0} {ac : Accesses S} where
 
   -- an item begins, and the items behind it wait
   item_waits : {s : State S × ℕ} (c : Site) (xs : List Entry) (i : Items) (n : ℕ) → passes_over c.depth s.0.profile ≡ false → 0 < i.left → 0 < length c.place.rest → n ≡ i.left - 1 → Goes ac (meaning ac) (Ok (control.Term i.levels)) c (xs ++ entry.Frame (frames.Items (record { left = n; levels = i.levels; outer = i.outer })) ∷ []) s (machine ac (meaning ac) (control.Items i) c xs) s
-  item_waits c xs i n no some left one =
+  item_waits c xs i n fails some left one =
       let x = frames.Items (record { left = n; levels = i.levels; outer = i.outer }) in
-      goes_leads (next.Term i.levels x) c (at_position c i.outer) xs _ (leads_item c i n no some left one) refl (goes_term xs _ i.levels x refl)
+      goes_leads (next.Term i.levels x) c (at_position c i.outer) xs _ (leads_item c i n fails some left one) refl (goes_term xs _ i.levels x refl)
 
   never_passed : (c b : Site) (flag : Bool) (s : State S × ℕ) → b ≡ c → flag ≡ passes_over b.depth s.0.profile → flag ≡ false → passes_over c.depth s.0.profile ≡ false
-  never_passed c b flag s same told no = ap (λ a. passes_over a.depth s.0.profile) (sym same) ∙ (sym told ∙ no)
+  never_passed c b flag s same told fails = ap (λ a. passes_over a.depth s.0.profile) (sym same) ∙ (sym told ∙ fails)
 
   -- an item begins that may be passed over
   item_kept_is : {s : State S × ℕ} (c : Site) (xs : List Entry) (i : Items) (n : ℕ) → passes_over c.depth s.0.profile ≡ true → 0 < i.left → 0 < length c.place.rest → n ≡ i.left - 1
       → machine ac (meaning ac) (control.Items i) c xs s ≡ machine ac (meaning ac) (control.Term i.levels) c (xs ++ entry.Item (record { list = c; behind = record { left = n; levels = i.levels; outer = i.outer } }) ∷ []) s
   unfolding then_all
-  item_kept_is {s = s} c xs i n yes some left one =
+  item_kept_is {s = s} c xs i n holds some left one =
       let x : ListItem = record { list = c; behind = record { left = n; levels = i.levels; outer = i.outer } } in
-      sym (at_item_passing ac (meaning ac) (term_run ac (meaning ac) c i.levels) xs x s ∙ ap (λ r. unwinding ac (meaning ac) xs (at_bottom ac (meaning ac)) (at_position c i.outer) r.0 r.1) (sym (list_passing c i n s yes some left one)))
+      sym (at_item_passing ac (meaning ac) (term_run ac (meaning ac) c i.levels) xs x s ∙ ap (λ r. unwinding ac (meaning ac) xs (at_bottom ac (meaning ac)) (at_position c i.outer) r.0 r.1) (sym (list_passing c i n s holds some left one)))
 
   pub item_kept : {s : State S × ℕ} (r : Outcome Control) (c b d : Site) (xs ys : List Entry) (i : Items) (n : ℕ) (flag : Bool) → flag ≡ passes_over b.depth s.0.profile → flag ≡ true → 0 < i.left → 0 < length c.place.rest → n ≡ i.left - 1 → b ≡ c
       → OnOk r (d ≡ b) → OnOk r (ys ≡ xs ++ entry.Item (record { list = b; behind = record { left = n; levels = i.levels; outer = i.outer } }) ∷ []) → IfOk r (λ x. x ≡ control.Term i.levels) → IfErr r (λ e. e ≡ OutOfMemory)
       → Goes ac (meaning ac) r d ys s (machine ac (meaning ac) (control.Items i) c xs) s
-  item_kept {s = s} (Ok x) c b d xs ys i n flag told yes some left one same at pushed next memory =
-      rw (next, pushed, at, same) (record { is = λ _. item_kept_is c xs i n (ap (λ a. passes_over a.depth s.0.profile) (sym same) ∙ (sym told ∙ yes)) some left one })
-  item_kept (Err e) c b d xs ys i n flag told yes some left one same at pushed next memory = record { is = λ ne. absurd (ne memory) }
+  item_kept {s = s} (Ok x) c b d xs ys i n flag told holds some left one same at pushed next memory =
+      rw (next, pushed, at, same) (record { is = λ _. item_kept_is c xs i n (ap (λ a. passes_over a.depth s.0.profile) (sym same) ∙ (sym told ∙ holds)) some left one })
+  item_kept (Err e) c b d xs ys i n flag told holds some left one same at pushed next memory = record { is = λ ne. absurd (ne memory) }
 
   goes_then : {m : Run S Flow} {r : Outcome Control} {d e : Site} {ys zs : List Entry} {s s1 s2 : State S × ℕ} (x : Control) → Goes ac (meaning ac) (Ok x) d ys s1 m s → Goes ac (meaning ac) r e zs s2 (machine ac (meaning ac) x d ys) s1 → Goes ac (meaning ac) r e zs s2 m s
   goes_then x h i = record { is = λ ne. h.is tt ∙ i.is ne }
@@ -296,16 +292,16 @@ module _ {S : Type 0} {ac : Accesses S} where
   pub item_next : {r : Outcome Control} {e : Site} {ys : List Entry} {s s1 s2 : State S × ℕ} (x : Next) (c b d : Site) (xs : List Entry) (i : Items) (n : ℕ) (flag : Bool) → flag ≡ passes_over b.depth s.0.profile → flag ≡ false → 0 < i.left → 0 < length c.place.rest → n ≡ i.left - 1 → Leads ac (meaning ac) (Ok x) d s1 (term_run ac (meaning ac) b i.levels) s → b ≡ c → next_ends x d ≡ behind_term b i.levels
       → Goes ac (meaning ac) r e ys s2 (then_all ac (meaning ac) (next_run ac (meaning ac) x d) (next_ends x d) (xs ++ entry.Frame (frames.Items (record { left = n; levels = i.levels; outer = i.outer })) ∷ [])) s1
       → Goes ac (meaning ac) r e ys s2 (machine ac (meaning ac) (control.Items i) c xs) s
-  item_next {s = s} x c b d xs i n flag told no some left one l same ends g =
+  item_next {s = s} x c b d xs i n flag told fails some left one l same ends g =
       let ys = xs ++ entry.Frame (frames.Items (record { left = n; levels = i.levels; outer = i.outer })) ∷ [] in
-      goes_then (control.Term i.levels) (item_waits c xs i n (never_passed c b flag s same told no) some left one) (goes_leads x d (behind_term c i.levels) ys _ (rw same at l) (rw same at ends) g)
+      goes_then (control.Term i.levels) (item_waits c xs i n (never_passed c b flag s same told fails) some left one) (goes_leads x d (behind_term c i.levels) ys _ (rw same at l) (rw same at ends) g)
 
   -- an item that is refused passes the items behind it
   pub item_refused : {e : Refusal} {r : Outcome Control} {s s1 : State S × ℕ} (c b d : Site) (xs : List Entry) (i : Items) (flag : Bool) → flag ≡ passes_over b.depth s.0.profile → flag ≡ false → 0 < i.left → 0 < length c.place.rest → Leads ac (meaning ac) (Err e) d s1 (term_run ac (meaning ac) b i.levels) s → b ≡ c → IsErr r × IsErrAnd r (λ x. x ≡ e) → Goes ac (meaning ac) r d xs s1 (machine ac (meaning ac) (control.Items i) c xs) s
-  item_refused {r = Ok y} c b d xs i flag told no some left l same h = absurd (cc h.0)
-  item_refused {r = Err y} {s = s} {s1 = s1} c b d xs i flag told no some left l same h =
+  item_refused {r = Ok y} c b d xs i flag told fails some left l same h = absurd (cc h.0)
+  item_refused {r = Err y} {s = s} {s1 = s1} c b d xs i flag told fails some left l same h =
       let x = frames.Items (record { left = i.left - 1; levels = i.levels; outer = i.outer }) in
-      let g = goes_then {r = Err y} (control.Term i.levels) (item_waits c xs i (i.left - 1) (never_passed c b flag s same told no) some left refl) (goes_leads_err d (behind_term c i.levels) (xs ++ entry.Frame x ∷ []) _ (rw same at l) h) in
+      let g = goes_then {r = Err y} (control.Term i.levels) (item_waits c xs i (i.left - 1) (never_passed c b flag s same told fails) some left refl) (goes_leads_err d (behind_term c i.levels) (xs ++ entry.Frame x ∷ []) _ (rw same at l) h) in
       record { is = λ ne. g.is ne ∙ unwound_frame ac (meaning ac) y d xs x s1 }
 
 -- an item pays a step, and the items behind it may wait
@@ -330,7 +326,7 @@ pub ruleset listing_on = (falls_kept, weight_on, falls_item, falls_done, item_la
 
 pub ruleset going = (weight_on, goes_flow, goes_items, goes_package, goes_term, goes_turn, goes_scope, goes_body, goes_body_then, goes_target, goes_division, goes_found, goes_read, goes_counted, goes_access_then, goes_flow_then, goes_memory)
 
-pub ruleset taking = (falling, goes_leads, goes_leads_err, goes_frame, goes_item, goes_leave, goes_memory, never_memory, refused_paid, refused_free)
+pub ruleset taking = (falling, goes_leads, goes_leads_err, goes_frame, goes_item, goes_leave, goes_memory, never_memory, refused_paid, refused_free, refused_met, access_enough, target_enough, four_enough, most_enough)
 
 -- ---- a call
 

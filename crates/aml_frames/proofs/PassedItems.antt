@@ -17,17 +17,18 @@ use Rattle.aml_frames.specs.declared.frames.Control.{Control}
 use Rattle.aml_frames.specs.declared.uses.Access.{Access}
 use Rattle.aml_frames.specs.declared.uses.Accessed.{Accessed}
 use Rattle.aml_frames.specs.declared.uses.Accessed.TheVariants as object
-use Rattle.aml_frames.specs.Weights.{part_weight, field_weight, region_weight, accessed_weight, access_weight, most, step_weight, charged}
+use Rattle.aml_frames.specs.declared.uses.TargetUse.{TargetUse}
+use Rattle.aml_frames.specs.Weights.{part_weight, field_weight, region_weight, accessed_weight, access_weight, target_weight, most, step_weight, charged}
 use Rattle.aml_frames.proofs.Weighing.{charged_less, charged_step, step_enough}
 
 module _ {S : Type 0} (ev : Task → Run S Flow) where
   pub refused_item : (scope : List Seg) (depth : ℕ) (t : Tree) (s : State S × ℕ) → passes_over depth s.0.profile ≡ false → item ev scope depth t s ≡ ev (task scope depth t) s
   unfolding item
-  refused_item scope depth t s no = ap (λ b. if b then passing scope (ev (task scope depth t)) s else ev (task scope depth t) s) no
+  refused_item scope depth t s fails = ap (λ b. if b then passing scope (ev (task scope depth t)) s else ev (task scope depth t) s) fails
 
   pub passed_item : (scope : List Seg) (depth : ℕ) (t : Tree) (s : State S × ℕ) → passes_over depth s.0.profile ≡ true → item ev scope depth t s ≡ passing scope (ev (task scope depth t)) s
   unfolding item
-  passed_item scope depth t s yes = ap (λ b. if b then passing scope (ev (task scope depth t)) s else ev (task scope depth t) s) yes
+  passed_item scope depth t s holds = ap (λ b. if b then passing scope (ev (task scope depth t)) s else ev (task scope depth t) s) holds
 
 pub then_same : {S A B : Type 0} (m n : Run S A) (k : A → Run S B) (s : State S × ℕ) → m s ≡ n s → (m >>= k) s ≡ (n >>= k) s
 unfolding ◌>>=◌
@@ -37,15 +38,19 @@ then_same m n k s h = ap (λ a. go_on a.0 a.1 k) h
 
 pub never_memory : {A : Type 0} {P : Type 0} (r : Outcome A) → IfErr r (λ e. e ≡ OutOfMemory) → IfErr r (λ e. is_passable e ≡ true → P)
 never_memory (Ok a) h = tt
-never_memory (Err e) h = λ yes. absurd (cc (sym yes ∙ ap is_passable h))
+never_memory (Err e) h = λ holds. absurd (cc (sym holds ∙ ap is_passable h))
 
 pub refused_paid : {e : Refusal} (r : Outcome Control) (a b x y : ℕ) → (is_passable e ≡ true → a < b) → x ≡ y → IsErr r × IsErrAnd r (λ z. z ≡ e) → IfErr r (λ z. is_passable z ≡ true → charged a + (x + 1) < charged b + y)
 refused_paid (Ok c) a b x y h same i = absurd (cc i.0)
-refused_paid (Err z) a b x y h same i = λ yes. let p = charged_step a b (h (ap is_passable (sym i.1) ∙ yes)) in let q = step_enough in omega (arith, p, q, same)
+refused_paid (Err z) a b x y h same i = λ holds. let p = charged_step a b (h (ap is_passable (sym i.1) ∙ holds)) in let q = step_enough in omega (arith, p, q, same)
 
 pub refused_free : {e : Refusal} (r : Outcome Control) (a b x y v : ℕ) → a ≤ b → x ≡ y → 1 < v → IsErr r × IsErrAnd r (λ z. z ≡ e) → IfErr r (λ z. is_passable z ≡ true → charged a + (x + 1) < charged b + (y + v))
 refused_free (Ok c) a b x y v h same some i = absurd (cc i.0)
-refused_free (Err z) a b x y v h same some i = λ yes. let p = charged_less a b h in omega (arith, p, same, some)
+refused_free (Err z) a b x y v h same some i = λ holds. let p = charged_less a b h in omega (arith, p, same, some)
+
+pub refused_met : {e : Refusal} (r : Outcome Control) (a b x y u : ℕ) → a ≤ b → x ≡ y → IsErr r × IsErrAnd r (λ z. z ≡ e) → IfErr r (λ z. is_passable z ≡ true → charged a + (x + 1) < charged b + (y + u + 3))
+refused_met (Ok c) a b x y u h same i = absurd (cc i.0)
+refused_met (Err z) a b x y u h same i = λ holds. let p = charged_less a b h in omega (arith, p, same)
 
 part_enough : (n : ℕ) → 40 ≤ part_weight (suc n)
 unfolding part_weight
@@ -57,6 +62,12 @@ accessed_enough calls (object.Unit f) = omega arith
 
 pub access_enough : (a : Access) → 1 < access_weight a
 access_enough a = accessed_enough a.calls a.object
+
+pub target_enough : (u : TargetUse) → 1 < target_weight u
+target_enough u = omega arith
+
+pub four_enough : 1 < 4
+four_enough = omega arith
 
 pub most_enough : 1 < most
 unfolding most

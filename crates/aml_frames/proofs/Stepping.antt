@@ -226,19 +226,19 @@ module _ {S : Type 0} {ac : Accesses S} where
 
   pub leads_item : {s : State S × ℕ} (c : Site) (i : Items) (n : ℕ) → passes_over c.depth s.0.profile ≡ false → 0 < i.left → 0 < length c.place.rest → n ≡ i.left - 1 → Leads ac (meaning ac) (Ok (next.Term i.levels (frames.Items (record { left = n; levels = i.levels; outer = i.outer })))) c s (items_run ac (meaning ac) i c) s
   unfolding in_turn
-  leads_item {s = s} c i n no some left e = rw e (record {
+  leads_item {s = s} c i n fails some left e = rw e (record {
     is = λ _.
         rw (ap (λ (x : List Tree × Place). trees_of x.0) (one_more (terms c i.levels false) i.left c.place some left))
-        (then_same (item (meaning ac) c.scope c.depth (next_term c i.levels)) (term_run ac (meaning ac) c i.levels) _ s (refused_item (meaning ac) c.scope c.depth (next_term c i.levels) s no));
+        (then_same (item (meaning ac) c.scope c.depth (next_term c i.levels)) (term_run ac (meaning ac) c i.levels) _ s (refused_item (meaning ac) c.scope c.depth (next_term c i.levels) s fails));
   })
 
   -- a list whose items may be passed over
   pub list_passing : (c : Site) (i : Items) (n : ℕ) (s : State S × ℕ) → passes_over c.depth s.0.profile ≡ true → 0 < i.left → 0 < length c.place.rest → n ≡ i.left - 1
       → items_run ac (meaning ac) i c s ≡ (passing c.scope (term_run ac (meaning ac) c i.levels) >>= resumed ac (meaning ac) (frames.Items (record { left = n; levels = i.levels; outer = i.outer })) (behind_term c i.levels)) s
   unfolding in_turn
-  list_passing c i n s yes some left e =
+  list_passing c i n s holds some left e =
       rw (e, ap (λ (x : List Tree × Place). trees_of x.0) (one_more (terms c i.levels false) i.left c.place some left))
-      (then_same (item (meaning ac) c.scope c.depth (next_term c i.levels)) (passing c.scope (term_run ac (meaning ac) c i.levels)) _ s (passed_item (meaning ac) c.scope c.depth (next_term c i.levels) s yes))
+      (then_same (item (meaning ac) c.scope c.depth (next_term c i.levels)) (passing c.scope (term_run ac (meaning ac) c i.levels)) _ s (passed_item (meaning ac) c.scope c.depth (next_term c i.levels) s holds))
 
   pub leads_no_item : {s : State S × ℕ} (c d : Site) (i : Items) → i.left ≡ 0 → Leads ac (meaning ac) (Ok (next.Flow flow.Next)) d s (items_run ac (meaning ac) i c) s
   unfolding in_turn

@@ -25,11 +25,11 @@ use Rattle.aml_frames.specs.Stack.{then_all, machine, Goes, stack_weight, entry_
 use Rattle.aml_frames.proofs.Machine.{weight_on, stopped_anywhere, unwound_end, passed_on}
 
 never_passed : (e : Refusal) → e ≡ OutOfMemory → is_passable e ≡ true → ⊥
-never_passed e is yes = absurd (cc (sym yes ∙ ap is_passable is))
+never_passed e is holds = absurd (cc (sym holds ∙ ap is_passable is))
 
 -- what is passed over is no want of memory
 pub passable_known : (e : Refusal) → is_passable e ≡ true → e ≢ OutOfMemory
-passable_known e yes is = never_passed e is yes
+passable_known e holds is = never_passed e is holds
 
 -- ---- weights
 
@@ -48,13 +48,13 @@ falls_passed (Err e) zs ys xs y x i w same k is h next = tt
 
 -- a step that was refused, and then passed over
 pub falls_unwound : {e : Refusal} (a b n m u v k : ℕ) → b ≡ a → (is_passable e ≡ true → charged a + (u + 1) < charged n + m) → is_passable e ≡ true → v + k ≤ u + 1 → charged b + (v + k) < charged n + m
-falls_unwound a b n m u v k same h yes le = let p = h yes in let q = ap charged same in omega (arith, p, q, le)
+falls_unwound a b n m u v k same h holds le = let p = h holds in let q = ap charged same in omega (arith, p, q, le)
 
 -- ---- what is passed over is noted
 
 noted_as : {S : Type 0} {u : Unit {0}} (e : Refusal) (w : State S) (scope : List Seg) (before : State S) → is_passable e ≡ true → passed_over scope e before ≡ (Ok u, w) → w ≡ with_passed scope e before
 unfolding passed_over
-noted_as e w scope before yes h = sym (ap (λ (a : Outcome (Unit {0}) × State _). a.1) (rw yes at h))
+noted_as e w scope before holds h = sym (ap (λ (a : Outcome (Unit {0}) × State _). a.1) (rw holds at h))
 
 -- ---- what it means
 
@@ -69,7 +69,7 @@ module _ {S : Type 0} (ac : Accesses S) (ev : Task → Run S Flow) where
   -- the loop goes on behind an item that is passed over
   pub same_unwound : {m : Run S Flow} {e : Refusal} {s0 s s1 s2 : State S × ℕ} {d d2 : Site} {ys zs : List Entry} (c : Site) (xs : List Entry) (x y : Control) → Same m s0 (machine ac ev x c xs) s → Goes ac ev (Err e) d ys s1 (machine ac ev x c xs) s → is_passable e ≡ true
       → Goes ac ev (Ok y) d2 zs s2 (then_all ac ev (stop e) d ys) s1 → Same m s0 (machine ac ev y d2 zs) s2
-  same_unwound {e = e} c xs x y h i yes g = record { is = h.is ∙ (i.is (passable_known e yes) ∙ g.is tt) }
+  same_unwound {e = e} c xs x y h i holds g = record { is = h.is ∙ (i.is (passable_known e holds) ∙ g.is tt) }
 
   -- or it ends
   pub refused_unwound : {m : Run S Flow} {e f : Refusal} {s0 s s1 s2 : State S × ℕ} {d d2 : Site} {ys zs : List Entry} (c : Site) (xs : List Entry) (x : Control) → Same m s0 (machine ac ev x c xs) s → Goes ac ev (Err e) d ys s1 (machine ac ev x c xs) s
@@ -79,8 +79,10 @@ module _ {S : Type 0} (ac : Accesses S) (ev : Task → Run S Flow) where
   -- an item that is passed over
   pub goes_passed : {s s1 : State S × ℕ} {w : State S} {u : Unit {0}} (e : Refusal) (c d : Site) (xs ys : List Entry) (x : ListItem) (scope : List Seg) → is_passable e ≡ true → scope ≡ x.list.scope → Does (Ok u) w (passed_over scope e) s.0 → d ≡ behind_term x.list x.behind.levels → ys ≡ xs
       → s1 ≡ (w, s.1) → Goes ac ev (Ok (control.Items x.behind)) d ys s1 (then_all ac ev (stop e) c (xs ++ entry.Item x ∷ [])) s
-  goes_passed {s = s} {w = w} e c d xs ys x scope yes at h stands same after =
-      let noted : w ≡ with_passed x.list.scope e s.0 = noted_as e w scope s.0 yes (h.is tt) ∙ ap (λ p. with_passed p e s.0) at in
-      rw (stands, same, after) (record { is = λ _. passed_on ac ev e c xs x s yes ∙ ap (λ v. machine ac ev (control.Items x.behind) (behind_term x.list x.behind.levels) xs (v, s.1)) (sym noted) })
+  goes_passed {s = s} {w = w} e c d xs ys x scope holds at h stands same after =
+      let noted : w ≡ with_passed x.list.scope e s.0 = noted_as e w scope s.0 holds (h.is tt) ∙ ap (λ p. with_passed p e s.0) at in
+      rw (stands, same, after) (record { is = λ _. passed_on ac ev e c xs x s holds ∙ ap (λ v. machine ac ev (control.Items x.behind) (behind_term x.list x.behind.levels) xs (v, s.1)) (sym noted) })
 
 pub ruleset passing = (goes_passed)
+
+pub ruleset unwound = (same_unwound, refused_unwound, unwound_none, unwound_passed, falls_passed)

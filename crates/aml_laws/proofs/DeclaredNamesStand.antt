@@ -216,16 +216,16 @@ record EndsWithName {S : Type 0} (depth : ℕ) (m : Run S Flow) (p : List Seg) :
 
 rest_ends_with_name : {S : Type 0} (depth : ℕ) (f : Flow) (m : Run S Flow) (p : List Seg) → EndsWithName depth m p → (s : State S × ℕ) → passes_over depth s.0.profile ≡ false → Outside s.0 p → ((if goes_on f then m else give f) s).0 ≡ Ok flow.Next → Stands ((if goes_on f then m else give f) s).1.0 p
 unfolding give
-rest_ends_with_name depth (flow.Value v) m p h s no o is = h.ends_with_name s no o is
-rest_ends_with_name depth flow.Next m p h s no o is = h.ends_with_name s no o is
-rest_ends_with_name depth flow.Break m p h s no o is = absurd (cc is)
-rest_ends_with_name depth flow.Continue m p h s no o is = absurd (cc is)
-rest_ends_with_name depth (flow.Return v) m p h s no o is = absurd (cc is)
+rest_ends_with_name depth (flow.Value v) m p h s fails o is = h.ends_with_name s fails o is
+rest_ends_with_name depth flow.Next m p h s fails o is = h.ends_with_name s fails o is
+rest_ends_with_name depth flow.Break m p h s fails o is = absurd (cc is)
+rest_ends_with_name depth flow.Continue m p h s fails o is = absurd (cc is)
+rest_ends_with_name depth (flow.Return v) m p h s fails o is = absurd (cc is)
 
 later_ends_with_name : {S : Type 0} (depth : ℕ) (r : Outcome Flow) (s : State S × ℕ) (m : Run S Flow) (p : List Seg) → EndsWithName depth m p → passes_over depth s.0.profile ≡ false → Outside s.0 p → (go_on r s (λ f. if goes_on f then m else give f)).0 ≡ Ok flow.Next → Stands (go_on r s (λ f. if goes_on f then m else give f)).1.0 p
 unfolding go_on
-later_ends_with_name depth (Ok f) s m p h no o is = rest_ends_with_name depth f m p h s no o is
-later_ends_with_name depth (Err e) s m p h no o is = absurd (cc is)
+later_ends_with_name depth (Ok f) s m p h fails o is = rest_ends_with_name depth f m p h s fails o is
+later_ends_with_name depth (Err e) s m p h fails o is = absurd (cc is)
 
 meaning_declares_name : {S : Type 0} (accesses : Accesses S) (scope : List Seg) (depth : ℕ) (t : Tree) (p : List Seg) → Declares scope t p → DeclaresName {S = S} (meaning accesses (task scope depth t)) p
 meaning_declares_name accesses scope depth t p d = record { declares_name = λ s f o is. term_declares_name accesses scope depth t p s f d o is }
@@ -234,28 +234,28 @@ meaning_declares_name accesses scope depth t p d = record { declares_name = λ s
 plain_list : {S : Type 0} (accesses : Accesses S) (scope : List Seg) (depth : ℕ) (u : Tree) (us : Trees) (s : State S × ℕ) → passes_over depth s.0.profile ≡ false
     → in_turn (meaning accesses) scope depth (tree u us) s ≡ (meaning accesses (task scope depth u) >>= (λ f. if goes_on f then in_turn (meaning accesses) scope depth us else give f)) s
 unfolding in_turn item ◌>>=◌
-plain_list accesses scope depth u us s no =
-    ap (λ b. let a = (if b then passing scope (meaning accesses (task scope depth u)) s else meaning accesses (task scope depth u) s) in go_on a.0 a.1 (λ f. if goes_on f then in_turn (meaning accesses) scope depth us else give f)) no
+plain_list accesses scope depth u us s fails =
+    ap (λ b. let a = (if b then passing scope (meaning accesses (task scope depth u)) s else meaning accesses (task scope depth u) s) in go_on a.0 a.1 (λ f. if goes_on f then in_turn (meaning accesses) scope depth us else give f)) fails
 
 list_ends_with_name : {S : Type 0} (accesses : Accesses S) (scope : List Seg) (depth : ℕ) (t : Tree) (ts : Trees) (p : List Seg) → IsItem t ts → Declares scope t p → EndsWithName {S = S} depth (in_turn (meaning accesses) scope depth ts) p
 unfolding ◌>>=◌
 list_ends_with_name accesses scope depth t ts p (first us) d = record {
-  ends_with_name = λ s no o is.
-      let same = plain_list accesses scope depth t us s no in
+  ends_with_name = λ s fails o is.
+      let same = plain_list accesses scope depth t us s fails in
       let h = first_declares_name accesses (meaning accesses (task scope depth t)) _ p (meaning_preserves _) (meaning_declares_name accesses scope depth t p d) (λ f. after_item_preserves (meaning accesses) meaning_preserves (goes_on f) f _ (list_preserves scope depth us)) in
       subst (λ a. Stands a.1.0 p) (sym same) (h.declares_name s flow.Next o (ap (λ a. a.0) (sym same) ∙ is));
 }
 list_ends_with_name accesses scope depth t ts p (later u us i) d = record {
-  ends_with_name = λ s no o is.
-      let same = plain_list accesses scope depth u us s no in
+  ends_with_name = λ s fails o is.
+      let same = plain_list accesses scope depth u us s fails in
       let kept = (meaning_preserves {relation = profile_relation accesses} (task scope depth u)).preserves s in
       subst (λ a. Stands a.1.0 p) (sym same)
       (later_ends_with_name depth (meaning accesses (task scope depth u) s).0 (meaning accesses (task scope depth u) s).1 (in_turn (meaning accesses) scope depth us) p (list_ends_with_name accesses scope depth t us p i d)
-      (ap (λ r. passes_over depth r) kept ∙ no) ((meaning_preserves {relation = names_relation accesses p} (task scope depth u)).preserves s o).outside (ap (λ a. a.0) (sym same) ∙ is));
+      (ap (λ r. passes_over depth r) kept ∙ fails) ((meaning_preserves {relation = names_relation accesses p} (task scope depth u)).preserves s o).outside (ap (λ a. a.0) (sym same) ∙ is));
 }
 
 -- a list that is evaluated to its end, and of which nothing is passed over, leaves each name that one of its terms declares outside of
 -- control methods
 pub items_stand : {S : Type 0} (accesses : Accesses S) (scope : List Seg) (depth : ℕ) (t : Tree) (ts : Trees) (p : List Seg) (s : State S × ℕ) → IsItem t ts → Declares scope t p → passes_over depth s.0.profile ≡ false → Outside s.0 p → (in_turn (meaning accesses) scope depth ts s).0 ≡ Ok flow.Next
     → Stands (in_turn (meaning accesses) scope depth ts s).1.0 p
-items_stand accesses scope depth t ts p s i d no o is = (list_ends_with_name accesses scope depth t ts p i d).ends_with_name s no o is
+items_stand accesses scope depth t ts p s i d fails o is = (list_ends_with_name accesses scope depth t ts p i d).ends_with_name s fails o is

@@ -227,7 +227,7 @@ module _ (S : Type 0) (width : IntegerWidth) (accesses : Accesses S) (ev : Task 
   unfolding item passing
   item_maintains scope depth t h = record {
     maintains = λ s i.
-        if_maintained (passes_over depth s.0.profile) _ _ (λ yes. done_maintained scope _ _ ((parts (task scope depth t) h).maintains s i)) (λ no. (parts (task scope depth t) h).maintains s i);
+        if_maintained (passes_over depth s.0.profile) _ _ (λ holds. done_maintained scope _ _ ((parts (task scope depth t) h).maintains s i)) (λ fails. (parts (task scope depth t) h).maintains s i);
   }
 
   pub in_turn_maintains : (scope : List Seg) (depth : ℕ) (ts : Trees) → PlainTrees ts → Maintains (RunWithin S width) (FlowFits width) (in_turn ev scope depth ts)

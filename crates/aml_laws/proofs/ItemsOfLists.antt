@@ -91,9 +91,9 @@ module _ {S : Type 0} where
 module _ {S : Type 0} (accesses : Accesses S) where
   -- what is passed over tells of no fault
   pub unfaulted : (e : Refusal) (s t : S) → is_passable e ≡ true → RefusalExplained accesses e s t → Answered accesses s t
-  unfaulted (refusals.Space f) s t yes h = absurd (cc yes)
-  unfaulted (refusals.Input f) s t yes h = absurd (cc yes)
-  unfaulted _ s t yes h = h
+  unfaulted (refusals.Space f) s t holds h = absurd (cc holds)
+  unfaulted (refusals.Input f) s t holds h = absurd (cc holds)
+  unfaulted _ s t holds h = h
 
   by_refusal : (b : Bool) (scope : List Seg) (e : Refusal) (before : S) (s : State S × ℕ) → is_passable e ≡ b → RefusalExplained accesses e before s.0.space
       → Explained accesses (if◌then◌else◌ {A = Outcome Flow × (State S × ℕ)} b (Ok flow.Next, (with_passed scope e s.0, s.1)) (Err e, s)).0 before (if◌then◌else◌ {A = Outcome Flow × (State S × ℕ)} b (Ok flow.Next, (with_passed scope e s.0, s.1)) (Err e, s)).1.0.space

@@ -98,11 +98,11 @@ module _ {S T : Type 0} {accesses : Accesses S} {accesses2 : Accesses T} {side :
 module _ {S : Type 0} (ev : Task → Run S Flow) (scope : List Seg) (depth : ℕ) (t : Tree) where
   plain_item : (s : State S × ℕ) → passes_over depth s.0.profile ≡ false → item ev scope depth t s ≡ ev (task scope depth t) s
   unfolding item
-  plain_item s no = ap (λ b. if b then passing scope (ev (task scope depth t)) s else ev (task scope depth t) s) no
+  plain_item s fails = ap (λ b. if b then passing scope (ev (task scope depth t)) s else ev (task scope depth t) s) fails
 
   passed_item : (s : State S × ℕ) → passes_over depth s.0.profile ≡ true → item ev scope depth t s ≡ passing scope (ev (task scope depth t)) s
   unfolding item
-  passed_item s yes = ap (λ b. if b then passing scope (ev (task scope depth t)) s else ev (task scope depth t) s) yes
+  passed_item s holds = ap (λ b. if b then passing scope (ev (task scope depth t)) s else ev (task scope depth t) s) holds
 
   -- an item leaves the space that its term left
   item_space_by : (b : Bool) (s : State S × ℕ) → (if b then passing scope (ev (task scope depth t)) s else ev (task scope depth t) s).1.0.space ≡ (ev (task scope depth t) s).1.0.space
@@ -115,7 +115,7 @@ module _ {S : Type 0} (ev : Task → Run S Flow) (scope : List Seg) (depth : ℕ
   item_space s = item_space_by (passes_over depth s.0.profile) s
 
 never : (depth : ℕ) (p : Profile) → module_level depth ≡ false → passes_over depth p ≡ false
-never depth p no = ap (λ b. b && is_wide p) no
+never depth p fails = ap (λ b. b && is_wide p) fails
 
 -- ---- the right one is wide
 
@@ -168,7 +168,7 @@ module _ {S T : Type 0} {accesses : Accesses S} {accesses2 : Accesses T} (side :
         subst (λ x. Comes (level side depth) runs x (item ev2 scope depth t (over side.raise side.more s u))) (sym (passed_item ev scope depth t s (passes_when s.0.profile is)))
         (subst (λ y. Comes (level side depth) runs (passing scope (ev (task scope depth t)) s) y) (sym (passed_item ev2 scope depth t (over side.raise side.more s u) (passes_when _ (wide s.0.profile))))
         (subst (λ x. Comes (level side depth) runs (passing scope (ev (task scope depth t)) s) (passing scope (ev2 (task scope depth t)) x)) (sym (wide_over s u is))
-        (both_comes (passing scope (ev (task scope depth t)) s) _ (done_profile scope left.0 left.1 ∙ (kept s ∙ is)) ((passing_together (alike side.beside) (λ e yes k. k) scope g).goes s u i))))
+        (both_comes (passing scope (ev (task scope depth t)) s) _ (done_profile scope left.0 left.1 ∙ (kept s ∙ is)) ((passing_together (alike side.beside) (λ e holds k. k) scope g).goes s u i))))
 
     listed_together : Together (level side depth) runs (item ev scope depth t) (item ev2 scope depth t)
     listed_together = record {
@@ -183,14 +183,14 @@ module _ {S T : Type 0} {accesses : Accesses S} {accesses2 : Accesses T} (side :
   -- the same on both sides
   pub items_alike : (same : (p : Profile) → side.raise p ≡ p) (unpassed : (e : Refusal) → is_passable e ≡ true → side.Ends e → ⊥) → side.passes ≡ inl (same, unpassed) → (scope : List Seg) (depth : ℕ) (t : Tree) → Together (level side depth) runs (item ev scope depth t) (item ev2 scope depth t)
   items_alike same unpassed is scope depth t =
-      item_alike (level side depth) (λ e yes x. elim x [ inl k ↦ unpassed e yes k | inr k ↦ subst (λ p. MayPass p e) is k.1 ]) same ev ev2 scope depth t (parts (task scope depth t))
+      item_alike (level side depth) (λ e holds x. elim x [ inl k ↦ unpassed e holds k | inr k ↦ subst (λ p. MayPass p e) is k.1 ]) same ev ev2 scope depth t (parts (task scope depth t))
 
   -- wide on the right
   items_by : (b : Bool) (wide : (p : Profile) → side.raise p ≡ profiles.Wide) (same_steps : (n : ℕ) → side.more n ≡ n) → side.passes ≡ inr (wide, same_steps) → ((t : Task) → Together (alike side.beside) runs (ev t) (ev2 t)) → ((t : Task) (s : State S × ℕ) → (ev t s).1.0.profile ≡ s.0.profile)
       → (scope : List Seg) (depth : ℕ) (t : Tree) → module_level depth ≡ b → Together (level side depth) runs (item ev scope depth t) (item ev2 scope depth t)
   items_by true wide same_steps is g kept scope depth t listed =
-      listed_together side wide same_steps (λ e yes. subst (λ p. MayPass p e) (sym is) yes) ev ev2 scope depth t listed (parts (task scope depth t)) (g (task scope depth t)) (kept (task scope depth t))
-  items_by false wide same_steps is g kept scope depth t no = same_together (λ s. plain_item ev scope depth t s (never depth s.0.profile no)) (λ u. plain_item ev2 scope depth t u (never depth u.0.profile no)) (parts (task scope depth t))
+      listed_together side wide same_steps (λ e holds. subst (λ p. MayPass p e) (sym is) holds) ev ev2 scope depth t listed (parts (task scope depth t)) (g (task scope depth t)) (kept (task scope depth t))
+  items_by false wide same_steps is g kept scope depth t fails = same_together (λ s. plain_item ev scope depth t s (never depth s.0.profile fails)) (λ u. plain_item ev2 scope depth t u (never depth u.0.profile fails)) (parts (task scope depth t))
 
   pub items_widened : (wide : (p : Profile) → side.raise p ≡ profiles.Wide) (same_steps : (n : ℕ) → side.more n ≡ n) → side.passes ≡ inr (wide, same_steps) → ((t : Task) → Together (alike side.beside) runs (ev t) (ev2 t)) → ((t : Task) (s : State S × ℕ) → (ev t s).1.0.profile ≡ s.0.profile)
       → (scope : List Seg) (depth : ℕ) (t : Tree) → Together (level side depth) runs (item ev scope depth t) (item ev2 scope depth t)

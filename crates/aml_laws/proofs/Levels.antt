@@ -19,7 +19,7 @@ pub no_module : (depth : ℕ) → module_level (depth + 1) ≡ false
 no_module depth = grind arith
 
 passes_more : {raise : Profile → Profile} {Ends : Refusal → Type 0} {more : ℕ → ℕ} (listed : Bool) (p : Passes raise Ends more) → Passes raise (λ e. Ends e ⊎ ((listed ≡ true) × MayPass p e)) more
-passes_more listed (inl h) = inl (h.0, λ e yes x. elim x [ inl k ↦ h.1 e yes k | inr k ↦ k.1 ])
+passes_more listed (inl h) = inl (h.0, λ e holds x. elim x [ inl k ↦ h.1 e holds k | inr k ↦ k.1 ])
 passes_more listed (inr h) = inr h
 
 core_more : {raise : Profile → Profile} {Ends More : Refusal → Type 0} → (raise profiles.Core ≡ profiles.Core) ⊎ ((e : Refusal) → LeftOut e → Ends e) → (raise profiles.Core ≡ profiles.Core) ⊎ ((e : Refusal) → LeftOut e → Ends e ⊎ More e)
@@ -60,18 +60,18 @@ module _ {S T : Type 0} {accesses : Accesses S} {accesses2 : Accesses T} where
     at_level {m = m} {n = n} depth h = record { left_parted = h.left_parted; right_parted = h.right_parted; goes = λ x t i. more_comes depth (m x) (n (shape.over side.raise side.more x t)) (h.goes x t i) }
 
     fewer_ended : (depth : ℕ) → module_level depth ≡ false → (r : Outcome A) → IsEnded (level side depth).Ends r → IsEnded side.Ends r
-    fewer_ended depth no (Ok a) h = h
-    fewer_ended depth no (Err e) (inl h) = h
-    fewer_ended depth no (Err e) (inr h) = absurd (cc (sym no ∙ h.0))
+    fewer_ended depth fails (Ok a) h = h
+    fewer_ended depth fails (Err e) (inl h) = h
+    fewer_ended depth fails (Err e) (inr h) = absurd (cc (sym fails ∙ h.0))
 
     fewer_comes : (depth : ℕ) → module_level depth ≡ false → (p : Outcome A × X) (q : Outcome A × Y) → Comes (level side depth) shape p q → Comes side shape p q
-    fewer_comes depth no p q (inl parted) = inl parted
-    fewer_comes depth no p q (inr (inl ended)) = inr (inl (fewer_ended depth no p.0 ended))
-    fewer_comes depth no p q (inr (inr same)) = inr (inr same)
+    fewer_comes depth fails p q (inl parted) = inl parted
+    fewer_comes depth fails p q (inr (inl ended)) = inr (inl (fewer_ended depth fails p.0 ended))
+    fewer_comes depth fails p q (inr (inr same)) = inr (inr same)
 
     -- in the body of a control method nothing is passed over
     pub in_body : {m : Change X A} {n : Change Y A} (depth : ℕ) → module_level depth ≡ false → Together (level side depth) shape m n → Together side shape m n
-    in_body {m = m} {n = n} depth no h = record { left_parted = h.left_parted; right_parted = h.right_parted; goes = λ x t i. fewer_comes depth no (m x) (n (shape.over side.raise side.more x t)) (h.goes x t i) }
+    in_body {m = m} {n = n} depth fails h = record { left_parted = h.left_parted; right_parted = h.right_parted; goes = λ x t i. fewer_comes depth fails (m x) (n (shape.over side.raise side.more x t)) (h.goes x t i) }
 
     pub from_body : {m : Change X A} {n : Change Y A} (depth d : ℕ) → Together (level side (depth + 1)) shape m n → Together (level side d) shape m n
     from_body depth d h = at_level d (in_body (depth + 1) (no_module depth) h)
@@ -91,4 +91,4 @@ module _ {S T : Type 0} {accesses : Accesses S} {accesses2 : Accesses T} where
     in_one_profile {m = m} {n = n} depth same unpassed is h = record { left_parted = h.left_parted; right_parted = h.right_parted; goes = λ x t i. alike_comes depth same unpassed is (m x) (n (shape.over side.raise side.more x t)) (h.goes x t i) }
 
 pub one_profile : {S T X Y A : Type 0} {accesses : Accesses S} {accesses2 : Accesses T} {shape : Shape S T X Y} {m : Change X A} {n : Change Y A} (beside : SideBySide accesses accesses2) (depth : ℕ) → Together (level (alike beside) depth) shape m n → Together (alike beside) shape m n
-one_profile beside depth h = in_one_profile (alike beside) depth (λ p. refl) (λ e yes k. k) refl h
+one_profile beside depth h = in_one_profile (alike beside) depth (λ p. refl) (λ e holds k. k) refl h

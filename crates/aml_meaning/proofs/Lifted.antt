@@ -58,10 +58,10 @@ module _ {S : Type 0} {r : Outcome (Unit {0})} where
 
   pub does_passed : {s s1 : State S} (scope : List Seg) (e : Refusal) (w : State S) (flag : Bool) → flag ≡ is_passable e → flag ≡ true → s ≡ w → Does r s1 (passed_noted scope e) s → Does r s1 (passed_over scope e) w
   unfolding passed_noted passed_over
-  does_passed scope e w flag is yes same h = let holds : is_passable e ≡ true = sym is ∙ yes in record { is = λ ne. rw (holds, ← same) (h.is ne) }
+  does_passed scope e w flag is told same h = let holds : is_passable e ≡ true = sym is ∙ told in record { is = λ ne. rw (holds, ← same) (h.is ne) }
 
 pub does_unpassed : {S : Type 0} (scope : List Seg) (e : Refusal) (w : State S) (flag : Bool) → flag ≡ is_passable e → flag ≡ false → Does (Err e) w (passed_over scope e) w
 unfolding passed_over
-does_unpassed scope e w flag is no = let holds : is_passable e ≡ false = sym is ∙ no in record { is = λ _. rw holds refl }
+does_unpassed scope e w flag is told = let holds : is_passable e ≡ false = sym is ∙ told in record { is = λ _. rw holds refl }
 
 pub ruleset passing = (passed_changed, does_passed, does_unpassed)

@@ -11,7 +11,7 @@ use Rattle.aml_path.specs.Text.{path_of_text}
 use Rattle.aml_meaning.specs.Given.{Given}
 use Rattle.aml_meaning.specs.State.{State}
 use Rattle.aml_meaning.specs.Predefined.{fresh_as}
-use Rattle.aml_laws.specs.Widened.{widened, IsLeftOut}
+use Rattle.aml_laws.specs.Widened.{widened, IsLeftOut, IsLeftOutAt}
 use Rattle.acpi_machine.specs.Calls.{evaluated_object, initialized}
 use Rattle.acpi_machine.specs.Loading.{loaded_tables}
 use Rattle.acpi_machine.specs.MachineStates.{MachineState}
@@ -28,13 +28,18 @@ use Rattle.machine_laws.proofs.MachinesWidened.{tables_widened, initialization_w
 use Rattle.machine_laws.proofs.TellingWidened.{report_for_kernels_widened}
 use Rattle.recorded_laws.specs.Widened.{evaluation_widened, IsWholeReport}
 
--- the machine is refused for a term that the profile leaves out, or it is the same in the wide profile
+-- a value is nothing that is left out or passed over
+value_stands : {A : Type 0} (a : A) → IsLeftOutAt {A = A} 0 (Ok a) → ⊥
+value_stands a (inl out) = out
+value_stands a (inr out) = out.1
+
+-- the machine is refused for what the core profile leaves out or the wide one passes over, or it is the same in the wide profile
 abbrev MachineWidens : Outcome (MachineState Bytes) → Outcome (MachineState Bytes) → Type 0
-MachineWidens r q = IsLeftOut r ⊎ (q ≡ seen machine_widened r)
+MachineWidens r q = IsLeftOutAt 0 r ⊎ (q ≡ seen machine_widened r)
 
 -- so is an answer
 abbrev AnswerWidens : {A : Type 0} → Outcome A → Outcome A → Type 0
-AnswerWidens r q = IsLeftOut r ⊎ (q ≡ r)
+AnswerWidens r q = IsLeftOutAt 0 r ⊎ (q ≡ r)
 
 -- ---- the machine
 
@@ -43,15 +48,15 @@ unfolding ◌>>=◌
 behind_same (Ok a) k l h = h a
 behind_same (Err e) k l h = inr refl
 
-loading_left_out : (t : Tables) (steps : ℕ) (r : Outcome (Unit {0})) (w : State Bytes) → IsLeftOut r → IsLeftOut (machine_left t steps w r)
-loading_left_out t steps (Ok u) w out = absurd out
+loading_left_out : (t : Tables) (steps : ℕ) (r : Outcome (Unit {0})) (w : State Bytes) → IsLeftOutAt 0 r → IsLeftOutAt 0 (machine_left t steps w r)
+loading_left_out t steps (Ok u) w out = absurd (value_stands u out)
 loading_left_out t steps (Err e) w out = out
 
 loading_widens : (t : Tables) (steps : ℕ) (r : Outcome (Unit {0})) (w : State Bytes) → machine_left t steps (widened w) r ≡ seen machine_widened (machine_left t steps w r)
 loading_widens t steps (Ok u) w = refl
 loading_widens t steps (Err e) w = refl
 
-loaded_widens : (t : Tables) (steps : ℕ) (p q : Outcome (Unit {0}) × State Bytes) → IsLeftOut p.0 ⊎ (q ≡ (p.0, widened p.1)) → MachineWidens (machine_left t steps p.1 p.0) (machine_left t steps q.1 q.0)
+loaded_widens : (t : Tables) (steps : ℕ) (p q : Outcome (Unit {0}) × State Bytes) → IsLeftOutAt 0 p.0 ⊎ (q ≡ (p.0, widened p.1)) → MachineWidens (machine_left t steps p.1 p.0) (machine_left t steps q.1 q.0)
 loaded_widens t steps p q (inl out) = inl (loading_left_out t steps p.0 p.1 out)
 loaded_widens t steps p q (inr same) = inr (ap (λ (x : Outcome (Unit {0}) × State Bytes). machine_left t steps x.1 x.0) same ∙ loading_widens t steps p.0 p.1)
 
@@ -67,15 +72,15 @@ machine_of_text_widens evaluation text =
     behind_same (machine_text text) (λ m. tables_of m.space.memory m.rsdp >>= (λ t. machine_with evaluation t m.space m.osi)) (λ m. tables_of m.space.memory m.rsdp >>= (λ t. machine_with (evaluation_widened evaluation) t m.space m.osi))
     (λ m. behind_same (tables_of m.space.memory m.rsdp) (λ t. machine_with evaluation t m.space m.osi) (λ t. machine_with (evaluation_widened evaluation) t m.space m.osi) (λ t. machine_with_widens evaluation t m.space m.osi))
 
-initial_left_out : (r : Outcome (Unit {0})) (m : MachineState Bytes) → IsLeftOut r → IsLeftOut (initialized_left m r)
-initial_left_out (Ok u) m out = absurd out
+initial_left_out : (r : Outcome (Unit {0})) (m : MachineState Bytes) → IsLeftOutAt 0 r → IsLeftOutAt 0 (initialized_left m r)
+initial_left_out (Ok u) m out = absurd (value_stands u out)
 initial_left_out (Err e) m out = out
 
 initial_widens : (r : Outcome (Unit {0})) (m : MachineState Bytes) → initialized_left (machine_widened m) r ≡ seen machine_widened (initialized_left m r)
 initial_widens (Ok u) m = refl
 initial_widens (Err e) m = refl
 
-calls_widen : (p q : Outcome (Unit {0}) × MachineState Bytes) → IsLeftOut p.0 ⊎ (q ≡ call_widened p) → MachineWidens (initialized_left p.1 p.0) (initialized_left q.1 q.0)
+calls_widen : (p q : Outcome (Unit {0}) × MachineState Bytes) → IsLeftOutAt 0 p.0 ⊎ (q ≡ call_widened p) → MachineWidens (initialized_left p.1 p.0) (initialized_left q.1 q.0)
 calls_widen p q (inl out) = inl (initial_left_out p.0 p.1 out)
 calls_widen p q (inr same) = inr (ap (λ (x : Outcome (Unit {0}) × MachineState Bytes). initialized_left x.1 x.0) same ∙ initial_widens p.0 p.1)
 
@@ -85,7 +90,7 @@ initialized_widens mode m = calls_widen (initialized byte_accesses mode m) (init
 
 behind_machine : (mode : Mode) (r q : Outcome (MachineState Bytes)) → MachineWidens r q → MachineWidens (r >>= initialized_machine mode) (q >>= initialized_machine mode)
 unfolding ◌>>=◌
-behind_machine mode (Ok m) q (inl out) = absurd out
+behind_machine mode (Ok m) q (inl out) = absurd (value_stands m out)
 behind_machine mode (Err e) q (inl out) = inl out
 behind_machine mode (Ok m) q (inr same) = subst (λ (x : Outcome (MachineState Bytes)). MachineWidens (initialized_machine mode m) (x >>= initialized_machine mode)) (sym same) (initialized_widens mode m)
 behind_machine mode (Err e) q (inr same) = inr (ap (λ (x : Outcome (MachineState Bytes)). x >>= initialized_machine mode) same)
@@ -98,22 +103,22 @@ machine_of_text_in_widens mode evaluation text = behind_machine mode (machine_of
 
 answer_of_machine : (k : MachineState Bytes → Outcome Written) → ((m : MachineState Bytes) → AnswerWidens (k m) (k (machine_widened m))) → (r q : Outcome (MachineState Bytes)) → MachineWidens r q → AnswerWidens (r >>= k) (q >>= k)
 unfolding ◌>>=◌
-answer_of_machine k h (Ok m) q (inl out) = absurd out
+answer_of_machine k h (Ok m) q (inl out) = absurd (value_stands m out)
 answer_of_machine k h (Err e) q (inl out) = inl out
 answer_of_machine k h (Ok m) q (inr same) = subst (λ (x : Outcome (MachineState Bytes)). AnswerWidens (k m) (x >>= k)) (sym same) (h m)
 answer_of_machine k h (Err e) q (inr same) = inr (ap (λ (x : Outcome (MachineState Bytes)). x >>= k) same)
 
-pub names_widen : (evaluation : Evaluation) (text : List ℕ) → IsLeftOut (names_answer evaluation text) ⊎ (names_answer (evaluation_widened evaluation) text ≡ names_answer evaluation text)
+pub names_widen : (evaluation : Evaluation) (text : List ℕ) → IsLeftOutAt 0 (names_answer evaluation text) ⊎ (names_answer (evaluation_widened evaluation) text ≡ names_answer evaluation text)
 unfolding names_answer
 names_widen evaluation text = answer_of_machine (λ m. Ok (names_of_machine m)) (λ m. inr refl) (machine_of_text evaluation text) (machine_of_text (evaluation_widened evaluation) text) (machine_of_text_widens evaluation text)
 
 value_widens : (p q : Outcome Given × MachineState Bytes) → IsLeftOut p.0 ⊎ (q ≡ call_widened p) → AnswerWidens p.0 q.0
-value_widens p q (inl out) = inl out
+value_widens p q (inl out) = inl (inl out)
 value_widens p q (inr same) = inr (ap (λ (x : Outcome Given × MachineState Bytes). x.0) same)
 
 written_widens : (r q : Outcome Given) → AnswerWidens r q → AnswerWidens {A = Written} (r >>= (λ value. Ok (value_written value))) (q >>= (λ value. Ok (value_written value)))
 unfolding ◌>>=◌
-written_widens (Ok value) q (inl out) = absurd out
+written_widens (Ok value) q (inl out) = absurd (value_stands value out)
 written_widens (Err e) q (inl out) = inl out
 written_widens r q (inr same) = inr (ap (λ (x : Outcome Given). x >>= (λ value. Ok (value_written value))) same)
 
@@ -127,7 +132,7 @@ value_at_widens (Ok p) arguments m =
 value_at_widens (Err e) arguments m = inr refl
 
 pub eval_widens : (mode : Mode) (evaluation : Evaluation) (path : List ℕ) (arguments : List Argument) (text : List ℕ)
-    → IsLeftOut (eval_answer mode evaluation path arguments text) ⊎ (eval_answer mode (evaluation_widened evaluation) path arguments text ≡ eval_answer mode evaluation path arguments text)
+    → IsLeftOutAt 0 (eval_answer mode evaluation path arguments text) ⊎ (eval_answer mode (evaluation_widened evaluation) path arguments text ≡ eval_answer mode evaluation path arguments text)
 unfolding eval_answer evaluated_text
 eval_widens mode evaluation path arguments text =
     answer_of_machine (λ m. evaluated_text m path arguments) (λ m. value_at_widens (path_of_text path) arguments m) (machine_of_text_in mode evaluation text) (machine_of_text_in mode (evaluation_widened evaluation) text) (machine_of_text_in_widens mode evaluation text)
@@ -149,7 +154,7 @@ route_of_machine o w m (is, whole) = (
 
 route_of : (o : RunOptions) (w : Written) (r q : Outcome (MachineState Bytes)) → IsWholeReport o r w → MachineWidens r q → IsWholeReport o q w
 route_of o w (Err e) q is h = absurd is
-route_of o w (Ok m) q is (inl out) = absurd out
+route_of o w (Ok m) q is (inl out) = absurd (value_stands m out)
 route_of o w (Ok m) q is (inr same) = subst (λ (x : Outcome (MachineState Bytes)). IsWholeReport o x w) (sym same) (route_of_machine o w m is)
 
 pub route_widens : (mode : Mode) (evaluation : Evaluation) (o : RunOptions) (text : List ℕ) (w : Written) → IsWholeReport o (machine_of_text_in mode evaluation text) w → IsWholeReport o (machine_of_text_in mode (evaluation_widened evaluation) text) w

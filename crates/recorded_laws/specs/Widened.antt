@@ -1,8 +1,10 @@
 -- Runs in the wide profile, and which runs in the core one leave nothing out.
-use Rattle.std.specs.Prelude.{Ok, Err}
+use Rattle.std.specs.Prelude.{◌≡◌, ◌⊎◌, true, Ok, Err}
 use Rattle.ar_space.specs.Bytes.{Bytes}
 use Rattle.ar_space.specs.Outcome.{Outcome}
+use Rattle.ar_space.specs.declared.refusal.Refusal.{Refusal}
 use Rattle.aml_meaning.specs.declared.profile.Profile.TheVariants as profile
+use Rattle.aml_meaning.specs.PassedOver.{is_passable}
 use Rattle.acpi_machine.specs.MachineStates.{MachineState}
 use Rattle.acpi_configure.specs.Options.{RunOptions}
 use Rattle.route_report.specs.Reports.{RoutingReport}
@@ -10,16 +12,20 @@ use Rattle.recorded_route.specs.declared.settings.Settings.{Settings}
 use Rattle.acpiroute_words.specs.Written.{Written}
 use Rattle.acpiroute_words.specs.declared.request.Evaluation.{Evaluation}
 use Rattle.acpiroute_lib.specs.RouteCommand.{IsReportOf}
-use Rattle.machine_laws.specs.Widened.{IsWithheld, TellsNothingLeftOut}
+use Rattle.machine_laws.specs.Widened.{Withheld, TellsNothingLeftOut}
 
 -- the same settings in the wide profile
 abbrev pub settings_widened : Settings → Settings
 settings_widened settings = record { profile = profile.Wide; mode = settings.mode; steps = settings.steps; dry = settings.dry }
 
+-- a refusal of what the core profile leaves out, or one that the wide profile passes over at module level
+abbrev pub IsLeftOrPassed : Refusal → Type 0
+IsLeftOrPassed e = Withheld e ⊎ (is_passable e ≡ true)
+
 -- a run comes out with a report that tells of nothing left out, or with a refusal of something else
 abbrev pub LeavesNothingOut : Outcome RoutingReport → Type 0
 LeavesNothingOut (Ok report) = TellsNothingLeftOut report
-LeavesNothingOut (Err e) = IsWithheld {A = RoutingReport} (Err e) → ⊥
+LeavesNothingOut (Err e) = IsLeftOrPassed e → ⊥
 
 -- ---- the program
 
