@@ -21,7 +21,7 @@ use Rattle.aml_laws.proofs.ObjectsMade.{MadeOrNot, string_made, buffer_made, sta
 
 -- ---- what stands stays, where objects are made
 
-stays : (h later : Objects) (o : ℕ) (x : Object) → slice_get h o ≡ Some x → slice_get (h ++ later) o ≡ Some x
+pub stays : (h later : Objects) (o : ℕ) (x : Object) → slice_get h o ≡ Some x → slice_get (h ++ later) o ≡ Some x
 stays [] later o x e = absurd (cc e)
 stays (a ∷ h) later zero x e = e
 stays (a ∷ h) later (suc o) x e = stays h later o x e

@@ -38,18 +38,18 @@ use Rattle.aml_laws.proofs.NumbersKept.{same_path}
 
 -- ---- steps that change nothing
 
-settled : {S A : Type 0} (x : Outcome A) (s t : S) (a : A) → settle x s ≡ (Ok a, t) → (x ≡ Ok a) × (s ≡ t)
+pub settled : {S A : Type 0} (x : Outcome A) (s t : S) (a : A) → settle x s ≡ (Ok a, t) → (x ≡ Ok a) × (s ≡ t)
 unfolding settle
 settled x s t a e = (ap (λ p. p.0) e, ap (λ p. p.1) e)
 
 same_given : {A : Type 0} (b a : A) → ◌≡◌ {A = Outcome A} (Ok b) (Ok a) → b ≡ a
 same_given b a e = cc e
 
-given : {S A : Type 0} (b a : A) (s t : S) → give b s ≡ (Ok a, t) → (b ≡ a) × (s ≡ t)
+pub given : {S A : Type 0} (b a : A) (s t : S) → give b s ≡ (Ok a, t) → (b ≡ a) × (s ≡ t)
 unfolding give
 given b a s t e = (same_given b a (ap (λ p. p.0) e), ap (λ p. p.1) e)
 
-never_stopped : {S A : Type 0} (x : Refusal) (a : A) (s t : S) → stop x s ≡ (Ok a, t) → ⊥
+pub never_stopped : {S A : Type 0} (x : Refusal) (a : A) (s t : S) → stop x s ≡ (Ok a, t) → ⊥
 unfolding stop
 never_stopped {A = A} x a s t e = let no : ◌≡◌ {A = Outcome A} (Err x) (Ok a) = ap (λ p. p.0) e in absurd (cc no)
 
@@ -73,12 +73,12 @@ by_size : (b : Bool) (count bits : ℕ) → ((count == 0) || nat_lt 8388608 coun
 by_size true count bits is e = absurd (cc e)
 by_size false count bits is e = (cc e, not_zero count (first_false (count == 0) (nat_lt 8388608 count) is))
 
-sized_is : (count bits : ℕ) → sized count ≡ Ok bits → (count ≡ bits) × (0 < count)
+pub sized_is : (count bits : ℕ) → sized count ≡ Ok bits → (count ≡ bits) × (0 < count)
 sized_is count bits e = by_size ((count == 0) || nat_lt 8388608 count) count bits refl e
 
 -- ---- a new name
 
-entry_put : (m : Map) (p : List Seg) (v : Entry) → get (insert m p v) p ≡ Some v
+pub entry_put : (m : Map) (p : List Seg) (v : Entry) → get (insert m p v) p ≡ Some v
 entry_put m p v = get-insert path_total m p v p ∙ ap (λ b. cond b (Some v) (get m p)) ((eq_by_cmp_equiv path_total).refl p)
 
 entry_kept_by : (b : Bool) (m : Map) (p : List Seg) (v : Entry) (q : List Seg) (e : Entry) → eq_by_cmp path_cmp q p ≡ b → contains_key m p ≡ false → get m q ≡ Some e → cond b (Some v) (get m q) ≡ Some e
@@ -88,13 +88,13 @@ entry_kept_by true m p v q e is free at =
     absurd (cc both)
 entry_kept_by false m p v q e is free at = at
 
-entry_kept : (m : Map) (p : List Seg) (v : Entry) (q : List Seg) (e : Entry) → contains_key m p ≡ false → get m q ≡ Some e → get (insert m p v) q ≡ Some e
+pub entry_kept : (m : Map) (p : List Seg) (v : Entry) (q : List Seg) (e : Entry) → contains_key m p ≡ false → get m q ≡ Some e → get (insert m p v) q ≡ Some e
 entry_kept m p v q e free at = get-insert path_total m p v q ∙ entry_kept_by (eq_by_cmp path_cmp q p) m p v q e refl free at
 
-record Put (p : List Seg) (o : NamedObject) (before after : Map) : Type 0 where
-  free : contains_key before p ≡ false
-  number : ℕ
-  is : after ≡ insert before p (record { number = number; object = o })
+pub record Put (p : List Seg) (o : NamedObject) (before after : Map) : Type 0 where
+  pub free : contains_key before p ≡ false
+  pub number : ℕ
+  pub is : after ≡ insert before p (record { number = number; object = o })
 
 declared_by : (a b c : Bool) (x y z : Refusal) (k n : ℕ) (s t s2 : Namespace)
     → if◌then◌else◌ {A = Outcome ℕ × Namespace} a (if◌then◌else◌ {A = Outcome ℕ × Namespace} b (Err x, s) (if◌then◌else◌ {A = Outcome ℕ × Namespace} c (Err y, s) (Ok k, t))) (Err z, s) ≡ (Ok n, s2) → (b ≡ false) × (t ≡ s2)
@@ -118,18 +118,18 @@ from_before a b [] le h = tt
 from_before a b (d ∷ ds) le h = (omega (arith, le, h.0), h.1, h.2)
 
 module _ {S : Type 0} where
-  abbrev Kept : State S → State S → Type 0
+  abbrev pub Kept : State S → State S → Type 0
   Kept w v = (q : List Seg) (e : Entry) → get w.names.map q ≡ Some e → get v.names.map q ≡ Some e
 
   names_put : (p : List Seg) (o : NamedObject) (w v : State S) (n : ℕ) → on_names (declared p o) w ≡ (Ok n, v) → Put p o w.names.map v.names.map
   unfolding on_names
   names_put p o w v n e = declared_puts p o w.names v.names n (ap (λ (x : Outcome ℕ × State S). (x.0, x.1.names)) e)
 
-  same_world : (ml : Bool) (p : List Seg) (w v : State S) (u : Unit {0}) → not_in_method ml p w ≡ (Ok u, v) → w ≡ v
+  pub same_world : (ml : Bool) (p : List Seg) (w v : State S) (u : Unit {0}) → not_in_method ml p w ≡ (Ok u, v) → w ≡ v
   unfolding not_in_method
   same_world ml p w v u e = ap (λ (x : Outcome (Unit {0}) × State S). x.1) e
 
-  new_name_puts : (ml : Bool) (p : List Seg) (o : NamedObject) (w v : State S) (n : ℕ) → new_name ml p o w ≡ (Ok n, v) → Put p o w.names.map v.names.map
+  pub new_name_puts : (ml : Bool) (p : List Seg) (o : NamedObject) (w v : State S) (n : ℕ) → new_name ml p o w ≡ (Ok n, v) → Put p o w.names.map v.names.map
   unfolding new_name
   new_name_puts ml p o w v n e =
       let s = steps (not_in_method ml p) (λ free. on_names (declared p o)) w n v e in
@@ -206,7 +206,7 @@ module _ {S : Type 0} where
           new = subst (λ (u : State S). NewField two.value at three.value next u v) (sym (name.1 ∙ path.1 ∙ count.1)) (new_field_is group (module_level depth) two.value at three.value next three.middle v three.second);
         }
 
-    unchanged : (w v : State S) → w ≡ v → Kept w v
+    pub unchanged : (w v : State S) → w ≡ v → Kept w v
     unchanged w v same q e at = subst (λ (u : State S). get u.names.map q ≡ Some e) same at
 
     reserved_is : (t : Tree) (at next : FieldLayout) (w v : State S) → code_of t ≢ codes.NamedField → reserved_field group scope depth at t w ≡ (Ok next, v) → OtherHere t at next w v
@@ -227,7 +227,7 @@ module _ {S : Type 0} where
         let same : at.bit_offset ≡ next.bit_offset = ap (λ (l : FieldLayout). l.bit_offset) last.0 in
         record { apart = apart; behind = omega (arith, same); kept = unchanged w v (flags.1 ∙ last.1) }
 
-    buffer_found : (n : Name) (w v : State S) (b : ℕ) → connection_found scope n w ≡ (Ok b, v) → w ≡ v
+    pub buffer_found : (n : Name) (w v : State S) (b : ℕ) → connection_found scope n w ≡ (Ok b, v) → w ≡ v
     unfolding connection_found entry_found
     buffer_found n w v b e =
         let one = steps _ _ w b v e in
@@ -267,7 +267,7 @@ module _ {S : Type 0} where
       stand : AllStand after.names.map fields
       kept : Kept w after
 
-    still_there : (p : List Seg) (field : FieldUnit) (w v : State S) → Kept w v → IsFieldAt w.names.map p field → IsFieldAt v.names.map p field
+    pub still_there : (p : List Seg) (field : FieldUnit) (w v : State S) → Kept w v → IsFieldAt w.names.map p field → IsFieldAt v.names.map p field
     still_there p field w v kept f = record { entry = f.entry; stands = kept p f.entry f.stands; is = f.is }
 
     laid_more : (t : Tree) (ts : Trees) (at next : FieldLayout) (w v after : State S) → NamedHere t at next w v ⊎ OtherHere t at next w v → Laid ts next v after → Laid (tree t ts) at w after

@@ -2,6 +2,7 @@
 use Rattle.std.specs.Prelude.{◌≡◌, ◌≢◌, ℕ, ◌/◌, ◌%◌, ◌^◌, ◌==◌, Bool, true, false, List, [], ◌∷◌, Option, Some, None, Ok, Err, refl, if◌then◌else◌}
 use Rattle.std.specs.Option.{option_map}
 use Rattle.std.proofs.Common.{arith, ap, sym, subst, ◌∙◌}
+use Rattle.ar_space.specs.declared.space.Width.{Width}
 use Rattle.ar_space.specs.Accesses.{Accesses, bit_count}
 use Rattle.ar_space.specs.Outcome.{Outcome}
 use Rattle.ar_space.specs.Change.{Change, give, settle, go_on, ◌>>=◌}
@@ -32,7 +33,7 @@ use Rattle.aml_meaning.specs.StoreTargets.{declaration}
 use Rattle.aml_meaning.specs.State.{State, on_space}
 use Rattle.aml_meaning.specs.Run.{Run, lift}
 use Rattle.aml_meaning.specs.Fields.{unit_bytes, unit_of, space_at, located, region_bits, region_written, index_unit, index_unit_written, index_bits, index_written}
-use Rattle.aml_laws.specs.IndexRegisters.{Register, IsRegister, chosen_and_read, chosen_and_written}
+use Rattle.aml_laws.specs.IndexRegisters.{Register, IsRegister, chosen_and_read, chosen_and_written, kept_and_written}
 use Rattle.aml_laws.proofs.IndexRegisters.{IsWhole, register_written, register_read, bits_of_register, read_number, some_bits}
 
 -- ---- a region of SystemMemory or SystemIO
@@ -202,3 +203,36 @@ module _ {S : Type 0} (w : State S) (steps : ℕ) (accesses : Accesses S) (call 
       (declared_over w steps accesses call i index is _ _
       (declared_over w steps accesses call d behind so _ _
       (write_units_over w steps _ _ (λ u. unit_written_over f bytes u other) (units_of f.bit_offset f.bits f.access)))).over_is w.space
+
+  -- ---- under Preserve
+
+  kept_by_test : (b : Bool) (m : Run S ℕ) (k : Change S ℕ) → Over w steps m k → Over w steps (λ h. if b then (Ok 0, h) else m h) (λ s. if b then (Ok 0, s) else k s)
+  kept_by_test true m k h = record { over_is = λ s. refl }
+  kept_by_test false m k h = record { over_is = λ s. h.over_is s }
+
+  kept_over : (rule : UpdateRule) (b : Bool) (m : Run S ℕ) (k : Change S ℕ) → rule ≡ Preserve → Over w steps m k → Over w steps (λ h. if b then (Ok 0, h) else kept_by rule m h) (λ s. if b then (Ok 0, s) else k s)
+  kept_over Preserve b m k keeps h = kept_by_test b m k h
+  kept_over WriteAsOnes b m k keeps h = absurd (cc keeps)
+  kept_over WriteAsZeros b m k keeps h = absurd (cc keeps)
+
+  rest_kept : (rule : UpdateRule) (width : Width) (old : ℕ) → rule ≡ Preserve → rest_of_unit rule width old ≡ old
+  rest_kept Preserve width old keeps = refl
+  rest_kept WriteAsOnes width old keeps = absurd (cc keeps)
+  rest_kept WriteAsZeros width old keeps = absurd (cc keeps)
+
+  unit_merged_over : (f : FieldUnit) (bytes : List ℕ) (u : Access) → f.update ≡ Preserve → f.access ≡ behind.width → Over w steps (index_unit_written accesses call is.field so.field f bytes u) (kept_and_written accesses index behind f bytes u)
+  unfolding index_unit_written kept_and_written kept
+  unit_merged_over f bytes u keeps wide =
+      then_over w steps _ _ _ _
+      (kept_over f.update (u.count == bit_count f.access) _ (chosen_and_read accesses index behind u) keeps (subst (λ x. Over w steps (index_unit accesses call is.field so.field x u) (chosen_and_read accesses index behind u)) (sym wide) (unit_read_over u)))
+      (λ old. then_over w steps _ _ _ _ (chosen_over w steps accesses call i index is u.offset)
+      (λ chosen. subst (λ x. Over w steps (region_written accesses call so.field (unit_bytes (merged (rest_of_unit f.update f.access old) u.first (field_bits bytes u.position u.count)))) (write_access accesses behind.at behind.width (merged x u.first (field_bits bytes u.position u.count) % 2 ^ bit_count behind.width)))
+      (rest_kept f.update f.access old keeps)
+      (chosen_over w steps accesses call d behind so (merged (rest_of_unit f.update f.access old) u.first (field_bits bytes u.position u.count)))))
+
+  pub kept_in_turn : (f : FieldUnit) (bytes : List ℕ) → f.update ≡ Preserve → f.access ≡ behind.width → index_written accesses call i d f bytes (w, steps) ≡ lift (on_space (write_units (kept_and_written accesses index behind f bytes) (units_of f.bit_offset f.bits f.access))) (w, steps)
+  unfolding index_written lift on_space
+  kept_in_turn f bytes keeps wide =
+      (declared_over w steps accesses call i index is _ _
+      (declared_over w steps accesses call d behind so _ _
+      (write_units_over w steps _ _ (λ u. unit_merged_over f bytes u keeps wide) (units_of f.bit_offset f.bits f.access)))).over_is w.space

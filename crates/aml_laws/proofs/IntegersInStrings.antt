@@ -28,21 +28,21 @@ halves : List ℕ → List ℕ
 halves [] = []
 halves (b ∷ bs) = b / 16 ∷ b % 16 ∷ halves bs
 
-abbrev AllBytes : List ℕ → Type 0
+abbrev pub AllBytes : List ℕ → Type 0
 AllBytes bytes = AllBelowBase 256 bytes
 
 byte_is_byte : (k n : ℕ) → byte_at k n < 256
 byte_is_byte zero n = mod-lt n (omega arith)
 byte_is_byte (suc k) n = mod-lt (n / 256 ^ suc k) (omega arith)
 
-big_are_bytes : (k n : ℕ) → AllBytes (bytes_high_first k n)
+pub big_are_bytes : (k n : ℕ) → AllBytes (bytes_high_first k n)
 big_are_bytes zero n = tt
 big_are_bytes (suc k) n = (byte_is_byte k n, big_are_bytes k n)
 
-high_half : (b : ℕ) → b < 256 → b / 16 < 16
+pub high_half : (b : ℕ) → b < 256 → b / 16 < 16
 high_half b h = omega (arith, h)
 
-low_half : (b : ℕ) → b % 16 < 16
+pub low_half : (b : ℕ) → b % 16 < 16
 low_half b = mod-lt b (omega arith)
 
 encoded_digits : (bytes : List ℕ) → AllBytes bytes → leading_digits Hexadecimal (encode_upper bytes) ≡ halves bytes
@@ -95,7 +95,7 @@ read_number w n h =
     ap (λ ds. truncated w (number_from_digits 16 ds)) (encoded_digits bytes (big_are_bytes (bytes_of w) n))
     ∙ ap (truncated w) (number_of_halves 0 bytes ∙ bytes_number w n h) ∙ mod-eq_of_lt h
 
-text_length : (w : IntegerWidth) (n : ℕ) → length (encode_upper (big_bytes (bytes_of w) n)) ≡ 2 * bytes_of w
+pub text_length : (w : IntegerWidth) (n : ℕ) → length (encode_upper (big_bytes (bytes_of w) n)) ≡ 2 * bytes_of w
 text_length w n = length-encode_with upper_digits (big_bytes (bytes_of w) n) ∙ ap (λ k. 2 * k) (length-bytes_high_first (bytes_of w) n)
 
 pub text_reads_back : (w : IntegerWidth) (n : ℕ) (text : List ℕ) → n < 2 ^ bits_of w → to_text_of w (Integer n) ≡ Ok text → to_integer_of w (String text) ≡ Ok n

@@ -7,9 +7,12 @@
 -- a lemma that goes through the cases for another ends with `_by_cases`.
 pub mod AnswersTogether
 pub mod ArgumentsAndAnswersPreserve
+pub mod AskedBridges
 pub mod BridgesAsked
 pub mod BridgesTogether
+pub mod BufferFieldAnswers
 pub mod BufferFieldWrites
+pub mod BusesFound
 pub mod ChangesNothing
 pub mod Charges
 pub mod ChangesPreserve
@@ -21,6 +24,7 @@ pub mod CleanOutcomes
 pub mod CleanReading
 pub mod CleanValues
 pub mod CleanWorlds
+pub mod ConversionsAnswered
 pub mod CopiesApart
 pub mod Costs
 pub mod CountNeverFalls
@@ -41,6 +45,7 @@ pub mod DeclaredNamesStand
 pub mod EndOfCalls
 pub mod EvaluationsPreserve
 pub mod EvaluationsTogether
+pub mod EventsCounted
 pub mod EventsPreserve
 pub mod EventsTogether
 pub mod FaultsOfCalls
@@ -56,6 +61,7 @@ pub mod FaultsOfTerms
 pub mod FaultsOfMatches
 pub mod FaultsOfWideTerms
 pub mod FieldsInOrder
+pub mod FieldsLaidOut
 pub mod FieldsPreserve
 pub mod FieldsTogether
 pub mod FoundNamesStand
@@ -83,9 +89,11 @@ pub mod IntegersOfWorlds
 pub mod Invariants
 pub mod MeaningTogether
 pub mod MoreSteps
+pub mod MutexesCounted
 pub mod MutexesFree
 pub mod NamesSearched
 pub mod NamesStay
+pub mod NestedData
 pub mod NotesOfFaults
 pub mod Noting
 pub mod NumbersKept
@@ -98,6 +106,7 @@ pub mod OperandsTogether
 pub mod OrderedValues
 pub mod OutOfSteps
 pub mod OutsideOfMethods
+pub mod PciScopes
 pub mod Preorders
 pub mod ProfileKept
 pub mod ReadTermsHoldBytes

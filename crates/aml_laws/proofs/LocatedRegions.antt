@@ -36,22 +36,22 @@ unfolding go_on
 go_on_gives (Ok a) h k all b e = (all a).gives h b e
 go_on_gives (Err x) h k all b e = absurd (cc e)
 
-then_gives : {H A B : Type 0} {Such : B → Type 0} (m : Change H A) (k : A → Change H B) → ((a : A) → Gives Such (k a)) → Gives Such (m >>= k)
+pub then_gives : {H A B : Type 0} {Such : B → Type 0} (m : Change H A) (k : A → Change H B) → ((a : A) → Gives Such (k a)) → Gives Such (m >>= k)
 unfolding ◌>>=◌
 then_gives m k all = record { gives = λ h b e. go_on_gives (m h).0 (m h).1 k all b e }
 
 -- the first of two gave something, from which the second gave this
-record GaveBoth {H A B : Type 0} (m : Change H A) (k : A → Change H B) (h : H) (b : B) : Type 0 where
-  first : A
-  gave : (m h).0 ≡ Ok first
-  then_gave : (k first (m h).1).0 ≡ Ok b
+pub record GaveBoth {H A B : Type 0} (m : Change H A) (k : A → Change H B) (h : H) (b : B) : Type 0 where
+  pub first : A
+  pub gave : (m h).0 ≡ Ok first
+  pub then_gave : (k first (m h).1).0 ≡ Ok b
 
 gave_by_cases : {H A B : Type 0} (m : Change H A) (k : A → Change H B) (h : H) (b : B) (r : Outcome A) → (m h).0 ≡ r → (go_on r (m h).1 k).0 ≡ Ok b → GaveBoth m k h b
 unfolding go_on
 gave_by_cases m k h b (Ok a) is e = record { first = a; gave = is; then_gave = e }
 gave_by_cases m k h b (Err x) is e = absurd (cc e)
 
-gave_both : {H A B : Type 0} (m : Change H A) (k : A → Change H B) (h : H) (b : B) → ((m >>= k) h).0 ≡ Ok b → GaveBoth m k h b
+pub gave_both : {H A B : Type 0} (m : Change H A) (k : A → Change H B) (h : H) (b : B) → ((m >>= k) h).0 ≡ Ok b → GaveBoth m k h b
 unfolding ◌>>=◌
 gave_both m k h b e = gave_by_cases m k h b (m h).0 refl e
 

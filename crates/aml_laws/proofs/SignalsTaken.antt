@@ -14,7 +14,7 @@ use Rattle.aml_objects.specs.declared.entry.Entry.{Entry}
 use Rattle.aml_objects.specs.declared.entry.NamedObject.TheVariants as object
 use Rattle.aml_objects.specs.declared.value.Value.{Value}
 use Rattle.aml_objects.specs.declared.value.Value.TheVariants as value
-use Rattle.aml_namespace.specs.Namespace.{Map, Namespace, numbered, replaced}
+use Rattle.aml_namespace.specs.Namespace.{Map, numbered, replaced}
 use Rattle.aml_namespace.specs.Numbering.{Numbered}
 use Rattle.aml_namespace.proofs.Paths.{path_total, only_equal, same_path, path_itself}
 use Rattle.aml_namespace.proofs.Finding.{numbered_found}
@@ -23,15 +23,8 @@ use Rattle.aml_meaning.specs.State.{State, on_names}
 use Rattle.aml_meaning.specs.Readings.{integer_in}
 use Rattle.aml_meaning.specs.StoreTargets.{declaration, entry_declared}
 use Rattle.aml_meaning.specs.Events.{signals_under, put_signals, event_changed, signal_taken, waited}
-use Rattle.aml_laws.specs.Events.{event_entry}
+use Rattle.aml_laws.specs.Events.{event_entry, with_signals}
 use Rattle.aml_laws.proofs.NumbersKept.{numbered_replaced}
-
--- the names with so many signals of the event at a path, and the world with them
-abbrev names_with : Namespace → List Seg → ℕ → ℕ → Namespace
-names_with names path n count = record names { map = insert names.map path (event_entry n count) }
-
-abbrev with_signals : {S : Type 0} → State S → List Seg → ℕ → ℕ → State S
-with_signals w path n count = record w { names = names_with w.names path n count }
 
 -- an entry put over another one, and then the first again
 module _ (m : Map) (path : List Seg) (d e : Entry) (at : get m path ≡ Some e) where
@@ -49,23 +42,23 @@ module _ {S : Type 0} (w : State S) (path : List Seg) (n count : ℕ) (standing 
   here : numbered n w.names.map ≡ Some (path, event_entry n count)
   here = numbered_found w.names standing path (event_entry n count) at
 
-  put_is : (more : ℕ) → put_signals n more w ≡ (Ok tt, with_signals w path n more)
+  pub put_is : (more : ℕ) → put_signals n more w ≡ (Ok tt, with_signals w path n more)
   unfolding put_signals declaration on_names replaced ◌>>=◌ go_on
   put_is more = rw (here, at) refl
 
-  under_is : signals_under n w ≡ (Ok count, w)
+  pub under_is : signals_under n w ≡ (Ok count, w)
   unfolding signals_under entry_declared settle ◌>>=◌ go_on
   under_is = rw here refl
 
-  signaled : (count == 2 ^ 64 - 1) ≡ false → event_changed changes.Signal (Some n) w ≡ (Ok tt, with_signals w path n (count + 1))
+  pub signaled : (count == 2 ^ 64 - 1) ≡ false → event_changed changes.Signal (Some n) w ≡ (Ok tt, with_signals w path n (count + 1))
   unfolding event_changed settle ◌>>=◌ go_on
   signaled fits = rw (under_is, fits, put_is (count + 1)) refl
 
-  refused : (count == 2 ^ 64 - 1) ≡ true → event_changed changes.Signal (Some n) w ≡ (Err (refusal.Evaluation ObjectLimit), w)
+  pub refused : (count == 2 ^ 64 - 1) ≡ true → event_changed changes.Signal (Some n) w ≡ (Err (refusal.Evaluation ObjectLimit), w)
   unfolding event_changed settle ◌>>=◌ go_on
   refused full = rw (under_is, full) refl
 
-  taken : (timeout : Value) (time : ℕ) → integer_in timeout w ≡ (Ok time, w) → (count == 0) ≡ false → waited (Some n) timeout w ≡ (Ok (value.Integer 0), with_signals w path n (count - 1))
+  pub taken : (timeout : Value) (time : ℕ) → integer_in timeout w ≡ (Ok time, w) → (count == 0) ≡ false → waited (Some n) timeout w ≡ (Ok (value.Integer 0), with_signals w path n (count - 1))
   unfolding waited signal_taken settle give ◌>>=◌ go_on
   taken timeout time is some = rw (under_is, is, some, put_is (count - 1)) refl
 

@@ -1,33 +1,52 @@
 -- Each tree that begins costs a step: a term, RefOf and DerefOf where they name a target, and a name in a package.
-use Rattle.std.specs.Prelude.{◌≡◌, ℕ, zero, suc, List, refl}
+use Rattle.std.specs.Prelude.{◌≡◌, ℕ, zero, suc, List, Some, Ok, Err, refl}
 use Rattle.std.proofs.Common.{arith, ◌∙◌}
 use Rattle.ar_space.specs.Accesses.{Accesses}
-use Rattle.ar_space.specs.Change.{go_on, ◌>>=◌}
+use Rattle.ar_space.specs.Outcome.{Outcome}
+use Rattle.ar_space.specs.Change.{give, settle, go_on, ◌>>=◌}
 use Rattle.aml_path.specs.declared.segment.Seg.{Seg}
+use Rattle.aml_path.specs.Paths.{Name}
 use Rattle.aml_grammar.specs.declared.opcode.TermCode.{TermCode}
 use Rattle.aml_grammar.specs.Tree.{Tree, term, Part, null, name, number, bytes, inner, list, Parts, no_parts, part}
+use Rattle.aml_grammar.specs.Apart.{operand_of, name_of}
+use Rattle.aml_objects.specs.declared.object.Element.TheVariants as element
+use Rattle.aml_objects.specs.declared.value.Slot.{Slot}
 use Rattle.aml_meaning.specs.declared.flow.Flow.{Flow}
 use Rattle.aml_meaning.specs.declared.store_target.TargetKind.{TargetKind}
 use Rattle.aml_meaning.specs.declared.store_target.TargetKind.TheVariants as kinds
 use Rattle.aml_meaning.specs.declared.store_target.StoreTarget.{StoreTarget}
-use Rattle.aml_meaning.specs.Run.{Run, charge}
+use Rattle.aml_meaning.specs.declared.store_target.StoreTarget.TheVariants as targets
+use Rattle.aml_meaning.specs.State.{State}
+use Rattle.aml_meaning.specs.Run.{Run, lift, charge}
 use Rattle.aml_meaning.specs.Tasks.{Task, operand_value, value_at}
 use Rattle.aml_meaning.specs.Terms.{target_kind}
-use Rattle.aml_meaning.specs.TargetTerms.{indexed_target, dereferenced_target, target_by_kind, target_of, first_target, part_target}
+use Rattle.aml_meaning.specs.TargetTerms.{target_named, name_target, indexed_target, dereferenced_target, target_by_kind, target_of, first_target, part_target, target_at}
 use Rattle.aml_meaning.specs.DataTerms.{named_element}
+use Rattle.aml_meaning.specs.Evaluation.{rule}
 use Rattle.aml_meaning.specs.Meaning.{meaning}
 use Rattle.aml_meaning.proofs.Agree.{Agree, agree_give, agree_stop, agree_settle, agree_lift, agree_charge, agree_bind}
 use Rattle.aml_meaning.proofs.Meanings.{meaning_is, meaning_less, meaning_charged}
-use Rattle.aml_laws.specs.CostsOfTrees.{BeginsWithStep}
+use Rattle.aml_laws.specs.CostsOfTrees.{CostsOneStep, CostsNothing, operand_referred, element_named}
 use Rattle.aml_laws.proofs.Charges.{charge_none, charge_one}
 
 -- a step, and then what leaves no more than it got
-step_first : {S A : Type 0} (k : Run S A) → ((n : ℕ) → Agree {S = S} n k k) → BeginsWithStep (charge >>= (λ step. k))
+step_first : {S A : Type 0} (k : Run S A) → ((n : ℕ) → Agree {S = S} n k k) → CostsOneStep (charge >>= (λ step. k)) k
 unfolding ◌>>=◌ go_on
 step_first k falls = record {
   refused = λ w. rw (charge_none w) refl;
-  paid = λ w steps. rw (charge_one w steps) ((falls steps).less (w, steps) (omega arith));
+  paid = λ w steps. rw (charge_one w steps) refl;
+  less = λ w steps. rw (charge_one w steps) ((falls steps).less (w, steps) (omega arith));
 }
+
+named_by : {S : Type 0} (r : Outcome Name) (w : State S) (steps : ℕ) (scope : List Seg) → (go_on {S = State S × ℕ} r (w, steps) (λ n. give (element.Name n scope))).1.1 ≡ steps
+unfolding go_on give
+named_by (Ok n) w steps scope = refl
+named_by (Err e) w steps scope = refl
+
+target_by_name : {S : Type 0} (r : Outcome Name) (w : State S) (steps : ℕ) (scope : List Seg) → (go_on {S = State S × ℕ} r (w, steps) (λ n. lift (target_named scope n))).1.1 ≡ steps
+unfolding go_on lift
+target_by_name (Ok n) w steps scope = refl
+target_by_name (Err e) w steps scope = refl
 
 module _ {S : Type 0} (accesses : Accesses S) where
   abbrev ev : Task → Run S Flow
@@ -46,7 +65,7 @@ module _ {S : Type 0} (accesses : Accesses S) where
 
   -- ---- targets
 
-  dereferenced_begins : (scope : List Seg) (depth : ℕ) (t : Tree) → BeginsWithStep (dereferenced_target ev scope depth t)
+  dereferenced_begins : (scope : List Seg) (depth : ℕ) (t : Tree) → CostsOneStep (dereferenced_target ev scope depth t) (operand_referred ev scope depth t)
   unfolding dereferenced_target
   dereferenced_begins scope depth t = step_first _ (λ n. agree_bind _ _ _ _ (value_at_falls n scope depth t 0) (λ v. agree_bind _ _ _ _ (agree_settle _) (λ r. agree_bind _ _ _ _ (agree_lift _) (λ there. agree_give _))))
 
@@ -84,23 +103,46 @@ module _ {S : Type 0} (accesses : Accesses S) where
     part_falls n scope depth (inner u) = target_falls n scope depth u
     part_falls n scope depth (list ts) = agree_stop _
 
-  pub reference_begins : (scope : List Seg) (depth : ℕ) (c : TermCode) (ps : Parts) → target_kind c ≡ kinds.RefOf → BeginsWithStep (target_of ev scope depth (term c ps))
+  pub reference_begins : (scope : List Seg) (depth : ℕ) (c : TermCode) (ps : Parts) → target_kind c ≡ kinds.RefOf → CostsOneStep (target_of ev scope depth (term c ps)) (first_target ev scope depth ps)
   unfolding target_of
   reference_begins scope depth c ps is = rw is (step_first _ (λ n. first_falls n scope depth ps))
 
-  pub dereference_begins : (scope : List Seg) (depth : ℕ) (c : TermCode) (ps : Parts) → target_kind c ≡ kinds.DerefOf → BeginsWithStep (target_of ev scope depth (term c ps))
+  pub dereference_begins : (scope : List Seg) (depth : ℕ) (c : TermCode) (ps : Parts) → target_kind c ≡ kinds.DerefOf → CostsOneStep (target_of ev scope depth (term c ps)) (operand_referred ev scope depth (term c ps))
   unfolding target_of
   dereference_begins scope depth c ps is = rw is (dereferenced_begins scope depth (term c ps))
 
-  -- ---- names in packages, and terms
+  -- ---- names in packages, elements that are handed out, and terms
 
-  pub named_element_begins : (scope : List Seg) (t : Tree) → BeginsWithStep (named_element ev scope t)
+  pub named_element_begins : (scope : List Seg) (t : Tree) → CostsOneStep (named_element ev scope t) (element_named scope t)
   unfolding named_element
   named_element_begins scope t = step_first _ (λ n. agree_bind _ _ _ _ (agree_settle _) (λ x. agree_give _))
 
-  pub term_begins : (t : Task) → BeginsWithStep (meaning accesses t)
+  pub named_element_stays : (scope : List Seg) (t : Tree) → CostsNothing {S = S} (element_named scope t)
+  unfolding settle give ◌>>=◌
+  named_element_stays scope t w steps = named_by (name_of (operand_of t 0)) w steps scope
+
+  pub term_begins : (t : Task) → CostsOneStep (meaning accesses t) (rule accesses ev t)
   unfolding ◌>>=◌ go_on
   term_begins t = record {
     refused = λ w. meaning_is accesses t (w, zero) ∙ rw (charge_none w) refl;
-    paid = λ w steps. let l = meaning_charged accesses t (w, suc steps) (omega arith) in omega arith;
+    paid = λ w steps. meaning_is accesses t (w, suc steps) ∙ rw (charge_one w steps) refl;
+    less = λ w steps. let l = meaning_charged accesses t (w, suc steps) (omega arith) in omega arith;
   }
+
+  -- ---- operands that cost nothing
+
+  pub slot_costs_nothing : (scope : List Seg) (depth : ℕ) (c : TermCode) (ps : Parts) (slot : Slot) (s : State S × ℕ) → target_kind c ≡ kinds.Slot slot → target_of ev scope depth (term c ps) s ≡ (Ok (targets.Slot slot), s)
+  unfolding target_of give
+  slot_costs_nothing scope depth c ps slot s is = rw is refl
+
+  pub debug_costs_nothing : (scope : List Seg) (depth : ℕ) (c : TermCode) (ps : Parts) (s : State S × ℕ) → target_kind c ≡ kinds.Nowhere → target_of ev scope depth (term c ps) s ≡ (Ok targets.Nowhere, s)
+  unfolding target_of give
+  debug_costs_nothing scope depth c ps s is = rw is refl
+
+  pub null_costs_nothing : (scope : List Seg) (depth : ℕ) (t : Tree) (i : ℕ) (s : State S × ℕ) → operand_of t i ≡ Some null → target_at ev scope depth t i s ≡ (Ok targets.Nowhere, s)
+  unfolding give
+  null_costs_nothing scope depth t i s is = rw is refl
+
+  pub name_costs_nothing : (scope : List Seg) (depth : ℕ) (t : Tree) (i : ℕ) (n : Name) → operand_of t i ≡ Some (name n) → CostsNothing {S = S} (target_at ev scope depth t i)
+  unfolding name_target settle ◌>>=◌
+  name_costs_nothing scope depth t i n is w steps = rw is (target_by_name (name_of (operand_of t i)) w steps scope)

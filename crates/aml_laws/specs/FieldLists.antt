@@ -1,5 +1,5 @@
 -- The fields that a list declares, one behind another (ACPI 6.5, 19.6: Field; 20.2.5.2: FieldList).
-use Rattle.std.specs.Prelude.{◌≡◌, ◌≢◌, ◌≤◌, ◌<◌, ◌+◌, ℕ, List, [], ◌∷◌, Some, Ok}
+use Rattle.std.specs.Prelude.{◌≡◌, ◌≢◌, ◌⊎◌, ◌≤◌, ◌<◌, ◌+◌, ℕ, List, [], ◌∷◌, Some, Ok}
 use Rattle.std.specs.FinMap.{get}
 use Rattle.ar_space.specs.Outcome.{Outcome, ◌>>=◌}
 use Rattle.aml_path.specs.declared.segment.Seg.{Seg}
@@ -11,7 +11,10 @@ use Rattle.aml_objects.specs.declared.entry.Entry.{Entry}
 use Rattle.aml_objects.specs.declared.entry.FieldUnit.{FieldUnit}
 use Rattle.aml_objects.specs.declared.entry.NamedObject.TheVariants as object
 use Rattle.aml_namespace.specs.Namespace.{Map}
+use Rattle.aml_meaning.specs.declared.field_layout.FieldLayout.{FieldLayout}
+use Rattle.aml_meaning.specs.declared.field_layout.FieldGroup.{FieldGroup}
 use Rattle.aml_meaning.specs.Terms.{number_of}
+use Rattle.aml_meaning.specs.FieldTerms.{access_width}
 
 -- each field begins where the one before it ends or behind that, and has a bit at least: so no two share one
 abbrev pub InOrder : ℕ → List (List Seg × FieldUnit) → Type 0
@@ -38,3 +41,24 @@ pub data AreNamed (scope : List Seg) : Trees → List (List Seg × FieldUnit) �
   named : (t : Tree) (ts : Trees) (path : List Seg) (field : FieldUnit) (ds : List (List Seg × FieldUnit)) → path_in scope t ≡ Ok path → number_of (operand_of t 1) ≡ Ok field.bits → AreNamed scope ts ds
       → AreNamed scope (tree t ts) ((path, field) ∷ ds)
   other : (t : Tree) (ts : Trees) (ds : List (List Seg × FieldUnit)) → code_of t ≢ codes.NamedField → AreNamed scope ts ds → AreNamed scope (tree t ts) ds
+
+-- a field unit of a list, where its elements have come to a bit and an access width
+abbrev pub unit_at : FieldGroup → FieldLayout → ℕ → FieldUnit
+unit_at group at bits = record { source = group.source; bit_offset = at.bit_offset; bits = bits; access = at.access; update = group.update }
+
+-- so many bits further on
+abbrev pub moved_on : FieldLayout → ℕ → FieldLayout
+moved_on at bits = record at { bit_offset = at.bit_offset + bits }
+
+-- The fields as the elements of a list lay them out, bit by bit: a named one begins where the element before it ends, a reserved one
+-- passes over its bits, an AccessField says the width of those behind it, and a Connection changes nothing.
+pub data AreLaidOut (group : FieldGroup) (scope : List Seg) : FieldLayout → Trees → List (List Seg × FieldUnit) → Type 0 where
+  no_fields : (at : FieldLayout) → AreLaidOut group scope at no_trees []
+  next_named : (at : FieldLayout) (t : Tree) (ts : Trees) (path : List Seg) (bits : ℕ) (ds : List (List Seg × FieldUnit)) → code_of t ≡ codes.NamedField → path_in scope t ≡ Ok path → number_of (operand_of t 1) ≡ Ok bits
+      → AreLaidOut group scope (moved_on at bits) ts ds → AreLaidOut group scope at (tree t ts) ((path, unit_at group at bits) ∷ ds)
+  next_reserved : (at : FieldLayout) (t : Tree) (ts : Trees) (bits : ℕ) (ds : List (List Seg × FieldUnit)) → code_of t ≡ codes.ReservedField → number_of (operand_of t 0) ≡ Ok bits
+      → AreLaidOut group scope (moved_on at bits) ts ds → AreLaidOut group scope at (tree t ts) ds
+  next_access : (at : FieldLayout) (t : Tree) (ts : Trees) (flags : ℕ) (ds : List (List Seg × FieldUnit)) → (code_of t ≡ codes.AccessField) ⊎ (code_of t ≡ codes.ExtendedAccessField) → number_of (operand_of t 0) ≡ Ok flags
+      → AreLaidOut group scope (record at { access = access_width flags }) ts ds → AreLaidOut group scope at (tree t ts) ds
+  next_connection : (at : FieldLayout) (t : Tree) (ts : Trees) (ds : List (List Seg × FieldUnit)) → code_of t ≡ codes.ConnectField
+      → AreLaidOut group scope at ts ds → AreLaidOut group scope at (tree t ts) ds

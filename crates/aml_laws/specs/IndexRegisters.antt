@@ -1,5 +1,5 @@
 -- Fields behind an index register and a data register (ACPI 6.5, 19.6.63: IndexField).
-use Rattle.std.specs.Prelude.{◌≡◌, ℕ, ◌*◌, ◌/◌, ◌%◌, ◌^◌, List, Some, Ok}
+use Rattle.std.specs.Prelude.{◌≡◌, ℕ, ◌*◌, ◌/◌, ◌%◌, ◌^◌, ◌==◌, List, Some, Ok, if◌then◌else◌}
 use Rattle.ar_space.specs.declared.space.Width.{Width}
 use Rattle.ar_space.specs.declared.space.Place.{Place}
 use Rattle.ar_space.specs.Accesses.{Accesses, bit_count}
@@ -57,3 +57,13 @@ module _ {S : Type 0} (accesses : Accesses S) (index behind : Register) where
   -- or it is written, with the bits of a field and what its update rule puts elsewhere
   unfoldable pub chosen_and_written : FieldUnit → List ℕ → Access → Change S (Unit {0})
   chosen_and_written f bytes u = unit_chosen u >> write_access accesses behind.at behind.width (unit_value f bytes u % 2 ^ bit_count behind.width)
+
+  -- what the data register holds, read where the field covers a part of the unit alone, and so keeps the others
+  abbrev pub unit_kept : FieldUnit → Access → Change S ℕ
+  unit_kept f u s = if u.count == bit_count f.access then (Ok 0, s) else chosen_and_read u s
+
+  -- and then written, the bits of the field among those that are kept
+  unfoldable pub kept_and_written : FieldUnit → List ℕ → Access → Change S (Unit {0})
+  kept_and_written f bytes u = do
+    old ← unit_kept f u
+    unit_chosen u >> write_access accesses behind.at behind.width (merged old u.first (field_bits bytes u.position u.count) % 2 ^ bit_count behind.width)

@@ -2,16 +2,19 @@ pub mod AllWithin
 pub mod Answered
 pub mod BankRegisters
 pub mod Becomes
+pub mod BusesFound
 pub mod Calls
 pub mod Copied
 pub mod CostsOfTrees
 pub mod Counted
 pub mod CountedEvaluations
 pub mod Declares
+pub mod Digits
 pub mod Events
 pub mod FieldLists
 pub mod Handed
 pub mod HandedBack
+pub mod HandedIn
 pub mod Histories
 pub mod IndexRegisters
 pub mod Kinds
@@ -23,6 +26,7 @@ pub mod Numbers
 pub mod Ordered
 pub mod Outside
 pub mod Parts
+pub mod PciScopes
 pub mod Plain
 pub mod Reached
 pub mod RegionAccesses

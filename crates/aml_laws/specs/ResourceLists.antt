@@ -1,5 +1,5 @@
 -- Lists of resource items (ACPI 6.5, 6.4.2.9).
-use Rattle.std.specs.Prelude.{ℕ, ◌==◌, if◌then◌else◌, List, [], ◌∷◌}
+use Rattle.std.specs.Prelude.{◌≡◌, ◌==◌, true, if◌then◌else◌, List, [], ◌∷◌}
 use Rattle.acpi_resources.specs.Items.{ResourceItem}
 
 -- those before the first end tag, or all where there is none
@@ -10,3 +10,8 @@ before_end_tag (item ∷ items) = if item.tag == 0x79 then [] else item ∷ befo
 -- an end tag whose checksum is 0, which stands for any
 abbrev pub end_tag : ResourceItem
 end_tag = record { tag = 0x79; body = 0x00 ∷ [] }
+
+-- an end tag stands among them
+pub data HasEndTag : List ResourceItem → Type 0 where
+  here : (item : ResourceItem) (items : List ResourceItem) → (item.tag == 0x79) ≡ true → HasEndTag (item ∷ items)
+  later : (item : ResourceItem) (items : List ResourceItem) → HasEndTag items → HasEndTag (item ∷ items)

@@ -1,6 +1,8 @@
 //! Buffer fields.
-ghost use Rattle.std.specs.Prelude.{◌≡◌, ◌≢◌, ◌⊎◌, ◌<◌, ◌≤◌, ◌+◌, ℕ, List, false, length, get_or, slice_get, Ok};
+ghost use Rattle.std.specs.Prelude.{◌≡◌, ◌≢◌, ◌⊎◌, ◌<◌, ◌≤◌, ◌+◌, ◌*◌};
+ghost use Rattle.std.specs.Prelude.{ℕ, List, false, length, get_or, slice_get, Some, Ok};
 ghost use Rattle.aml_objects.specs.Objects.{Objects, buffer_at};
+ghost use Rattle.aml_objects.specs.declared.object.Object.TheVariants as object;
 ghost use Rattle.aml_objects.specs.declared.entry.BufferField.{BufferField};
 ghost use Rattle.aml_fields.specs.Bits.{bits_of, field_bits, packed};
 ghost use Rattle.aml_fields.specs.BufferFields.{read_buffer_field, write_buffer_field};
@@ -29,4 +31,18 @@ pub fn a_write_of_a_buffer_field_leaves_other_bits()
     ensures objects { (field : BufferField) (source : List ℕ) (before after : Objects) (o : ℕ) →
         write_buffer_field field source before ≡ (Ok tt, after) → o ≢ field.buffer →
         slice_get after o ≡ slice_get before o }
+{}
+
+/// A buffer field whose bits lie within its buffer is read, as those bits, and is written. A field that is refused
+/// where it ends with its buffer, or that is read from another bit, is refused by this.
+#[tactic(auto, using(crate::proofs::BufferFieldAnswers::field_is_read, crate::proofs::BufferFieldAnswers::field_answers))]
+pub fn a_buffer_field_within_its_buffer_is_accessed()
+    ensures read { (field : BufferField) (objects : Objects) (bytes : List ℕ) →
+        slice_get objects field.buffer ≡ Some (object.Buffer bytes) → length bytes ≤ 1048576 →
+        field.bit_offset + field.bits ≤ 8 * length bytes →
+        read_buffer_field field objects ≡ (Ok (packed (field_bits bytes field.bit_offset field.bits)), objects) }
+    ensures written { (field : BufferField) (objects : Objects) (bytes source : List ℕ) →
+        slice_get objects field.buffer ≡ Some (object.Buffer bytes) → length bytes ≤ 1048576 →
+        field.bit_offset + field.bits ≤ 8 * length bytes →
+        (after : Objects) × (write_buffer_field field source objects ≡ (Ok tt, after)) }
 {}

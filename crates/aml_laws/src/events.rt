@@ -1,15 +1,21 @@
 //! Events.
-ghost use Rattle.std.specs.Prelude.{◌≡◌, ℕ, List, Some, Ok};
+ghost use Rattle.std.specs.Prelude.{◌≡◌, ◌<◌, ◌+◌, ◌-◌, ◌^◌, ℕ, List, length, Some, Ok, Err};
 ghost use Rattle.std.specs.FinMap.{get};
+ghost use Rattle.ar_space.specs.declared.refusal.Refusal.TheVariants.{Evaluation};
+ghost use Rattle.ar_space.specs.declared.refusal.EvaluationFault.TheVariants.{ObjectLimit};
+ghost use Rattle.ar_space.specs.Accesses.{Accesses};
 ghost use Rattle.aml_path.specs.declared.segment.Seg.{Seg};
 ghost use Rattle.aml_namespace.specs.Numbering.{Numbered};
 ghost use Rattle.aml_objects.specs.declared.value.Value.{Value};
 ghost use Rattle.aml_objects.specs.declared.value.Value.TheVariants.{Integer};
-ghost use Rattle.aml_meaning.specs.declared.term_kind.EventChange.TheVariants.{Signal};
+ghost use Rattle.aml_convert.specs.Integers.{ones};
+ghost use Rattle.aml_meaning.specs.declared.term_kind.EventChange.TheVariants.{Signal, Reset};
+ghost use Rattle.aml_meaning.specs.Given.{Given};
 ghost use Rattle.aml_meaning.specs.State.{State};
 ghost use Rattle.aml_meaning.specs.Readings.{integer_in};
 ghost use Rattle.aml_meaning.specs.Events.{event_changed, waited};
-ghost use Rattle.aml_laws.specs.Events.{event_entry};
+ghost use Rattle.aml_meaning.specs.Calling.{with_steps, table_run, loaded, answer_exported, answered};
+ghost use Rattle.aml_laws.specs.Events.{event_entry, with_signals};
 
 /// A Wait takes what a Signal of the same event gave: it gives False, and the world is the one before both. A Wait
 /// that leaves the count, or takes it all, is refused by this. That the numbers of declarations are apart holds of all
@@ -20,4 +26,41 @@ pub fn a_wait_takes_a_signal<S>()
         get w.names.map path ≡ Some (event_entry number count) →
         event_changed Signal (Some number) w ≡ (Ok tt, after) → integer_in timeout after ≡ (Ok time, after) →
         waited (Some number) timeout after ≡ (Ok (Integer 0), w) }
+{}
+
+/// The signals of an event are counted one by one: a Signal adds one, or is refused where 2^64 - 1 are counted; a Reset
+/// leaves none; a Wait takes one and gives False, or gives True where there is none. Nothing else of the world changes.
+/// A Signal of two that a Wait of two takes back is refused by this.
+#[tactic(auto, using(crate::proofs::EventsCounted::signal_adds, crate::proofs::EventsCounted::full_refused, crate::proofs::EventsCounted::reset_leaves_none, crate::proofs::EventsCounted::wait_takes, crate::proofs::EventsCounted::wait_finds_none))]
+pub fn signals_are_counted_one_by_one<S>()
+    ensures added { (w : State S) (path : List Seg) (number count : ℕ) → Numbered w.names →
+        get w.names.map path ≡ Some (event_entry number count) → count < 2 ^ 64 - 1 →
+        event_changed Signal (Some number) w ≡ (Ok tt, with_signals w path number (count + 1)) }
+    ensures full { (w : State S) (path : List Seg) (number : ℕ) → Numbered w.names →
+        get w.names.map path ≡ Some (event_entry number (2 ^ 64 - 1)) →
+        event_changed Signal (Some number) w ≡ (Err (Evaluation ObjectLimit), w) }
+    ensures reset { (w : State S) (path : List Seg) (number count : ℕ) → Numbered w.names →
+        get w.names.map path ≡ Some (event_entry number count) →
+        event_changed Reset (Some number) w ≡ (Ok tt, with_signals w path number 0) }
+    ensures taken { (w : State S) (path : List Seg) (number count : ℕ) (timeout : Value) (time : ℕ) →
+        Numbered w.names → get w.names.map path ≡ Some (event_entry number count) → 0 < count →
+        integer_in timeout w ≡ (Ok time, w) →
+        waited (Some number) timeout w ≡ (Ok (Integer 0), with_signals w path number (count - 1)) }
+    ensures none { (w : State S) (path : List Seg) (number : ℕ) (timeout : Value) (time : ℕ) → Numbered w.names →
+        get w.names.map path ≡ Some (event_entry number 0) → integer_in timeout w ≡ (Ok time, w) →
+        waited (Some number) timeout w ≡ (Ok (Integer (ones w.width)), w) }
+{}
+
+/// Signals that no Wait took outlive the table or the answer in which they were given: where it ends the event counts
+/// what its last term left, though mutexes are free then.
+#[tactic(auto, using(crate::proofs::EventsCounted::table_keeps_signals, crate::proofs::EventsCounted::answer_keeps_signals))]
+pub fn signals_outlive_an_answer<S>()
+    ensures tables { (path : List Seg) (number count : ℕ) (accesses : Accesses S) (bytes : List ℕ) (steps : ℕ)
+        (w : State S) → get (table_run accesses steps bytes w).1.names.map path ≡ Some (event_entry number count) →
+        get (loaded accesses bytes steps w).1.names.map path ≡ Some (event_entry number count) }
+    ensures answers { (path : List Seg) (number count : ℕ) (accesses : Accesses S) (p : List Seg)
+        (arguments : List Given) (steps : ℕ) (w : State S) →
+        get (with_steps steps (answer_exported accesses p (length arguments) arguments) w).1.names.map path ≡
+        Some (event_entry number count) →
+        get (answered accesses p arguments steps w).1.names.map path ≡ Some (event_entry number count) }
 {}

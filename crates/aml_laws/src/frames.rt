@@ -3,9 +3,10 @@ ghost use Rattle.std.specs.Prelude.{◌≡◌, ◌++◌, ◌∷◌, [], ℕ, Lis
 ghost use Rattle.ar_space.specs.Accesses.{Accesses};
 ghost use Rattle.ar_space.specs.declared.integer_width.IntegerWidth.{IntegerWidth};
 ghost use Rattle.aml_objects.specs.declared.value.Value.{Value};
+ghost use Rattle.aml_meaning.specs.declared.profile.Profile.{Profile};
 ghost use Rattle.aml_meaning.specs.State.{State};
 ghost use Rattle.aml_meaning.specs.Slots.{opened};
-ghost use Rattle.aml_meaning.specs.Predefined.{fresh, predefined};
+ghost use Rattle.aml_meaning.specs.Predefined.{fresh_as, predefined};
 ghost use Rattle.aml_laws.specs.Becomes.{Becomes};
 ghost use Rattle.aml_laws.specs.Numbers.{numbers_of, RiseTo};
 
@@ -18,14 +19,15 @@ pub fn frames_are_balanced<S>()
 {}
 
 /// No frame's number is ever given again. Those that stand have rising numbers, all below the next frame's, after
-/// whatever is evaluated from the predefined names on; and a frame that is opened stands behind them, under the next
-/// number.
+/// whatever is evaluated from the predefined names on, in either profile; and a frame that is opened stands behind
+/// them, under the next number.
 #[tactic(auto, using(crate::proofs::FrameNumbers::frames_rise, crate::proofs::FrameNumbers::frames_rise_always, crate::proofs::FrameNumbers::frames_rise_opened, crate::proofs::FrameNumbers::frame_is_new))]
 pub fn frame_numbers_are_given_once<S>()
     ensures kept { (accesses : Accesses S) (w v : State S) → Becomes accesses w v →
         RiseTo w.started (numbers_of w.frames) → RiseTo v.started (numbers_of v.frames) }
-    ensures always { (accesses : Accesses S) (width : IntegerWidth) (osi : List (List ℕ)) (space : S) (w : State S) →
-        Becomes accesses (predefined (fresh width osi space)).1 w → RiseTo w.started (numbers_of w.frames) }
+    ensures always { (accesses : Accesses S) (profile : Profile) (width : IntegerWidth) (osi : List (List ℕ))
+        (space : S) (w : State S) → Becomes accesses (predefined (fresh_as profile width osi space)).1 w →
+        RiseTo w.started (numbers_of w.frames) }
     ensures opened { (arguments : List Value) (w : State S) (number : ℕ) → RiseTo w.started (numbers_of w.frames) →
         (opened arguments w).0 ≡ Ok number →
         RiseTo (opened arguments w).1.started (numbers_of (opened arguments w).1.frames) }

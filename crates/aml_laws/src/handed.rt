@@ -1,13 +1,16 @@
 //! Data that is handed in and handed out again.
-ghost use Rattle.std.specs.Prelude.{◌≡◌, ◌+◌, ℕ, Ok};
+ghost use Rattle.std.specs.Prelude.{◌≡◌, ◌+◌, ℕ, List, Ok};
 ghost use Rattle.ar_space.specs.Accesses.{Accesses};
+ghost use Rattle.aml_path.specs.declared.segment.Seg.{Seg};
 ghost use Rattle.aml_objects.specs.declared.value.Value.{Value};
 ghost use Rattle.aml_namespace.specs.Numbering.{Numbered};
 ghost use Rattle.aml_meaning.specs.Given.{Given};
 ghost use Rattle.aml_meaning.specs.State.{State};
 ghost use Rattle.aml_meaning.specs.Importing.{imported};
 ghost use Rattle.aml_meaning.specs.Exporting.{exported};
+ghost use Rattle.aml_meaning.specs.Calling.{answered};
 ghost use Rattle.aml_laws.specs.HandedBack.{ComesBack, elements_of};
+ghost use Rattle.aml_laws.specs.HandedIn.{NestsWithin};
 
 /// What is handed in is handed out as it was, to its last element: integers that fit the width, texts, bytes, packages
 /// of these, and paths at which a name stands that is no alias. It costs a step for each element, and changes nothing.
@@ -19,4 +22,14 @@ pub fn what_is_handed_in_is_handed_out_as_it_was<S>()
     ensures same { (accesses : Accesses S) (g : Given) (v : Value) (w after : State S) (steps rest : ℕ) →
         Numbered w.names → ComesBack w.width w.names.map g → imported g w ≡ (Ok v, after) →
         steps ≡ elements_of g + rest → exported accesses v (after, steps) ≡ (Ok g, (after, rest)) }
+{}
+
+/// Whatever is handed in and isn't refused, and whatever an object answers, nests at most 64 packages deep, wherever in
+/// a package the next one stands and whether a name leads to it. An answer that goes on through names is refused by
+/// this.
+#[tactic(auto, using(crate::proofs::NestedData::handed_in_nests, crate::proofs::NestedData::answer_nests))]
+pub fn data_nests_at_most_64_deep<S>()
+    ensures handed_in { (g : Given) (w : State S) (v : Value) → (imported g w).0 ≡ Ok v → NestsWithin 64 g }
+    ensures answers { (accesses : Accesses S) (path : List Seg) (arguments : List Given) (steps : ℕ) (w : State S)
+        (g : Given) → (answered accesses path arguments steps w).0 ≡ Ok g → NestsWithin 64 g }
 {}

@@ -10,12 +10,13 @@ ghost use Rattle.aml_meaning.specs.Tasks.{Task, in_turn};
 ghost use Rattle.aml_meaning.specs.Meaning.{meaning};
 ghost use Rattle.aml_meaning.specs.Calling.{loaded, evaluated, answered};
 ghost use Rattle.aml_meaning.specs.Given.{Given};
-ghost use Rattle.aml_meaning.specs.Predefined.{fresh, predefined};
+ghost use Rattle.aml_meaning.specs.Predefined.{fresh_as, predefined};
 ghost use Rattle.aml_convert.specs.declared.operators.Division.{Division};
 ghost use Rattle.aml_meaning.specs.declared.term_kind.OneOperand.{OneOperand};
 ghost use Rattle.aml_meaning.specs.declared.term_kind.TwoOperands.{TwoOperands};
 ghost use Rattle.aml_meaning.specs.declared.term_kind.Test.{Test};
 ghost use Rattle.aml_meaning.specs.declared.term_kind.Count.{Count};
+ghost use Rattle.aml_meaning.specs.declared.profile.Profile.{Profile};
 ghost use Rattle.aml_meaning.specs.State.{State};
 ghost use Rattle.aml_meaning.specs.Readings.{integer_kept, integer_in};
 ghost use Rattle.aml_meaning.specs.Regions.{value_of_bits};
@@ -46,13 +47,13 @@ pub fn operators_form_integers_of_the_width<S>()
 
 /// Every integer is below two to the width: where those of the world are (in names, objects and frames), and bytes
 /// below 256 in objects, in the bodies of control methods, in the terms and in what is handed in, they are after an
-/// evaluation, however it ends; and a value that it gives is, or that an answer hands out. Integers that are handed
-/// in may be any. So it is from the predefined names on. A string or a buffer has at most 1,048,576 bytes, a package
-/// at most 65,535 elements, a field at most 8,388,608 bits.
+/// evaluation, however it ends; and a value that it gives is, or that an answer hands out. Integers that are handed in
+/// may be any. So it is from the predefined names on, in either profile. A string or a buffer has at most 1,048,576
+/// bytes, a package at most 65,535 elements, a field at most 8,388,608 bits.
 #[tactic(auto, using(crate::proofs::IntegersOfRules::term_value_within))]
 pub fn integers_stay_below_two_to_the_width<S>()
-    ensures first { (width : IntegerWidth) (osi : List (List ℕ)) (space : S) →
-        AllWithin width (predefined (fresh width osi space)).1 }
+    ensures first { (profile : Profile) (width : IntegerWidth) (osi : List (List ℕ)) (space : S) →
+        AllWithin width (predefined (fresh_as profile width osi space)).1 }
     ensures terms { (width : IntegerWidth) (accesses : Accesses S) (t : Task) (s : State S × ℕ) → PlainTree t.term →
         AllWithin width s.0 → AllWithin width (meaning accesses t s).1.0 }
     ensures values { (width : IntegerWidth) (accesses : Accesses S) (t : Task) (s : State S × ℕ) (v : Value) →

@@ -5,9 +5,10 @@ ghost use Rattle.ar_space.specs.declared.integer_width.IntegerWidth.{IntegerWidt
 ghost use Rattle.aml_objects.specs.declared.value.Value.{Value};
 ghost use Rattle.aml_namespace.specs.Namespace.{numbered};
 ghost use Rattle.aml_namespace.specs.Numbering.{Numbered};
+ghost use Rattle.aml_meaning.specs.declared.profile.Profile.{Profile};
 ghost use Rattle.aml_meaning.specs.State.{State};
 ghost use Rattle.aml_meaning.specs.Slots.{opened};
-ghost use Rattle.aml_meaning.specs.Predefined.{fresh, predefined};
+ghost use Rattle.aml_meaning.specs.Predefined.{fresh_as, predefined};
 ghost use Rattle.aml_laws.specs.Becomes.{Becomes};
 
 /// The numbers of the next declaration and the next frame never fall.
@@ -19,13 +20,14 @@ pub fn numbers_never_fall<S>()
 {}
 
 /// Each declaration's number is below the next one, and no two that stand have the same: so it is after whatever is
-/// evaluated from the predefined names on, and in the frame of a control method that is opened then.
+/// evaluated from the predefined names on, in either profile, and in the frame of a control method that is opened then.
 #[tactic(auto, using(crate::proofs::DeclarationNumbers::numbered_always, crate::proofs::DeclarationNumbers::numbered_stays, crate::proofs::DeclarationNumbers::numbered_opened))]
 pub fn numbers_are_given_once<S>()
     ensures kept { (accesses : Accesses S) (w v : State S) → Becomes accesses w v →
         Numbered w.names → Numbered v.names }
-    ensures always { (accesses : Accesses S) (width : IntegerWidth) (osi : List (List ℕ)) (space : S) (w : State S) →
-        Becomes accesses (predefined (fresh width osi space)).1 w → Numbered w.names }
+    ensures always { (accesses : Accesses S) (profile : Profile) (width : IntegerWidth) (osi : List (List ℕ))
+        (space : S) (w : State S) → Becomes accesses (predefined (fresh_as profile width osi space)).1 w →
+        Numbered w.names }
     ensures opened { (arguments : List Value) (w : State S) → Numbered w.names → Numbered (opened arguments w).1.names }
 {}
 

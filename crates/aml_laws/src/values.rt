@@ -1,17 +1,19 @@
 //! Conversions, comparisons and what two values are joined to.
-ghost use Rattle.std.specs.Prelude.{◌≡◌, ◌<◌, ◌^◌, ◌++◌, ◌∷◌, [], ℕ, List, Ok};
+ghost use Rattle.std.specs.Prelude.{◌≡◌, ◌⊎◌, ◌<◌, ◌-◌, ◌*◌, ◌^◌, ◌++◌, ◌∷◌, [], ℕ, List, length, nat_lt, true, Ok};
+ghost use Rattle.std.specs.List.{list_all};
 ghost use Rattle.std.specs.Int.Digits.{digits_of};
 ghost use Rattle.std.specs.declared.cmp.Ordering.TheVariants.{Less};
 ghost use Rattle.ar_space.specs.declared.integer_width.IntegerWidth.{IntegerWidth};
 ghost use Rattle.acpi_resources.specs.Items.{items_of};
 ghost use Rattle.aml_objects.specs.Contents.{Integer, String, Buffer};
-ghost use Rattle.aml_convert.specs.Integers.{bits_of};
+ghost use Rattle.aml_convert.specs.Integers.{bits_of, bytes_of};
 ghost use Rattle.aml_convert.specs.Conversions.{to_integer_of, to_text_of, explicit_integer_of, compared};
 ghost use Rattle.aml_convert.specs.Strings.{decimal_string_of};
 ghost use Rattle.aml_convert.specs.Decimals.{coded_decimal, decoded_decimal};
 ghost use Rattle.aml_convert.specs.Concatenation.{resources_joined};
+ghost use Rattle.aml_laws.specs.Digits.{is_upper_digit};
 ghost use Rattle.aml_laws.specs.Ordered.{IsTotal};
-ghost use Rattle.aml_laws.specs.ResourceLists.{before_end_tag, end_tag};
+ghost use Rattle.aml_laws.specs.ResourceLists.{before_end_tag, end_tag, HasEndTag};
 
 /// An integer of a width is read back from the string that it is converted to, by its hexadecimal digits, and by
 /// ToInteger from what ToDecimalString gives. Digits in the wrong order, too few of them, or digits that are read in
@@ -65,4 +67,26 @@ pub fn binary_coded_decimal_has_the_decimal_digits()
 pub fn joined_resources_have_the_items_of_both()
     ensures items { (first second joined : List ℕ) → resources_joined (Buffer first) (Buffer second) ≡ Ok joined →
         items_of joined ≡ before_end_tag (items_of first) ++ before_end_tag (items_of second) ++ end_tag ∷ [] }
+{}
+
+/// Each integer has a string: all the digits of its width, upper-case hexadecimal ones, or its decimal digits; and each
+/// buffer one of two digits for each byte, with blanks between them. ToBCD answers of each number that has no more
+/// decimal digits than the width has hexadecimal ones, and FromBCD of each whose hexadecimal digits are decimal ones.
+/// Two buffers of resource items are joined where each is empty or has an end tag. A conversion that refuses these, or
+/// that leaves leading zeros out of a hexadecimal string, is refused by this.
+#[tactic(auto, using(crate::proofs::ConversionsAnswered::text_answers, crate::proofs::ConversionsAnswered::decimal_answers, crate::proofs::ConversionsAnswered::buffer_answers, crate::proofs::ConversionsAnswered::coded_answers, crate::proofs::ConversionsAnswered::decoded_answers, crate::proofs::ConversionsAnswered::joined_answers))]
+pub fn conversions_answer()
+    ensures hexadecimal { (width : IntegerWidth) (n : ℕ) → (text : List ℕ) ×
+        ((to_text_of width (Integer n) ≡ Ok text) × ((length text ≡ 2 * bytes_of width) ×
+        (list_all is_upper_digit text ≡ true))) }
+    ensures decimal { (n : ℕ) → (text : List ℕ) × (decimal_string_of (Integer n) ≡ Ok text) }
+    ensures of_buffer { (width : IntegerWidth) (bytes : List ℕ) → (text : List ℕ) ×
+        ((to_text_of width (Buffer bytes) ≡ Ok text) × (length text ≡ 3 * length bytes - 1)) }
+    ensures coded { (width : IntegerWidth) (n : ℕ) → n < 10 ^ (2 * bytes_of width) →
+        (code : ℕ) × (coded_decimal width n ≡ Ok code) }
+    ensures decoded { (code : ℕ) → list_all (λ d. nat_lt d 10) (digits_of 16 code) ≡ true →
+        (n : ℕ) × (decoded_decimal code ≡ Ok n) }
+    ensures joined { (first second : List ℕ) → (first ≡ []) ⊎ HasEndTag (items_of first) →
+        (second ≡ []) ⊎ HasEndTag (items_of second) →
+        (joined : List ℕ) × (resources_joined (Buffer first) (Buffer second) ≡ Ok joined) }
 {}

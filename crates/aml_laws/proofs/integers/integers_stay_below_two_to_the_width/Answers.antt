@@ -5,7 +5,7 @@ use Rattle.aml_laws.proofs.IntegersOfTables.{table_within, object_within, object
 use Rattle.aml_laws.proofs.integers.integers_stay_below_two_to_the_width.Goals as goal
 
 pub returns-clause-first : goal.returns-clause-first
-returns-clause-first g c = λ width osi space. predefined_world_within width osi space
+returns-clause-first g c = λ profile width osi space. predefined_world_within profile width osi space
 
 pub returns-clause-terms : goal.returns-clause-terms
 returns-clause-terms g c = λ width accesses t s. term_within width accesses t s

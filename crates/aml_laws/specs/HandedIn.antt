@@ -1,0 +1,47 @@
+-- Data that can be handed in, how many objects are made of it, and how deep packages nest.
+use Rattle.std.specs.Prelude.{◌≡◌, ◌≤◌, ◌+◌, ℕ, zero, suc, List, length, Some, Ok}
+use Rattle.std.specs.FinMap.{get}
+use Rattle.aml_path.specs.declared.segment.Seg.{Seg}
+use Rattle.aml_objects.specs.declared.entry.Entry.{Entry}
+use Rattle.aml_namespace.specs.Namespace.{Map}
+use Rattle.aml_meaning.specs.Given.{Given, Nothing, Integer, Text, Bytes, Package, Named, Reference, Givens, none, more}
+use Rattle.aml_laws.specs.NamesFound.{LeadsTo}
+
+-- packages one inside another: at most so many
+abbrev mutual
+  pub NestsWithin : ℕ → Given → Type 0
+  NestsWithin n Nothing = Unit {0}
+  NestsWithin n (Integer k) = Unit {0}
+  NestsWithin n (Text bytes) = Unit {0}
+  NestsWithin n (Bytes bytes) = Unit {0}
+  NestsWithin zero (Package gs) = ⊥
+  NestsWithin (suc n) (Package gs) = AllNestWithin n gs
+  NestsWithin n (Named path) = Unit {0}
+  NestsWithin n Reference = Unit {0}
+
+  pub AllNestWithin : ℕ → Givens → Type 0
+  AllNestWithin n none = Unit {0}
+  AllNestWithin n (more g gs) = NestsWithin n g × AllNestWithin n gs
+
+-- how many elements a package has
+abbrev pub many : Givens → ℕ
+many none = 0
+many (more g gs) = suc (many gs)
+
+mutual
+  -- Texts and bytes are at most 1,048,576 long, packages have at most 65,535 elements and nest at most so deep, and each path is that of a
+  -- name that stands, or of an alias of one. So many objects are made of it. A reference without a path can't be handed in.
+  pub data MayBeHandedIn (names : Map) : ℕ → ℕ → Given → Type 0 where
+    nothing : (deep : ℕ) → MayBeHandedIn names deep 0 Nothing
+    integer : (deep n : ℕ) → MayBeHandedIn names deep 0 (Integer n)
+    text : (deep : ℕ) (bytes : List ℕ) → length bytes ≤ 1048576 → MayBeHandedIn names deep 1 (Text bytes)
+    some_bytes : (deep : ℕ) (bytes : List ℕ) → length bytes ≤ 1048576 → MayBeHandedIn names deep 1 (Bytes bytes)
+    named : (deep : ℕ) (path at : List Seg) (entry other : Entry) → get names path ≡ Some entry
+        → LeadsTo names path entry (Ok (at, other)) → MayBeHandedIn names deep 0 (Named path)
+    of_package : (deep count : ℕ) (gs : Givens) → many gs ≤ 65535 → AllMayBeHandedIn names deep count gs
+        → MayBeHandedIn names (suc deep) (suc count) (Package gs)
+
+  pub data AllMayBeHandedIn (names : Map) : ℕ → ℕ → Givens → Type 0 where
+    no_more : (deep : ℕ) → AllMayBeHandedIn names deep 0 none
+    one_more : (deep count rest : ℕ) (g : Given) (gs : Givens) → MayBeHandedIn names deep count g
+        → AllMayBeHandedIn names deep rest gs → AllMayBeHandedIn names deep (count + rest) (more g gs)
