@@ -25,6 +25,7 @@ pub mod CleanReading
 pub mod CleanValues
 pub mod CleanWorlds
 pub mod ConversionsAnswered
+pub mod CopiesAnswered
 pub mod CopiesApart
 pub mod Costs
 pub mod CountNeverFalls
@@ -67,6 +68,7 @@ pub mod FieldsTogether
 pub mod FoundNamesStand
 pub mod FrameNumbers
 pub mod HandedBack
+pub mod HandedIn
 pub mod IndexRegisters
 pub mod IndexedFields
 pub mod BankedFields

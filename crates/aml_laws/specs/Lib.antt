@@ -5,6 +5,7 @@ pub mod Becomes
 pub mod BusesFound
 pub mod Calls
 pub mod Copied
+pub mod Copyable
 pub mod CostsOfTrees
 pub mod Counted
 pub mod CountedEvaluations

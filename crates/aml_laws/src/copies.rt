@@ -1,9 +1,10 @@
 //! Copies of values.
-ghost use Rattle.std.specs.Prelude.{◌≡◌, ◌++◌, length, Ok};
+ghost use Rattle.std.specs.Prelude.{◌≡◌, ◌≤◌, ◌++◌, ◌+◌, ℕ, length, Ok};
 ghost use Rattle.aml_objects.specs.Objects.{Objects};
 ghost use Rattle.aml_objects.specs.Copies.{copied};
 ghost use Rattle.aml_objects.specs.declared.value.Value.{Value};
 ghost use Rattle.aml_laws.specs.Copied.{IsCopy};
+ghost use Rattle.aml_laws.specs.Copyable.{IsCopyable};
 
 /// A copy holds the same integers, bytes and references as its source, element by element, and shares no object with
 /// it: each string, buffer and package of the copy, however deep, is an object that was not there before, and all that
@@ -15,4 +16,14 @@ pub fn a_copy_is_the_same_apart_from_its_source()
         IsCopy (length before) after v u }
     ensures added { (before after : Objects) (v u : Value) → copied v before ≡ (Ok u, after) →
         (made : Objects) × (after ≡ before ++ made) }
+{}
+
+/// A value is copied where its objects stand, its packages nest at most 64 deep, and there is room for as many objects
+/// as it has: the copy makes that many and no more. So no copy is refused that is within the limits, and one that makes
+/// an object for an integer, or none for a string, is refused by this.
+#[tactic(auto, using(crate::proofs::CopiesAnswered::copy_answers))]
+pub fn what_is_within_the_limits_is_copied()
+    ensures { (objects : Objects) (count : ℕ) (v : Value) → IsCopyable objects 64 count v →
+        length objects + count ≤ 262144 → (u : Value) × ((made : Objects) ×
+        ((copied v objects ≡ (Ok u, objects ++ made)) × (length made ≡ count))) }
 {}

@@ -1,7 +1,8 @@
 //! Data that is handed in and handed out again.
-ghost use Rattle.std.specs.Prelude.{◌≡◌, ◌+◌, ℕ, List, Ok};
+ghost use Rattle.std.specs.Prelude.{◌≡◌, ◌≤◌, ◌++◌, ◌+◌, ℕ, List, length, Ok};
 ghost use Rattle.ar_space.specs.Accesses.{Accesses};
 ghost use Rattle.aml_path.specs.declared.segment.Seg.{Seg};
+ghost use Rattle.aml_objects.specs.Objects.{Objects};
 ghost use Rattle.aml_objects.specs.declared.value.Value.{Value};
 ghost use Rattle.aml_namespace.specs.Numbering.{Numbered};
 ghost use Rattle.aml_meaning.specs.Given.{Given};
@@ -10,7 +11,7 @@ ghost use Rattle.aml_meaning.specs.Importing.{imported};
 ghost use Rattle.aml_meaning.specs.Exporting.{exported};
 ghost use Rattle.aml_meaning.specs.Calling.{answered};
 ghost use Rattle.aml_laws.specs.HandedBack.{ComesBack, elements_of};
-ghost use Rattle.aml_laws.specs.HandedIn.{NestsWithin};
+ghost use Rattle.aml_laws.specs.HandedIn.{NestsWithin, MayBeHandedIn};
 
 /// What is handed in is handed out as it was, to its last element: integers that fit the width, texts, bytes, packages
 /// of these, and paths at which a name stands that is no alias. It costs a step for each element, and changes nothing.
@@ -22,6 +23,18 @@ pub fn what_is_handed_in_is_handed_out_as_it_was<S>()
     ensures same { (accesses : Accesses S) (g : Given) (v : Value) (w after : State S) (steps rest : ℕ) →
         Numbered w.names → ComesBack w.width w.names.map g → imported g w ≡ (Ok v, after) →
         steps ≡ elements_of g + rest → exported accesses v (after, steps) ≡ (Ok g, (after, rest)) }
+{}
+
+/// What is within the limits is handed in: texts and bytes of at most 1,048,576 bytes, packages of at most 65,535
+/// elements that nest at most 64 deep, and paths at which a name stands, or an alias of one, where there is room for an
+/// object for each text, each list of bytes and each package. That many are made and no more, and nothing else changes.
+/// Which value it is `what_is_handed_in_is_handed_out_as_it_was` says. One that refuses all packages is refused by
+/// this.
+#[tactic(auto, using(crate::proofs::HandedIn::handed_in))]
+pub fn what_is_within_the_limits_is_handed_in<S>()
+    ensures { (w : State S) (count : ℕ) (g : Given) → MayBeHandedIn w.names.map 64 count g →
+        length w.objects + count ≤ 262144 → (v : Value) × ((made : Objects) ×
+        ((imported g w ≡ (Ok v, record w { objects = w.objects ++ made })) × (length made ≡ count))) }
 {}
 
 /// Whatever is handed in and isn't refused, and whatever an object answers, nests at most 64 packages deep, wherever in

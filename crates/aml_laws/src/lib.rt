@@ -38,14 +38,17 @@ pub use buffer_fields::{
     a_write_of_a_buffer_field_leaves_other_bits,
 };
 pub use calls::calls_leave_nothing;
-pub use copies::a_copy_is_the_same_apart_from_its_source;
+pub use copies::{a_copy_is_the_same_apart_from_its_source, what_is_within_the_limits_is_copied};
 pub use declarations::refused_names_change_nothing;
 pub use events::{
     a_wait_takes_a_signal, signals_are_counted_one_by_one, signals_outlive_an_answer,
 };
 pub use field_lists::{fields_lie_where_their_list_lays_them_out, fields_of_a_list_are_in_order};
 pub use frames::{frame_numbers_are_given_once, frames_are_balanced};
-pub use handed::{data_nests_at_most_64_deep, what_is_handed_in_is_handed_out_as_it_was};
+pub use handed::{
+    data_nests_at_most_64_deep, what_is_handed_in_is_handed_out_as_it_was,
+    what_is_within_the_limits_is_handed_in,
+};
 pub use index_fields::index_fields_are_accessed_unit_by_unit;
 pub use integers::{integers_stay_below_two_to_the_width, operators_form_integers_of_the_width};
 pub use limits::{
