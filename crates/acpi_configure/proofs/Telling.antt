@@ -43,6 +43,9 @@ module _ {S : Type 0} (s : MachineState S) where
   pub one_tabled : (list after ps : List (List Seg)) (p : List Seg) → list ≡ filter (has_table s) ps → has_table s p ≡ true → after ≡ list ++ p ∷ [] → after ≡ filter (has_table s) (ps ++ p ∷ [])
   one_tabled list after ps p so is e = rw (e, so, filtered ps p, is) refl
 
+  pub tabled : (p : List Seg) (b is : Bool) → Answers (Ok b) (Ok (has_table s p)) → b ≡ is → has_table s p ≡ is
+  tabled p b is a e = let same : has_table s p ≡ b = cc (a.is tt) in same ∙ e
+
   pub none_tabled : (list ps : List (List Seg)) (p : List Seg) → list ≡ filter (has_table s) ps → has_table s p ≡ false → list ≡ filter (has_table s) (ps ++ p ∷ [])
   none_tabled list ps p so is = rw (so, filtered ps p, is) (sym (append-nil (filter (has_table s) ps)))
 

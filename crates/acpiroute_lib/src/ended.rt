@@ -22,7 +22,7 @@ use std::alloc::Global;
 
 /// What a run of `route` is asked for, by its words.
 pub(crate) fn options_of(avoid: &[u32], flags: Flags) -> Options<'_>
-    ensures { result.now ≡ options_of avoid.now flags }
+    ensures { result ≡ options_of avoid.now flags }
 {
     Options {
         dry: flags.dry,
