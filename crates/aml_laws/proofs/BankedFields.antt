@@ -29,11 +29,11 @@ use Rattle.aml_laws.proofs.IndexedFields.{Over, with_space, over, then_over, spa
 
 -- a register as wide as this holds the value
 register_holds : {S : Type 0} (w : State S) (n : ℕ) (register : Register) (is : IsRegister w n register) (value : ℕ) → value < 2 ^ bit_count register.width → bank_held is.field value ≡ Ok tt
-register_holds w n register is value fits = held_if _ (lt-ltb value (2 ^ is.field.unit.bits) (subst (λ b. value < 2 ^ b) (sym is.whole) fits))
+register_holds w n register is value fits = held_if _ _ (lt-ltb value (2 ^ is.field.unit.bits) (subst (λ b. value < 2 ^ b) (sym is.whole) fits))
   where
-    held_if : (b : Bool) {x : Outcome (Unit {0})} → b ≡ true → (if b then Ok tt else x) ≡ Ok tt
-    held_if true e = refl
-    held_if false e = absurd (cc e)
+    held_if : (b : Bool) (x : Outcome (Unit {0})) → b ≡ true → (if b then Ok tt else x) ≡ Ok tt
+    held_if true x e = refl
+    held_if false x e = absurd (cc e)
 
 module _ {S : Type 0} (w : State S) (steps : ℕ) where
   kept_or_over : (rule : UpdateRule) (whole : Bool) (m : Run S ℕ) (k : Change S ℕ) → Over w steps m k → Over w steps (λ h. if whole then (Ok 0, h) else kept_by rule m h) (λ s. if whole then (Ok 0, s) else kept_by rule k s)

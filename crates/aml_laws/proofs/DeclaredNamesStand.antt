@@ -15,7 +15,7 @@ use Rattle.aml_path.specs.Paths.{Name, resolved}
 use Rattle.aml_grammar.specs.declared.opcode.Opcode.{Opcode}
 use Rattle.aml_grammar.specs.declared.opcode.TermCode.{TermCode}
 use Rattle.aml_grammar.specs.declared.opcode.TermCode.TheVariants as codes
-use Rattle.aml_grammar.specs.Tree.{Tree, Trees}
+use Rattle.aml_grammar.specs.Tree.{Tree, Trees, tree}
 use Rattle.aml_grammar.specs.Apart.{code_of, operand_of, name_of}
 use Rattle.aml_objects.specs.declared.entry.MethodFlags.{MethodFlags}
 use Rattle.aml_objects.specs.declared.entry.NamedObject.{NamedObject}

@@ -24,7 +24,7 @@ use Rattle.aml_laws.proofs.WorldRelations.{WorldRelation, RunPreserves}
 
 -- ---- world relations
 
-module _ {S : Type 0} {accesses : Accesses S} {relation : WorldRelation accesses} where
+module _ {S : Type 0} {accesses : Accesses S} (relation : WorldRelation accesses) where
   refusal_preserves : (b : Bool) (scope : List Seg) (e : Refusal) (s : State S × ℕ) → relation.Leads s.0 (if◌then◌else◌ {A = Outcome Flow × (State S × ℕ)} b (Ok flow.Next, (with_passed scope e s.0, s.1)) (Err e, s)).1.0
   refusal_preserves true scope e s = relation.passed_noted s.0 _
   refusal_preserves false scope e s = relation.reflexive s.0
@@ -34,9 +34,10 @@ module _ {S : Type 0} {accesses : Accesses S} {relation : WorldRelation accesses
   done_preserves scope (Ok f) s = relation.reflexive s.0
   done_preserves scope (Err e) s = refusal_preserves (is_passable e) scope e s
 
+module _ {S : Type 0} {accesses : Accesses S} {relation : WorldRelation accesses} where
   pub passing_preserves : (scope : List Seg) (m : Run S Flow) → RunPreserves relation m → RunPreserves relation (passing scope m)
   unfolding passing
-  passing_preserves scope m h = record { preserves = λ s. relation.transitive s.0 (m s).1.0 _ (h.preserves s) (done_preserves scope (m s).0 (m s).1) }
+  passing_preserves scope m h = record { preserves = λ s. relation.transitive s.0 (m s).1.0 _ (h.preserves s) (done_preserves relation scope (m s).0 (m s).1) }
 
   pub item_preserves : (ev : Task → Run S Flow) → ((t : Task) → RunPreserves relation (ev t)) → (scope : List Seg) (depth : ℕ) (t : Tree) → RunPreserves relation (item ev scope depth t)
   unfolding item
@@ -69,8 +70,8 @@ module _ {S : Type 0} where
   passing_counts : (scope : List Seg) (m : Run (S × ℕ) Flow) (k : Run S Flow) → RunCounts m k → RunCounts (passing scope m) (passing scope k)
   unfolding passing
   passing_counts scope m k h = record {
-    same = λ s. ap (λ a. item_done scope a.0 a.1) (h.same s) ∙ counted_done scope (m s).0 (m s).1;
-    leads = λ s. (run_view S).transitive s (m s).1 _ (h.leads s) (done_begins scope (m s).0 (m s).1);
+    same = λ s. ap (λ (a : Outcome Flow × (State S × ℕ)). item_done scope a.0 a.1) (h.same s) ∙ counted_done scope (m s).0 (m s).1;
+    leads = λ s. (run_view S).transitive s (m s).1 (item_done scope (m s).0 (m s).1).1 (h.leads s) (done_begins scope (m s).0 (m s).1);
   }
 
   either_counts : (b : Bool) (m n : Run (S × ℕ) Flow) (k l : Run S Flow) → RunCounts m k → RunCounts n l → RunCounts (λ s. if b then m s else n s) (λ s. if b then k s else l s)

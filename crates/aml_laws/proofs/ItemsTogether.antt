@@ -68,7 +68,7 @@ module _ {S T : Type 0} {accesses : Accesses S} {accesses2 : Accesses T} (side :
   done_ended scope (Err e) s h = refused_ended (is_passable e) scope e s refl h
 
   done_comes : (scope : List Seg) (p : Outcome Flow × (State S × ℕ)) (q : Outcome Flow × (State T × ℕ)) → Comes side runs p q → Comes side runs (item_done scope p.0 p.1) (item_done scope q.0 q.1)
-  done_comes scope p q (inl parted) = inl (subst (λ s. side.beside.Parted s _) (sym (done_space scope p.0 p.1)) (subst (λ t. side.beside.Parted p.1.0.space t) (sym (done_space scope q.0 q.1)) parted))
+  done_comes scope p q (inl parted) = inl (subst (λ s. side.beside.Parted s (item_done scope q.0 q.1).1.0.space) (sym (done_space scope p.0 p.1)) (subst (λ t. side.beside.Parted p.1.0.space t) (sym (done_space scope q.0 q.1)) parted))
   done_comes scope p q (inr (inl ended)) = inr (inl (done_ended scope p.0 p.1 ended))
   done_comes scope p q (inr (inr (t, is, i))) =
       inr (inr (t, ap (λ (a : Outcome Flow × (State T × ℕ)). item_done scope a.0 a.1) is ∙ done_over side.raise side.more scope p.0 p.1 t, subst (λ s. side.beside.InStep s t) (sym (done_space scope p.0 p.1)) i))
@@ -89,10 +89,10 @@ module _ {S T : Type 0} {accesses : Accesses S} {accesses2 : Accesses T} (side :
 
 module _ {S T : Type 0} {accesses : Accesses S} {accesses2 : Accesses T} {side : Sides accesses accesses2} where
   same_together : {m m2 : Run S Flow} {n n2 : Run T Flow} → ((s : State S × ℕ) → m2 s ≡ m s) → ((u : State T × ℕ) → n2 u ≡ n u) → Together side runs m n → Together side runs m2 n2
-  same_together {m2 = m2} {n = n} a b h = record {
+  same_together {m = m} {n2 = n2} a b h = record {
     left_parted = λ s t p. subst (λ x. side.beside.Parted x.1.0.space t) (sym (a s)) (h.left_parted s t p);
     right_parted = λ s u p. subst (λ x. side.beside.Parted s x.1.0.space) (sym (b u)) (h.right_parted s u p);
-    goes = λ s t i. subst (λ x. Comes side runs x _) (sym (a s)) (subst (λ y. Comes side runs _ y) (sym (b (over side.raise side.more s t))) (h.goes s t i));
+    goes = λ s t i. subst (λ x. Comes side runs x (n2 (over side.raise side.more s t))) (sym (a s)) (subst (λ y. Comes side runs (m s) y) (sym (b (over side.raise side.more s t))) (h.goes s t i));
   }
 
 module _ {S : Type 0} (ev : Task → Run S Flow) (scope : List Seg) (depth : ℕ) (t : Tree) where

@@ -18,15 +18,15 @@ use Rattle.aml_laws.proofs.Together.{SideBySide, Sides, Passes, MayPass, Shape, 
 pub no_module : (depth : ℕ) → module_level (depth + 1) ≡ false
 no_module depth = grind arith
 
-passes_more : {raise : Profile → Profile} {Ends : Refusal → Type 0} {more : ℕ → ℕ} (listed : Bool) (p : Passes raise Ends more) → Passes raise (λ e. Ends e ⊎ ((listed ≡ true) × MayPass p e)) more
+abbrev pub passes_more : {raise : Profile → Profile} {Ends : Refusal → Type 0} {more : ℕ → ℕ} (listed : Bool) (p : Passes raise Ends more) → Passes raise (λ e. Ends e ⊎ ((listed ≡ true) × MayPass p e)) more
 passes_more listed (inl h) = inl (h.0, λ e holds x. elim x [ inl k ↦ h.1 e holds k | inr k ↦ k.1 ])
 passes_more listed (inr h) = inr h
 
-core_more : {raise : Profile → Profile} {Ends More : Refusal → Type 0} → (raise profiles.Core ≡ profiles.Core) ⊎ ((e : Refusal) → LeftOut e → Ends e) → (raise profiles.Core ≡ profiles.Core) ⊎ ((e : Refusal) → LeftOut e → Ends e ⊎ More e)
-core_more (inl h) = inl h
-core_more (inr h) = inr (λ e k. inl (h e k))
+abbrev pub core_more : (raise : Profile → Profile) {Ends More : Refusal → Type 0} → (raise profiles.Core ≡ profiles.Core) ⊎ ((e : Refusal) → LeftOut e → Ends e) → (raise profiles.Core ≡ profiles.Core) ⊎ ((e : Refusal) → LeftOut e → Ends e ⊎ More e)
+core_more raise (inl h) = inl h
+core_more raise (inr h) = inr (λ e k. inl (h e k))
 
-none_more : {more : ℕ → ℕ} {E M : Type 0} → ((n : ℕ) → more n ≡ n) ⊎ E → ((n : ℕ) → more n ≡ n) ⊎ (E ⊎ M)
+abbrev pub none_more : {more : ℕ → ℕ} {E M : Type 0} → ((n : ℕ) → more n ≡ n) ⊎ E → ((n : ℕ) → more n ≡ n) ⊎ (E ⊎ M)
 none_more (inl h) = inl h
 none_more (inr h) = inr (inl h)
 
@@ -38,7 +38,7 @@ module _ {S T : Type 0} {accesses : Accesses S} {accesses2 : Accesses T} where
     raise = side.raise;
     Ends = λ e. side.Ends e ⊎ ((module_level depth ≡ true) × MayPass side.passes e);
     wide_stays = side.wide_stays;
-    core_stays = core_more side.core_stays;
+    core_stays = core_more side.raise side.core_stays;
     more = side.more;
     more_next = side.more_next;
     none_left = none_more side.none_left;

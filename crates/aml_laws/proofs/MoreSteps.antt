@@ -35,7 +35,7 @@ out_of_steps (Ok a) h = absurd h
 out_of_steps (Err e) h = ap (λ x. Err x) h
 
 never_passed : (e : Refusal) → is_passable e ≡ true → Spends e → ⊥
-never_passed e yes h = absurd (cc (sym yes ∙ ap is_passable h))
+never_passed e holds h = absurd (cc (sym holds ∙ ap is_passable h))
 
 unless : {A B : Type 0} → A ⊎ B → (A → ⊥) → B
 unless (inl a) n = absurd (n a)
