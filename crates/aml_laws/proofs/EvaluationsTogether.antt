@@ -40,9 +40,10 @@ module _ {S T : Type 0} {accesses : Accesses S} {accesses2 : Accesses T} {side :
   unfolding table_terms
   table_terms_together bytes = plain (λ w. terms_kept_space (table_reading bytes w.arities) w) (λ w. terms_kept_space (table_reading bytes w.arities) w) (λ w t. terms_kept_over side.raise (table_reading bytes w.arities) w t)
 
+module _ {S T : Type 0} {accesses : Accesses S} {accesses2 : Accesses T} (side : Sides accesses accesses2) where
   at_root_together : (ts : Trees) → Together (level side 0) runs (at_root accesses ts) (at_root accesses2 ts)
   unfolding at_root
-  at_root_together ts = then_together (list_together [] 0 ts) (λ last. give_together _)
+  at_root_together ts = then_together (list_together side [] 0 ts) (λ last. give_together _)
 
   table_run_together : (steps : ℕ) (bytes : List ℕ) → Together (level side 0) worlds (table_run accesses steps bytes) (table_run accesses2 (side.more steps) bytes)
   unfolding table_run
@@ -52,6 +53,7 @@ module _ {S T : Type 0} {accesses : Accesses S} {accesses2 : Accesses T} {side :
   unfolding loaded
   loaded_together bytes steps = ending_together (table_run_together steps bytes)
 
+module _ {S T : Type 0} {accesses : Accesses S} {accesses2 : Accesses T} {side : Sides accesses accesses2} where
   -- ---- objects that are evaluated
 
   value_of_together : (i : Invocation) (arguments : List Value) → Together side runs (value_of accesses i arguments) (value_of accesses2 i arguments)

@@ -50,7 +50,7 @@ module _ {S T : Type 0} {accesses : Accesses S} {accesses2 : Accesses T} (side :
   step_goes w (suc b) t i =
       subst (λ k. Comes side runs (rule accesses (evaluated_within accesses n) task (w, b)) (evaluated_within accesses2 (suc m) task (world_over side.raise w t, k))) (sym (side.more_next b)) (h.goes (w, b) t i)
 
-module _ {S T : Type 0} {accesses : Accesses S} {accesses2 : Accesses T} {side : Sides accesses accesses2} where
+module _ {S T : Type 0} {accesses : Accesses S} {accesses2 : Accesses T} (side : Sides accesses accesses2) where
   -- no step on the left, and whatever the right one does
   first_ended : (n m : ℕ) (task : Task) → side.Ends (refusal.Evaluation OutOfSteps) → Together (level side task.depth) runs (rule accesses (evaluated_within accesses n) task) (rule accesses2 (evaluated_within accesses2 m) task)
       → Together (level side task.depth) runs (evaluated_within accesses zero task) (evaluated_within accesses2 (suc m) task)
@@ -89,12 +89,12 @@ module _ {S T : Type 0} {accesses : Accesses S} {accesses2 : Accesses T} {side :
 
 -- in the same profile, with as many steps
 alike_within : {S T : Type 0} {accesses : Accesses S} {accesses2 : Accesses T} (beside : SideBySide accesses accesses2) (n : ℕ) (task : Task) → Together (alike beside) runs (evaluated_within accesses n task) (evaluated_within accesses2 n task)
-alike_within beside n task = one_profile beside task.depth (bounded_together {side = alike beside} (λ p. refl) (λ e yes h. h) refl n n (inl refl) task)
+alike_within beside n task = one_profile beside task.depth (bounded_together (alike beside) (λ p. refl) (λ e holds h. h) refl n n (inl refl) task)
 
 within_keeps_profile : {S : Type 0} (accesses : Accesses S) (n : ℕ) (task : Task) (s : State S × ℕ) → (evaluated_within accesses n task s).1.0.profile ≡ s.0.profile
 within_keeps_profile accesses n task s = evaluated_within_preserves (profile_relation accesses) n task s.0 s.1
 
-module _ {S T : Type 0} {accesses : Accesses S} {accesses2 : Accesses T} {side : Sides accesses accesses2} where
+module _ {S T : Type 0} {accesses : Accesses S} {accesses2 : Accesses T} (side : Sides accesses accesses2) where
   -- ---- the right one is wide
 
   wide_parts : (wide : (p : Profile) → side.raise p ≡ profiles.Wide) (same_steps : (n : ℕ) → side.more n ≡ n) → side.passes ≡ inr (wide, same_steps) → (n : ℕ) → ((t : Task) → Together (level side t.depth) runs (evaluated_within accesses n t) (evaluated_within accesses2 n t))
@@ -102,17 +102,17 @@ module _ {S T : Type 0} {accesses : Accesses S} {accesses2 : Accesses T} {side :
   wide_parts wide same_steps is n h = record { part = h; item_of = items_widened side _ _ h wide same_steps is (alike_within side.beside n) (within_keeps_profile accesses n) }
 
   wide_together : (wide : (p : Profile) → side.raise p ≡ profiles.Wide) (same_steps : (n : ℕ) → side.more n ≡ n) → side.passes ≡ inr (wide, same_steps) → (n : ℕ) (task : Task) → Together (level side task.depth) runs (evaluated_within accesses n task) (evaluated_within accesses2 n task)
-  wide_together wide same_steps is zero task = none_together task
-  wide_together wide same_steps is (suc n) task = next_together n n task (rule_together (wide_parts wide same_steps is n (wide_together wide same_steps is n)) task)
+  wide_together wide same_steps is zero task = none_together side task
+  wide_together wide same_steps is (suc n) task = next_together side n n task (rule_together (wide_parts wide same_steps is n (wide_together wide same_steps is n)) task)
 
   -- ---- in both cases
 
   as_many : (p : Passes side.raise side.Ends side.more) → side.passes ≡ p → (n : ℕ) (task : Task) → Together (level side task.depth) runs (evaluated_within accesses n task) (evaluated_within accesses2 n task)
-  as_many (inl h) is n task = bounded_together h.0 h.1 is n n (inl refl) task
+  as_many (inl h) is n task = bounded_together side h.0 h.1 is n n (inl refl) task
   as_many (inr h) is n task = wide_together h.0 h.1 is n task
 
   with_more : (p : Passes side.raise side.Ends side.more) → side.passes ≡ p → (n : ℕ) (task : Task) → Together (level side task.depth) runs (evaluated_within accesses n task) (evaluated_within accesses2 (side.more n) task)
-  with_more (inl h) is n task = bounded_together h.0 h.1 is n (side.more n) (more_fits side n) task
+  with_more (inl h) is n task = bounded_together side h.0 h.1 is n (side.more n) (more_fits side n) task
   with_more (inr h) is n task = subst (λ k. Together (level side task.depth) runs (evaluated_within accesses n task) (evaluated_within accesses2 k task)) (sym (h.1 n)) (wide_together h.0 h.1 is n task)
 
   pub meaning_together : (task : Task) → Together (level side task.depth) runs (meaning accesses task) (meaning accesses2 task)
@@ -123,15 +123,17 @@ module _ {S T : Type 0} {accesses : Accesses S} {accesses2 : Accesses T} {side :
     goes = λ s t i. (with_more side.passes refl s.1 task).goes s t i;
   }
 
-module _ {S T : Type 0} {accesses : Accesses S} {accesses2 : Accesses T} {side : Sides accesses accesses2} where
+module _ {S T : Type 0} {accesses : Accesses S} {accesses2 : Accesses T} (side : Sides accesses accesses2) where
   item_of_meaning : (p : Passes side.raise side.Ends side.more) → side.passes ≡ p → (scope : List Seg) (depth : ℕ) (t : Tree) → Together (level side depth) runs (item (meaning accesses) scope depth t) (item (meaning accesses2) scope depth t)
-  item_of_meaning (inl h) is scope depth t = items_alike side (meaning accesses) (meaning accesses2) meaning_together h.0 h.1 is scope depth t
+  item_of_meaning (inl h) is scope depth t = items_alike side (meaning accesses) (meaning accesses2) (meaning_together side) h.0 h.1 is scope depth t
   item_of_meaning (inr h) is scope depth t =
-      items_widened side (meaning accesses) (meaning accesses2) meaning_together h.0 h.1 is (λ u. one_profile side.beside u.depth (meaning_together {side = alike side.beside} u))
+      items_widened side (meaning accesses) (meaning accesses2) (meaning_together side) h.0 h.1 is (λ u. one_profile side.beside u.depth (meaning_together (alike side.beside) u))
       (λ u s. (meaning_preserves {relation = profile_relation accesses} u).preserves s) scope depth t
 
+module _ {S T : Type 0} {accesses : Accesses S} {accesses2 : Accesses T} {side : Sides accesses accesses2} where
   pub meaning_parts : PartsTogether side (meaning accesses) (meaning accesses2)
-  meaning_parts = record { part = meaning_together; item_of = item_of_meaning side.passes refl }
+  meaning_parts = record { part = meaning_together side; item_of = item_of_meaning side side.passes refl }
 
+module _ {S T : Type 0} {accesses : Accesses S} {accesses2 : Accesses T} (side : Sides accesses accesses2) where
   pub list_together : (scope : List Seg) (depth : ℕ) (ts : Trees) → Together (level side depth) runs (in_turn (meaning accesses) scope depth ts) (in_turn (meaning accesses2) scope depth ts)
   list_together scope depth ts = in_turn_together meaning_parts scope depth ts

@@ -81,13 +81,13 @@ module _ {S : Type 0} (accesses : Accesses S) (k : ℕ) where
   pub term_lengthened : (t : Task) (w : State S) (steps : ℕ) → (meaning accesses t (w, steps)).0 ≢ Err (refusal.Evaluation OutOfSteps)
       → meaning accesses t (w, steps + k) ≡ with_more_left k (meaning accesses t (w, steps))
   unfolding lengthening same_space
-  term_lengthened t w steps enough = unless (run_comes (meaning accesses t (w, steps)) (meaning accesses t (w, steps + k)) ((one t.depth (meaning_together {side = lengthening} t)).goes (w, steps) w.space refl)) enough
+  term_lengthened t w steps enough = unless (run_comes (meaning accesses t (w, steps)) (meaning accesses t (w, steps + k)) ((one t.depth (meaning_together lengthening t)).goes (w, steps) w.space refl)) enough
 
   pub list_lengthened : (scope : List Seg) (depth : ℕ) (ts : Trees) (w : State S) (steps : ℕ) → (in_turn (meaning accesses) scope depth ts (w, steps)).0 ≢ Err (refusal.Evaluation OutOfSteps)
       → in_turn (meaning accesses) scope depth ts (w, steps + k) ≡ with_more_left k (in_turn (meaning accesses) scope depth ts (w, steps))
   unfolding lengthening same_space
   list_lengthened scope depth ts w steps enough =
-      unless (run_comes (in_turn (meaning accesses) scope depth ts (w, steps)) (in_turn (meaning accesses) scope depth ts (w, steps + k)) ((one depth (list_together {side = lengthening} scope depth ts)).goes (w, steps) w.space refl)) enough
+      unless (run_comes (in_turn (meaning accesses) scope depth ts (w, steps)) (in_turn (meaning accesses) scope depth ts (w, steps + k)) ((one depth (list_together lengthening scope depth ts)).goes (w, steps) w.space refl)) enough
 
   pub call_lengthened : (depth : ℕ) (p : List Seg) (body : List ℕ) (arguments : List Value) (w : State S) (steps : ℕ) → (invoked (meaning accesses) depth p body arguments (w, steps)).0 ≢ Err (refusal.Evaluation OutOfSteps)
       → invoked (meaning accesses) depth p body arguments (w, steps + k) ≡ with_more_left k (invoked (meaning accesses) depth p body arguments (w, steps))
@@ -97,7 +97,7 @@ module _ {S : Type 0} (accesses : Accesses S) (k : ℕ) where
 
   pub table_lengthened : (bytes : List ℕ) (steps : ℕ) (w : State S) → (loaded accesses bytes steps w).0 ≢ Err (refusal.Evaluation OutOfSteps) → loaded accesses bytes (steps + k) w ≡ loaded accesses bytes steps w
   unfolding lengthening same_space
-  table_lengthened bytes steps w enough = unless (world_comes (loaded accesses bytes steps w) (loaded accesses bytes (steps + k) w) ((one 0 (loaded_together {side = lengthening} bytes steps)).goes w w.space refl)) enough
+  table_lengthened bytes steps w enough = unless (world_comes (loaded accesses bytes steps w) (loaded accesses bytes (steps + k) w) ((one 0 (loaded_together lengthening bytes steps)).goes w w.space refl)) enough
 
   pub answer_lengthened : (p : List Seg) (arguments : List Given) (steps : ℕ) (w : State S) → (answered accesses p arguments steps w).0 ≢ Err (refusal.Evaluation OutOfSteps) → answered accesses p arguments (steps + k) w ≡ answered accesses p arguments steps w
   unfolding lengthening same_space

@@ -70,11 +70,11 @@ module _ {S : Type 0} (accesses : Accesses S) where
 
   pub term_widened : (t : Task) (s : State S × ℕ) → IsLeftOutAt t.depth (meaning accesses t s).0 ⊎ (meaning accesses t (widened s.0, s.1) ≡ outcome_widened (meaning accesses t s))
   unfolding widening same_space
-  term_widened t s = run_comes_at t.depth (meaning accesses t s) (meaning accesses t (widened s.0, s.1)) ((meaning_together {side = widening} t).goes s s.0.space refl)
+  term_widened t s = run_comes_at t.depth (meaning accesses t s) (meaning accesses t (widened s.0, s.1)) ((meaning_together widening t).goes s s.0.space refl)
 
   pub table_widened : (bytes : List ℕ) (steps : ℕ) (w : State S) → IsLeftOutAt 0 (loaded accesses bytes steps w).0 ⊎ (loaded accesses bytes steps (widened w) ≡ ((loaded accesses bytes steps w).0, widened (loaded accesses bytes steps w).1))
   unfolding widening same_space
-  table_widened bytes steps w = world_comes_at 0 (loaded accesses bytes steps w) (loaded accesses bytes steps (widened w)) ((loaded_together {side = widening} bytes steps).goes w w.space refl)
+  table_widened bytes steps w = world_comes_at 0 (loaded accesses bytes steps w) (loaded accesses bytes steps (widened w)) ((loaded_together widening bytes steps).goes w w.space refl)
 
   pub value_widened : (p : List Seg) (arguments : List Value) (steps : ℕ) (w : State S) → IsLeftOut (evaluated accesses p arguments steps w).0 ⊎ (evaluated accesses p arguments steps (widened w) ≡ ((evaluated accesses p arguments steps w).0, widened (evaluated accesses p arguments steps w).1))
   unfolding widening same_space
