@@ -44,7 +44,7 @@ use Rattle.aml_meaning.specs.declared.store_target.StoreTarget.{StoreTarget}
 use Rattle.aml_meaning.specs.declared.term_kind.Count.{Count}
 use Rattle.aml_frames.specs.Uses.{optional, target_ends, target_run, access_run}
 use Rattle.aml_meaning.specs.Meaning.{meaning}
-use Rattle.aml_frames.proofs.PassedItems.{never_memory, refused_paid, refused_free, refused_met, access_enough, target_enough, four_enough, most_enough}
+use Rattle.aml_frames.proofs.PassedItems.{given_ok, never_refused, never_err, never_memory, refused_paid, refused_free, refused_met, access_enough, target_enough, four_enough, most_enough}
 use Rattle.aml_frames.proofs.Stepping.{leads_goes_on, leads_goes_off, leads_item, list_passing, leads_no_item, leads_end}
 use Rattle.aml_frames.proofs.Weighing.{charged_step, falling}
 use Rattle.aml_frames.specs.Places.{Site, behind_term}
@@ -248,6 +248,17 @@ module _ {S : Type 0} (ac : Accesses S) (ev : Task → Run S Flow) where
   unfolding then_all unwinding stop settle
   unwound_end e c xs s i = rw i refl
 
+never_passed : {S : Type 0} (c b : Site) (flag : Bool) (s : State S × ℕ) → b ≡ c → flag ≡ passes_over b.depth s.0.profile → flag ≡ false → passes_over c.depth s.0.profile ≡ false
+never_passed c b flag s same told fails = ap (λ a. passes_over a.depth s.0.profile) (sym same) ∙ (sym told ∙ fails)
+
+-- an item begins that may be passed over
+item_kept_is : {S : Type 0} (ac : Accesses S) (s : State S × ℕ) (c : Site) (xs : List Entry) (i : Items) (n : ℕ) → passes_over c.depth s.0.profile ≡ true → 0 < i.left → 0 < length c.place.rest → n ≡ i.left - 1
+    → machine ac (meaning ac) (control.Items i) c xs s ≡ machine ac (meaning ac) (control.Term i.levels) c (xs ++ entry.Item (record { list = c; behind = record { left = n; levels = i.levels; outer = i.outer } }) ∷ []) s
+unfolding then_all
+item_kept_is ac s c xs i n holds some more one =
+    let x : ListItem = record { list = c; behind = record { left = n; levels = i.levels; outer = i.outer } } in
+    sym (at_item_passing ac (meaning ac) (term_run ac (meaning ac) c i.levels) xs x s ∙ ap (λ r. unwinding ac (meaning ac) xs (at_bottom ac (meaning ac)) (at_position c i.outer) r.0 r.1) (sym (list_passing ac c i n s holds some more one)))
+
 module _ {S : Type 0} {ac : Accesses S} where
   -- the list goes on
   pub item_on : {s : State S × ℕ} (c : Site) (xs : List Entry) (i : Items) (f : Flow) (on : Bool) → on ≡ goes_on f → on ≡ true → Goes ac (meaning ac) (Ok (control.Items i)) c xs s (machine ac (meaning ac) (control.Flow f) c (xs ++ entry.Frame (frames.Items i) ∷ [])) s
@@ -268,22 +279,11 @@ module _ {S : Type 0} {ac : Accesses S} where
       let x = frames.Items (record { left = n; levels = i.levels; outer = i.outer }) in
       goes_leads (next.Term i.levels x) c (at_position c i.outer) xs _ (leads_item c i n fails some left one) refl (goes_term xs _ i.levels x refl)
 
-  never_passed : (c b : Site) (flag : Bool) (s : State S × ℕ) → b ≡ c → flag ≡ passes_over b.depth s.0.profile → flag ≡ false → passes_over c.depth s.0.profile ≡ false
-  never_passed c b flag s same told fails = ap (λ a. passes_over a.depth s.0.profile) (sym same) ∙ (sym told ∙ fails)
-
-  -- an item begins that may be passed over
-  item_kept_is : {s : State S × ℕ} (c : Site) (xs : List Entry) (i : Items) (n : ℕ) → passes_over c.depth s.0.profile ≡ true → 0 < i.left → 0 < length c.place.rest → n ≡ i.left - 1
-      → machine ac (meaning ac) (control.Items i) c xs s ≡ machine ac (meaning ac) (control.Term i.levels) c (xs ++ entry.Item (record { list = c; behind = record { left = n; levels = i.levels; outer = i.outer } }) ∷ []) s
-  unfolding then_all
-  item_kept_is {s = s} c xs i n holds some left one =
-      let x : ListItem = record { list = c; behind = record { left = n; levels = i.levels; outer = i.outer } } in
-      sym (at_item_passing ac (meaning ac) (term_run ac (meaning ac) c i.levels) xs x s ∙ ap (λ r. unwinding ac (meaning ac) xs (at_bottom ac (meaning ac)) (at_position c i.outer) r.0 r.1) (sym (list_passing c i n s holds some left one)))
-
   pub item_kept : {s : State S × ℕ} (r : Outcome Control) (c b d : Site) (xs ys : List Entry) (i : Items) (n : ℕ) (flag : Bool) → flag ≡ passes_over b.depth s.0.profile → flag ≡ true → 0 < i.left → 0 < length c.place.rest → n ≡ i.left - 1 → b ≡ c
       → OnOk r (d ≡ b) → OnOk r (ys ≡ xs ++ entry.Item (record { list = b; behind = record { left = n; levels = i.levels; outer = i.outer } }) ∷ []) → IfOk r (λ x. x ≡ control.Term i.levels) → IfErr r (λ e. e ≡ OutOfMemory)
       → Goes ac (meaning ac) r d ys s (machine ac (meaning ac) (control.Items i) c xs) s
   item_kept {s = s} (Ok x) c b d xs ys i n flag told holds some left one same at pushed next memory =
-      rw (next, pushed, at, same) (record { is = λ _. item_kept_is c xs i n (ap (λ a. passes_over a.depth s.0.profile) (sym same) ∙ (sym told ∙ holds)) some left one })
+      rw (next, pushed, at, same) (record { is = λ _. item_kept_is ac s c xs i n (ap (λ a. passes_over a.depth s.0.profile) (sym same) ∙ (sym told ∙ holds)) some left one })
   item_kept (Err e) c b d xs ys i n flag told holds some left one same at pushed next memory = record { is = λ ne. absurd (ne memory) }
 
   goes_then : {m : Run S Flow} {r : Outcome Control} {d e : Site} {ys zs : List Entry} {s s1 s2 : State S × ℕ} (x : Control) → Goes ac (meaning ac) (Ok x) d ys s1 m s → Goes ac (meaning ac) r e zs s2 (machine ac (meaning ac) x d ys) s1 → Goes ac (meaning ac) r e zs s2 m s
@@ -322,11 +322,11 @@ falls_kept (Ok c) a levels xs ys x pushed next =
     omega (arith, k, none)
 falls_kept (Err e) a levels xs ys x pushed next = tt
 
-pub ruleset listing_on = (falls_kept, weight_on, falls_item, falls_done, item_last, item_on, item_none, item_over, item_next, item_refused, item_kept, never_memory, goes_memory)
+pub ruleset listing_on = (falls_kept, weight_on, falls_item, falls_done, item_last, item_on, item_none, item_over, item_next, item_refused, item_kept, given_ok, never_refused, never_err, never_memory, goes_memory)
 
-pub ruleset going = (weight_on, goes_flow, goes_items, goes_package, goes_term, goes_turn, goes_scope, goes_body, goes_body_then, goes_target, goes_division, goes_found, goes_read, goes_counted, goes_access_then, goes_flow_then, goes_memory)
+pub ruleset going = (never_refused, weight_on, goes_flow, goes_items, goes_package, goes_term, goes_turn, goes_scope, goes_body, goes_body_then, goes_target, goes_division, goes_found, goes_read, goes_counted, goes_access_then, goes_flow_then, goes_memory)
 
-pub ruleset taking = (falling, goes_leads, goes_leads_err, goes_frame, goes_item, goes_leave, goes_memory, never_memory, refused_paid, refused_free, refused_met, access_enough, target_enough, four_enough, most_enough)
+pub ruleset taking = (falling, goes_leads, goes_leads_err, goes_frame, goes_item, goes_leave, goes_memory, never_err, never_memory, refused_paid, refused_free, refused_met, access_enough, target_enough, four_enough, most_enough)
 
 -- ---- a call
 

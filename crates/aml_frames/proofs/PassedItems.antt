@@ -1,5 +1,5 @@
 -- Items of lists, where they may be passed over and where not.
-use Rattle.std.specs.Prelude.{◌≡◌, ℕ, suc, ◌+◌, ◌<◌, ◌≤◌, List, Bool, true, false, Ok, Err, IfOk, IfErr, IsErr, IsErrAnd, if◌then◌else◌, refl}
+use Rattle.std.specs.Prelude.{◌≡◌, ℕ, suc, ◌+◌, ◌<◌, ◌≤◌, List, Bool, true, false, Ok, Err, IfOk, IfErr, IsOk, IsErr, IsErrAnd, if◌then◌else◌, refl}
 use Rattle.std.proofs.Common.{ap, sym, arith, ◌∙◌}
 use Rattle.ar_space.specs.declared.refusal.Refusal.{Refusal}
 use Rattle.ar_space.specs.declared.refusal.Refusal.TheVariants.{OutOfMemory}
@@ -36,21 +36,32 @@ then_same m n k s h = ap (λ a. go_on a.0 a.1 k) h
 
 -- ---- what a refused step leaves weighs less than what it took, by more than an item that is passed over needs
 
-pub never_memory : {A : Type 0} {P : Type 0} (r : Outcome A) → IfErr r (λ e. e ≡ OutOfMemory) → IfErr r (λ e. is_passable e ≡ true → P)
-never_memory (Ok a) h = tt
-never_memory (Err e) h = λ holds. absurd (cc (sym holds ∙ ap is_passable h))
+pub never_memory : {A : Type 0} (P : Type 0) (r : Outcome A) → IfErr r (λ e. e ≡ OutOfMemory) → IfErr r (λ e. is_passable e ≡ true → P)
+never_memory P (Ok a) h = tt
+never_memory P (Err e) h = λ holds. absurd (cc (sym holds ∙ ap is_passable h))
 
-pub refused_paid : {e : Refusal} (r : Outcome Control) (a b x y : ℕ) → (is_passable e ≡ true → a < b) → x ≡ y → IsErr r × IsErrAnd r (λ z. z ≡ e) → IfErr r (λ z. is_passable z ≡ true → charged a + (x + 1) < charged b + y)
-refused_paid (Ok c) a b x y h same i = absurd (cc i.0)
-refused_paid (Err z) a b x y h same i = λ holds. let p = charged_step a b (h (ap is_passable (sym i.1) ∙ holds)) in let q = step_enough in omega (arith, p, q, same)
+-- what is given isn't refused
+pub given_ok : {A : Type 0} {a : A} (r : Outcome A) → r ≡ Ok a → IsOk r
+given_ok r h = rw h refl
 
-pub refused_free : {e : Refusal} (r : Outcome Control) (a b x y v : ℕ) → a ≤ b → x ≡ y → 1 < v → IsErr r × IsErrAnd r (λ z. z ≡ e) → IfErr r (λ z. is_passable z ≡ true → charged a + (x + 1) < charged b + (y + v))
-refused_free (Ok c) a b x y v h same some i = absurd (cc i.0)
-refused_free (Err z) a b x y v h same some i = λ holds. let p = charged_less a b h in omega (arith, p, same, some)
+pub never_refused : {A : Type 0} {a : A} (P : Refusal → Type 0) (r : Outcome A) → r ≡ Ok a → IfErr r P
+never_refused P r h = rw h tt
 
-pub refused_met : {e : Refusal} (r : Outcome Control) (a b x y u : ℕ) → a ≤ b → x ≡ y → IsErr r × IsErrAnd r (λ z. z ≡ e) → IfErr r (λ z. is_passable z ≡ true → charged a + (x + 1) < charged b + (y + u + 3))
-refused_met (Ok c) a b x y u h same i = absurd (cc i.0)
-refused_met (Err z) a b x y u h same i = λ holds. let p = charged_less a b h in omega (arith, p, same)
+pub never_err : {A : Type 0} (P : Refusal → Type 0) (r : Outcome A) → IsOk r → IfErr r P
+never_err P (Ok a) h = tt
+never_err P (Err e) h = absurd (cc h)
+
+pub refused_paid : (e : Refusal) (r : Outcome Control) (a b x y : ℕ) → (is_passable e ≡ true → a < b) → x ≡ y → IsErr r × IsErrAnd r (λ z. z ≡ e) → IfErr r (λ z. is_passable z ≡ true → charged a + (x + 1) < charged b + y)
+refused_paid e (Ok c) a b x y h same i = absurd (cc i.0)
+refused_paid e (Err z) a b x y h same i = λ holds. let p = charged_step a b (h (ap is_passable (sym i.1) ∙ holds)) in let q = step_enough in omega (arith, p, q, same)
+
+pub refused_free : (e : Refusal) (r : Outcome Control) (a b x y v : ℕ) → a ≤ b → x ≡ y → 1 < v → IsErr r × IsErrAnd r (λ z. z ≡ e) → IfErr r (λ z. is_passable z ≡ true → charged a + (x + 1) < charged b + (y + v))
+refused_free e (Ok c) a b x y v h same some i = absurd (cc i.0)
+refused_free e (Err z) a b x y v h same some i = λ holds. let p = charged_less a b h in omega (arith, p, same, some)
+
+pub refused_met : (e : Refusal) (r : Outcome Control) (a b x y u : ℕ) → a ≤ b → x ≡ y → IsErr r × IsErrAnd r (λ z. z ≡ e) → IfErr r (λ z. is_passable z ≡ true → charged a + (x + 1) < charged b + (y + u + 3))
+refused_met e (Ok c) a b x y u h same i = absurd (cc i.0)
+refused_met e (Err z) a b x y u h same i = λ holds. let p = charged_less a b h in omega (arith, p, same)
 
 part_enough : (n : ℕ) → 40 ≤ part_weight (suc n)
 unfolding part_weight

@@ -122,6 +122,14 @@ ends_no_argument c k none = ap (λ (x : List Tree × Place). at_place c x.1) (sy
 pub ends_in_call : (r : Outcome Next) (c d : Site) (k : Call) → k.left ≡ 0 → EndsAt r d c → EndsAt r d (behind_arguments k c)
 ends_in_call r c d k none h = subst (EndsAt r d) (ends_no_argument c k none) h
 
+-- a list whose items may be passed over
+pub list_passing : {S : Type 0} (ac : Accesses S) (c : Site) (i : Items) (n : ℕ) (s : State S × ℕ) → passes_over c.depth s.0.profile ≡ true → 0 < i.left → 0 < length c.place.rest → n ≡ i.left - 1
+    → items_run ac (meaning ac) i c s ≡ (passing c.scope (term_run ac (meaning ac) c i.levels) >>= resumed ac (meaning ac) (frames.Items (record { left = n; levels = i.levels; outer = i.outer })) (behind_term c i.levels)) s
+unfolding in_turn
+list_passing ac c i n s holds some left e =
+    rw (e, ap (λ (x : List Tree × Place). trees_of x.0) (one_more (terms c i.levels false) i.left c.place some left))
+    (then_same (item (meaning ac) c.scope c.depth (next_term c i.levels)) (passing c.scope (term_run ac (meaning ac) c i.levels)) _ s (passed_item (meaning ac) c.scope c.depth (next_term c i.levels) s holds))
+
 module _ {S : Type 0} {ac : Accesses S} where
   -- ---- what a chain is made of, as for `Does`
 
@@ -231,14 +239,6 @@ module _ {S : Type 0} {ac : Accesses S} where
         rw (ap (λ (x : List Tree × Place). trees_of x.0) (one_more (terms c i.levels false) i.left c.place some left))
         (then_same (item (meaning ac) c.scope c.depth (next_term c i.levels)) (term_run ac (meaning ac) c i.levels) _ s (refused_item (meaning ac) c.scope c.depth (next_term c i.levels) s fails));
   })
-
-  -- a list whose items may be passed over
-  pub list_passing : (c : Site) (i : Items) (n : ℕ) (s : State S × ℕ) → passes_over c.depth s.0.profile ≡ true → 0 < i.left → 0 < length c.place.rest → n ≡ i.left - 1
-      → items_run ac (meaning ac) i c s ≡ (passing c.scope (term_run ac (meaning ac) c i.levels) >>= resumed ac (meaning ac) (frames.Items (record { left = n; levels = i.levels; outer = i.outer })) (behind_term c i.levels)) s
-  unfolding in_turn
-  list_passing c i n s holds some left e =
-      rw (e, ap (λ (x : List Tree × Place). trees_of x.0) (one_more (terms c i.levels false) i.left c.place some left))
-      (then_same (item (meaning ac) c.scope c.depth (next_term c i.levels)) (passing c.scope (term_run ac (meaning ac) c i.levels)) _ s (passed_item (meaning ac) c.scope c.depth (next_term c i.levels) s holds))
 
   pub leads_no_item : {s : State S × ℕ} (c d : Site) (i : Items) → i.left ≡ 0 → Leads ac (meaning ac) (Ok (next.Flow flow.Next)) d s (items_run ac (meaning ac) i c) s
   unfolding in_turn

@@ -1,5 +1,5 @@
 -- A refusal unwinds the stack, up to an item that is passed over.
-use Rattle.std.specs.Prelude.{◌≡◌, ◌≢◌, ℕ, ◌+◌, ◌<◌, ◌≤◌, Bool, true, false, List, [], ◌∷◌, ◌++◌, Ok, Err, OnOk, OnErr, IfOk, IfErr, refl}
+use Rattle.std.specs.Prelude.{◌≡◌, ◌≢◌, ℕ, ◌+◌, ◌<◌, ◌≤◌, Bool, true, false, List, [], ◌∷◌, ◌++◌, Ok, Err, OnOk, OnErr, IfOk, IfErr, IsErr, IsErrAnd, refl}
 use Rattle.std.proofs.Common.{◌∙◌, ap, sym, subst, arith}
 use Rattle.ar_space.specs.Accesses.{Accesses}
 use Rattle.ar_space.specs.Change.{Does, Same, stop}
@@ -47,8 +47,8 @@ falls_passed (Ok c) zs ys xs y x i w same e is h next =
 falls_passed (Err e) zs ys xs y x i w same k is h next = tt
 
 -- a step that was refused, and then passed over
-pub falls_unwound : {e : Refusal} (a b n m u v k : ℕ) → b ≡ a → (is_passable e ≡ true → charged a + (u + 1) < charged n + m) → is_passable e ≡ true → v + k ≤ u + 1 → charged b + (v + k) < charged n + m
-falls_unwound a b n m u v k same h holds le = let p = h holds in let q = ap charged same in omega (arith, p, q, le)
+pub falls_unwound : (e : Refusal) (a b n m u v k : ℕ) → b ≡ a → (is_passable e ≡ true → charged a + (u + 1) < charged n + m) → is_passable e ≡ true → v + k ≤ u + 1 → charged b + (v + k) < charged n + m
+falls_unwound e a b n m u v k same h holds le = let p = h holds in let q = ap charged same in omega (arith, p, q, le)
 
 -- ---- what is passed over is noted
 
@@ -77,12 +77,26 @@ module _ {S : Type 0} (ac : Accesses S) (ev : Task → Run S Flow) where
   refused_unwound {f = f} {s2 = s2} {d2 = d2} {zs = zs} c xs x h i known ended g = record { is = λ ne. h.is ∙ (i.is (known ne) ∙ (g.is ne ∙ unwound_end ac ev f d2 zs s2 (ended ne))) }
 
   -- an item that is passed over
-  pub goes_passed : {s s1 : State S × ℕ} {w : State S} {u : Unit {0}} (e : Refusal) (c d : Site) (xs ys : List Entry) (x : ListItem) (scope : List Seg) → is_passable e ≡ true → scope ≡ x.list.scope → Does (Ok u) w (passed_over scope e) s.0 → d ≡ behind_term x.list x.behind.levels → ys ≡ xs
-      → s1 ≡ (w, s.1) → Goes ac ev (Ok (control.Items x.behind)) d ys s1 (then_all ac ev (stop e) c (xs ++ entry.Item x ∷ [])) s
-  goes_passed {s = s} {w = w} e c d xs ys x scope holds at h stands same after =
-      let noted : w ≡ with_passed x.list.scope e s.0 = noted_as e w scope s.0 holds (h.is tt) ∙ ap (λ p. with_passed p e s.0) at in
-      rw (stands, same, after) (record { is = λ _. passed_on ac ev e c xs x s holds ∙ ap (λ v. machine ac ev (control.Items x.behind) (behind_term x.list x.behind.levels) xs (v, s.1)) (sym noted) })
+  pub goes_passed : {s s1 : State S × ℕ} {w : State S} {u : Unit {0}} (e : Refusal) (c d : Site) (xs ys : List Entry) (x : ListItem) (scope : List Seg) (w0 : State S) (n : ℕ) → is_passable e ≡ true → (w0, n) ≡ s → scope ≡ x.list.scope → Does (Ok u) w (passed_over scope e) w0 → d ≡ behind_term x.list x.behind.levels → ys ≡ xs
+      → s1 ≡ (w, n) → Goes ac ev (Ok (control.Items x.behind)) d ys s1 (then_all ac ev (stop e) c (xs ++ entry.Item x ∷ [])) s
+  goes_passed {w = w} e c d xs ys x scope w0 n holds is at h stands same after =
+      let noted : w ≡ with_passed x.list.scope e w0 = noted_as e w scope w0 holds (h.is tt) ∙ ap (λ p. with_passed p e w0) at in
+      rw (stands, same, after, ← is) (record { is = λ _. passed_on ac ev e c xs x (w0, n) holds ∙ ap (λ v. machine ac ev (control.Items x.behind) (behind_term x.list x.behind.levels) xs (v, n)) (sym noted) })
 
-pub ruleset passing = (goes_passed)
+-- only want of memory refuses to note what may be passed over
+noted_always : {S : Type 0} (e z : Refusal) (w w1 : State S) (scope : List Seg) → is_passable e ≡ true → Does {A = Unit {0}} (Err z) w1 (passed_over scope e) w → z ≢ OutOfMemory → ⊥
+unfolding passed_over
+noted_always e z w w1 scope holds h ne = absurd (cc (rw holds at h.is ne))
 
-pub ruleset unwound = (same_unwound, refused_unwound, unwound_none, unwound_passed, falls_passed)
+pub pass_memory : {S : Type 0} (e z : Refusal) (w w1 : State S) (scope : List Seg) (r : Outcome Control) → is_passable e ≡ true → Does {A = Unit {0}} (Err z) w1 (passed_over scope e) w → IsErr r × IsErrAnd r (λ y. y ≡ z) → OnErr r (NotMemory r → ⊥)
+pass_memory e z w w1 scope (Ok c) holds h i = tt
+pass_memory e z w w1 scope (Err y) holds h i = λ ne. noted_always e z w w1 scope holds h (λ q. ne (i.1 ∙ q))
+
+pub pass_goes : {S : Type 0} (ac : Accesses S) (ev : Task → Run S Flow) {s s1 : State S × ℕ} (e z : Refusal) (w w1 : State S) (scope : List Seg) (r : Outcome Control) (d : Site) (ys : List Entry) (m : Run S Flow) → is_passable e ≡ true → Does {A = Unit {0}} (Err z) w1 (passed_over scope e) w
+    → IsErr r × IsErrAnd r (λ y. y ≡ z) → Goes ac ev r d ys s1 m s
+pass_goes ac ev e z w w1 scope (Ok c) d ys m holds h i = absurd (cc i.0)
+pass_goes ac ev e z w w1 scope (Err y) d ys m holds h i = record { is = λ ne. absurd (noted_always e z w w1 scope holds h (λ q. ne (i.1 ∙ q))) }
+
+pub ruleset passing = (goes_passed, pass_memory, pass_goes)
+
+pub ruleset unwound = (same_unwound, refused_unwound, falls_unwound, unwound_none, unwound_passed, falls_passed)

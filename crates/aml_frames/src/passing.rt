@@ -58,7 +58,7 @@ pub(crate) fn pass_item_over<S: Space>(
 ) -> Result<Control, Refusal>
     requires { is_passable refusal ≡ true }
     ensures steps { run.new.1 ≡ run.old.1 }
-    ensures stack { stack.new.entries ≡ stack.old.entries }
+    ensures stack { stack.new.entries.items ≡ stack.old.entries.items }
     ensures next { IfOk result (λ c. c ≡ control.Items item.behind) }
     ensures memory { OnErr result (NotMemory result → ⊥) }
     ensures means { Goes S.accesses (meaning S.accesses) result stack.new.act stack.new.entries.items run.new

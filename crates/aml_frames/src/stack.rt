@@ -120,6 +120,7 @@ fn whole(body: &Activation) -> Items
 }
 
 /// The loop.
+#[tactic(auto, using(crate::proofs::Unwinding::unwound))]
 fn execute<S: Space>(
     alloc: Global,
     run: &mut Running<S>,
