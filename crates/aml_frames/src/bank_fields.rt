@@ -70,6 +70,7 @@ fn take_region<S: Space>(
     act: &mut Activation,
 ) -> Result<u64, Refusal>
     ensures change { Does result run.new (lift (region_found act.old.scope (a_name act.old.place).0)) run.old }
+    ensures steps { run.new.1 ≡ run.old.1 }
     ensures behind { IfOk result (λ n. act.new ≡ behind_name act.old) }
 {
     let name = act.name(alloc)?;
@@ -87,6 +88,7 @@ fn take_bank<S: Space>(
     act: &mut Activation,
 ) -> Result<u64, Refusal>
     ensures change { Does result run.new (lift (field_found act.old.scope (a_name act.old.place).0)) run.old }
+    ensures steps { run.new.1 ≡ run.old.1 }
     ensures behind { IfOk result (λ n. act.new ≡ behind_name act.old) }
 {
     let name = act.name(alloc)?;
