@@ -31,6 +31,17 @@ abbrev pub mode_number : Mode → ℕ
 mode_number Pic = 0
 mode_number Apic = 1
 
+-- a call that is refused is passed over, as an item of a table is, where the profile is the wide one
+abbrev pub refused_call : {S : Type 0} → List Seg → Refusal → Change (MachineState S) (Unit {0})
+refused_call p e s = if is_wide s.world.profile then on_world (passed_over p e) s else (Err e, s)
+
+abbrev pub call_done : {S : Type 0} → List Seg → Outcome (Unit {0}) → Change (MachineState S) (Unit {0})
+call_done p (Ok done) s = (Ok done, s)
+call_done p (Err e) s = refused_call p e s
+
+unfoldable pub call_passing : {S : Type 0} → List Seg → Change (MachineState S) (Unit {0}) → Change (MachineState S) (Unit {0})
+call_passing p m s = let a = m s in call_done p a.0 a.1
+
 -- accesses: what the register space makes of them
 module _ {S : Type 0} (accesses : Accesses S) where
   -- what the object at a path answers within the steps of the machine
@@ -47,17 +58,6 @@ module _ {S : Type 0} (accesses : Accesses S) where
   object_called p arguments = do
     answer ← object_answered p arguments
     give tt
-
-  -- a call that is refused is passed over, as an item of a table is, where the profile is the wide one
-  abbrev pub refused_call : List Seg → Refusal → Change (MachineState S) (Unit {0})
-  refused_call p e s = if is_wide s.world.profile then on_world (passed_over p e) s else (Err e, s)
-
-  abbrev pub call_done : List Seg → Outcome (Unit {0}) → Change (MachineState S) (Unit {0})
-  call_done p (Ok done) s = (Ok done, s)
-  call_done p (Err e) s = refused_call p e s
-
-  unfoldable pub call_passing : List Seg → Change (MachineState S) (Unit {0}) → Change (MachineState S) (Unit {0})
-  call_passing p m s = let a = m s in call_done p a.0 a.1
 
   -- where a name stands at the path itself
   unfoldable pub called_where_it_stands : List Seg → List given.Given → Change (MachineState S) (Unit {0})
