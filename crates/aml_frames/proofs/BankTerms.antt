@@ -25,6 +25,7 @@ use Rattle.aml_frames.specs.Operands.{inside_at, outside_at, fields_at}
 use Rattle.aml_frames.specs.RegionTerms.{behind_name, bank_names_run, bank_value_run, bank_declared}
 use Rattle.aml_frames.specs.Weights.{next_weight, step_weight}
 use Rattle.aml_frames.specs.Follow.{place_of, at_position, wide_run, Leads, EndsAt}
+use Rattle.aml_frames.proofs.Declaring.{leads_done, leads_refused}
 use Rattle.aml_frames.proofs.Forming.{count_is}
 use Rattle.aml_frames.proofs.Stepping.{leads_value, stepping}
 use Rattle.aml_frames.proofs.Weighing.{step_enough}
@@ -70,4 +71,4 @@ pub ruleset beginning_banks = (stepping, leads_bank_list, ends_bank)
 
 pub ruleset naming_banks = (stepping, leads_bank_value_behind, bank_behind)
 
-pub ruleset declaring_banks = (stepping)
+pub ruleset declaring_banks = (stepping, leads_done, leads_refused)
