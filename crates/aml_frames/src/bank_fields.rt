@@ -71,7 +71,6 @@ fn take_region<S: Space>(
 ) -> Result<u64, Refusal>
     ensures spent { run.new.1 ≤ run.old.1 }
     ensures change { Does result run.new (lift (region_found act.old.scope (a_name act.old.place).0)) run.old }
-    ensures steps { run.new.1 ≡ run.old.1 }
     ensures behind { IfOk result (λ n. act.new ≡ behind_name act.old) }
 {
     let name = act.name(alloc)?;
@@ -90,7 +89,6 @@ fn take_bank<S: Space>(
 ) -> Result<u64, Refusal>
     ensures spent { run.new.1 ≤ run.old.1 }
     ensures change { Does result run.new (lift (field_found act.old.scope (a_name act.old.place).0)) run.old }
-    ensures steps { run.new.1 ≡ run.old.1 }
     ensures behind { IfOk result (λ n. act.new ≡ behind_name act.old) }
 {
     let name = act.name(alloc)?;
