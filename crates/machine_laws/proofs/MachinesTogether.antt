@@ -51,7 +51,7 @@ module _ {S T : Type 0} {accesses : Accesses S} {accesses2 : Accesses T} (side :
 
   table_loaded_together : (steps : ℕ) (table : List ℕ) → Together (level side 0) worlds (table_loaded accesses steps table) (table_loaded accesses2 steps table)
   unfolding table_loaded
-  table_loaded_together steps table = subst (λ n. Together (level side 0) worlds (table_loaded accesses steps table) (table_loaded accesses2 n table)) (same steps) (loaded_together _ steps)
+  table_loaded_together steps table = subst (λ n. Together (level side 0) worlds (table_loaded accesses steps table) (table_loaded accesses2 n table)) (same steps) (loaded_together side _ steps)
 
   each_loaded_together : (steps : ℕ) (tables : List (List ℕ)) → Together (level side 0) worlds (each_loaded accesses steps tables) (each_loaded accesses2 steps tables)
   unfolding each_loaded
