@@ -8,12 +8,14 @@ use Rattle.aml_meaning.specs.PciFunctions.{nearest}
 use Rattle.aml_meaning.specs.declared.pci_functions.Sought.{Sought}
 use Rattle.aml_meaning.specs.Calling.{ending, with_steps}
 use Rattle.aml_laws.proofs.BridgesTogether.{behind_asked_together, bridges_above_together, secondary_bus_together}
-use Rattle.aml_laws.proofs.MeaningTogether.{meaning_together}
+use Rattle.aml_laws.proofs.Levels.{in_body}
+use Rattle.aml_laws.proofs.MeaningTogether.{meaning_parts}
 use Rattle.aml_laws.proofs.OperandsTogether.{called_at_together}
 use Rattle.aml_laws.proofs.Together.{Sides, Together, plain, give_together, settle_together, then_together}
 use Rattle.aml_laws.proofs.WorldsTogether.{lift_together, runs, space_together, worlds, ending_together, with_steps_together}
 use Rattle.acpi_machine.specs.Buses.{address_part, bus_of_table, bus_answered, bus_found}
-use Rattle.machine_laws.proofs.MachinesTogether.{machines, on_world_together, unless_spent_together}
+use Rattle.machine_laws.proofs.MachineShapes.{machines}
+use Rattle.machine_laws.proofs.MachinesTogether.{on_world_together, unless_spent_together}
 
 module _ {S T : Type 0} {accesses : Accesses S} {accesses2 : Accesses T} {side : Sides accesses accesses2} where
   nearest_together : (x : Sought) (q : List Seg) → Together side worlds (nearest x q) (nearest x q)
@@ -21,7 +23,7 @@ module _ {S T : Type 0} {accesses : Accesses S} {accesses2 : Accesses T} {side :
   nearest_together x q = plain (λ w. refl) (λ w. refl) (λ w t. refl)
 
   part_together : (q : List Seg) → Together side runs (address_part accesses q) (address_part accesses2 q)
-  part_together q = called_at_together meaning_together 1 q
+  part_together q = in_body side 1 refl (called_at_together meaning_parts 1 q)
 
   part_in_together : (s : Seg) (o : Option (List Seg)) → Together side runs (part_in accesses (address_part accesses) s o) (part_in accesses2 (address_part accesses2) s o)
   part_in_together s None = give_together _

@@ -85,7 +85,7 @@ module _ {S T : Type 0} {accesses : Accesses S} {accesses2 : Accesses T} (side :
   done_ended q (Err e) s h = subst (λ (x : Called S). IsEnded side.Ends x.0) (sym (refused_is q e s)) (by_ended (is_wide s.world.profile) (is_passable e) q e s refl h)
 
   done_comes : (q : List Seg) (x : Called S) (y : Called T) → Comes side machines x y → Comes side machines (call_done q x.0 x.1) (call_done q y.0 y.1)
-  done_comes q x y (inl parted) = inl (subst (λ s. side.beside.Parted s _) (sym (done_space q x.0 x.1)) (subst (λ t. side.beside.Parted x.1.world.space t) (sym (done_space q y.0 y.1)) parted))
+  done_comes q x y (inl parted) = inl (subst (λ s. side.beside.Parted s (call_done q y.0 y.1).1.world.space) (sym (done_space q x.0 x.1)) (subst (λ t. side.beside.Parted x.1.world.space t) (sym (done_space q y.0 y.1)) parted))
   done_comes q x y (inr (inl ended)) = inr (inl (done_ended q x.0 x.1 ended))
   done_comes q x y (inr (inr (t, is, i))) =
       inr (inr (t, ap (λ (a : Called T). call_done q a.0 a.1) is ∙ done_over side.raise q x.0 x.1 t (same x.1.world.profile), subst (λ s. side.beside.InStep s t) (sym (done_space q x.0 x.1)) i))
@@ -143,7 +143,7 @@ module _ {S T : Type 0} {accesses : Accesses S} {accesses2 : Accesses T} (side :
         (core_comes q (m s) (n (machine_beside side.raise s t)) (h.goes s t i))
     goes_by profiles.Wide s t is i =
         subst (λ (a : MachineState T). Comes (level side 0) machines (call_done q (m s).0 (m s).1) (call_done q (n a).0 (n a).1)) (sym (wide_over s t is))
-        (both_comes (call_done q (m s).0 (m s).1) _ (done_profile q (m s).0 (m s).1 ∙ (kept s ∙ is)) (done_comes (alike side.beside) (λ p. refl) (λ e yes k. k) q (m s) (n (machine_beside (λ p. p) s t)) (g.goes s t i)))
+        (both_comes (call_done q (m s).0 (m s).1) _ (done_profile q (m s).0 (m s).1 ∙ (kept s ∙ is)) (done_comes (alike side.beside) (λ p. refl) (λ e holds k. k) q (m s) (n (machine_beside (λ p. p) s t)) (g.goes s t i)))
 
     pub call_widened : Together (level side 0) machines (call_passing q m) (call_passing q n)
     unfolding call_passing

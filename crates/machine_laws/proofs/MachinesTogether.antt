@@ -46,12 +46,12 @@ pub told_together : {S T A : Type 0} {accesses : Accesses S} {accesses2 : Access
 told_together {side = side} f g told = record { left_parted = λ s t h. h; right_parted = λ s u h. h; goes = λ s t i. told_goes side s t (f s) (g (machine_beside side.raise s t)) (told s t) i }
 
 -- same: the right one has as many steps
-module _ {S T : Type 0} {accesses : Accesses S} {accesses2 : Accesses T} {side : Sides accesses accesses2} (same : (n : ℕ) → side.more n ≡ n) where
+module _ {S T : Type 0} {accesses : Accesses S} {accesses2 : Accesses T} (side : Sides accesses accesses2) (same : (n : ℕ) → side.more n ≡ n) where
   -- ---- tables
 
   table_loaded_together : (steps : ℕ) (table : List ℕ) → Together (level side 0) worlds (table_loaded accesses steps table) (table_loaded accesses2 steps table)
   unfolding table_loaded
-  table_loaded_together steps table = subst (λ n. Together (level side 0) worlds (table_loaded accesses steps table) (table_loaded accesses2 n table)) (same steps) (loaded_together _ steps)
+  table_loaded_together steps table = subst (λ n. Together (level side 0) worlds (table_loaded accesses steps table) (table_loaded accesses2 n table)) (same steps) (loaded_together side _ steps)
 
   each_loaded_together : (steps : ℕ) (tables : List (List ℕ)) → Together (level side 0) worlds (each_loaded accesses steps tables) (each_loaded accesses2 steps tables)
   unfolding each_loaded
@@ -66,6 +66,7 @@ module _ {S T : Type 0} {accesses : Accesses S} {accesses2 : Accesses T} {side :
   unfolding loaded_tables
   loaded_tables_together t steps osi = then_together (settle_together _) (λ few. then_together (at_level side 0 predefined_together) (λ u. all_loaded_together t steps))
 
+module _ {S T : Type 0} {accesses : Accesses S} {accesses2 : Accesses T} {side : Sides accesses accesses2} (same : (n : ℕ) → side.more n ≡ n) where
   -- ---- objects that are evaluated
 
   pub on_world_together : {A : Type 0} {m : Change (State S) A} {n : Change (State T) A} → Together side worlds m n → Together side machines (on_world m) (on_world n)
@@ -110,14 +111,16 @@ module _ {S : Type 0} (accesses : Accesses S) where
 
   called_keeps : (p : List Seg) (arguments : List given.Given) (s : MachineState S) → (object_called accesses p arguments s).1.world.profile ≡ s.world.profile
   unfolding object_called object_answered on_world ◌>>=◌
-  called_keeps p arguments s = ap (λ (x : MachineState S). x.world.profile) (dropped_keeps (answered accesses p arguments s.steps s.world).0 _) ∙ profile_is_kept accesses s.world _ (becomes.answer s.world p arguments s.steps becomes.same)
+  called_keeps p arguments s =
+      ap (λ (x : MachineState S). x.world.profile) (dropped_keeps (answered accesses p arguments s.steps s.world).0 (record s { world = (answered accesses p arguments s.steps s.world).1 }))
+      ∙ profile_is_kept accesses s.world (answered accesses p arguments s.steps s.world).1 (becomes.answer s.world p arguments s.steps becomes.same)
 
-module _ {S T : Type 0} {accesses : Accesses S} {accesses2 : Accesses T} {side : Sides accesses accesses2} (same : (n : ℕ) → side.more n ≡ n) where
+module _ {S T : Type 0} {accesses : Accesses S} {accesses2 : Accesses T} (side : Sides accesses accesses2) (same : (n : ℕ) → side.more n ≡ n) where
   -- a call that may be passed over
   call_by : (passes : Passes side.raise side.Ends side.more) → side.passes ≡ passes → (p : List Seg) (arguments : List given.Given) → Together (level side 0) machines (call_passing p (object_called accesses p arguments)) (call_passing p (object_called accesses2 p arguments))
   call_by (inl h) is p arguments = at_level side 0 (call_alike side h.0 h.1 p (object_called_together {side = side} same p arguments))
   call_by (inr h) is p arguments =
-      call_widened side h.0 (λ e yes. subst (λ x. MayPass x e) (sym is) yes) p (object_called accesses p arguments) (object_called accesses2 p arguments) (at_level side 0 (object_called_together {side = side} same p arguments))
+      call_widened side h.0 (λ e holds. subst (λ x. MayPass x e) (sym is) holds) p (object_called accesses p arguments) (object_called accesses2 p arguments) (at_level side 0 (object_called_together {side = side} same p arguments))
       (object_called_together {side = alike side.beside} (λ n. refl) p arguments) (called_keeps accesses p arguments)
 
   called_where_it_stands_together : (p : List Seg) (arguments : List given.Given) → Together (level side 0) machines (called_where_it_stands accesses p arguments) (called_where_it_stands accesses2 p arguments)

@@ -100,11 +100,11 @@ module _ {S : Type 0} (accesses : Accesses S) where
   pub tables_widened : (t : Tables) (steps : ℕ) (osi : List (List ℕ)) (w : State S)
       → IsLeftOutAt 0 (loaded_tables accesses t steps osi w).0 ⊎ (loaded_tables accesses t steps osi (widened w) ≡ ((loaded_tables accesses t steps osi w).0, widened (loaded_tables accesses t steps osi w).1))
   unfolding in_terms raised same_space
-  tables_widened t steps osi w = listed_world (loaded_tables accesses t steps osi w) (loaded_tables accesses t steps osi (widened w)) ((loaded_tables_together {side = in_terms} (λ n. refl) t steps osi).goes w w.space refl)
+  tables_widened t steps osi w = listed_world (loaded_tables accesses t steps osi w) (loaded_tables accesses t steps osi (widened w)) ((loaded_tables_together in_terms (λ n. refl) t steps osi).goes w w.space refl)
 
   pub initialization_widened : (mode : Mode) (s : MachineState S) → IsLeftOutAt 0 (initialized accesses mode s).0 ⊎ (initialized accesses mode (machine_widened s) ≡ call_widened (initialized accesses mode s))
   unfolding in_terms raised same_space
-  initialization_widened mode s = listed_machine (initialized accesses mode s) (initialized accesses mode (machine_widened s)) ((initialized_together {side = in_terms} (λ n. refl) mode).goes s s.world.space refl)
+  initialization_widened mode s = listed_machine (initialized accesses mode s) (initialized accesses mode (machine_widened s)) ((initialized_together in_terms (λ n. refl) mode).goes s s.world.space refl)
 
   pub object_widened : (p : List Seg) (arguments : List Given) (s : MachineState S) → IsLeftOut (evaluated_object accesses p arguments s).0 ⊎ (evaluated_object accesses p arguments (machine_widened s) ≡ call_widened (evaluated_object accesses p arguments s))
   unfolding in_terms raised

@@ -9,7 +9,7 @@ use Rattle.text_words.specs.Words.{words}
 use Rattle.route_report.specs.Lines.{lines}
 use Rattle.route_report.specs.declared.report.Rule.{Rule}
 use Rattle.route_report.specs.declared.report.Rule.TheVariants as rule
-use Rattle.route_report.specs.Reading.{Said, first_said, ascends, is_passed_over, here, in_line, word, ended, expected, one_of, path_here, numbered, named, with_next, until, offers, offered, link, wired, sci, ascending_after, avoid, give, busiest, with_path, set_links, with_number, numbers_after, some_numbers, spared, unread, set, bound, with_link, with_wired, with_give, with_sci, with_avoid, with_spared, with_unread, with_rule, with_busiest, with_bound, link_line, wired_line, sci_line, avoid_line, spared_line, unread_line, rule_line, give_line, busiest_line, bound_line, keyed, line, version_here, heading, claimed, lines_read, all_read, claim_of_text}
+use Rattle.route_report.specs.Reading.{Said, first_said, ascends, is_passed_over, here, in_line, word, ended, expected, one_of, path_here, numbered, named, with_next, until, offers, offered, link, wired, sci, ascending_after, avoid, give, busiest, with_path, set_links, with_number, numbers_after, some_numbers, spared, unread, triggered, link_triggered, number_triggered, source_triggered, trigger, bus_refused, bus_known, bus_state, bus, set, bound, with_link, with_wired, with_give, with_sci, with_avoid, with_spared, with_option, with_rule, with_busiest, with_bound, link_line, wired_line, sci_line, avoid_line, spared_line, unread_line, trigger_line, bus_line, rule_line, give_line, busiest_line, bound_line, claimless, keyed, line, version_here, heading, claimed, lines_read, all_read, claim_of_text}
 use Rattle.aml_laws.proofs.CleanOutcomes.{Clean, followed_clean, if_clean}
 use Rattle.aml_laws.proofs.CleanValues.{seg_of_clean}
 use Rattle.machine_laws.proofs.CleanLinks.{ok_or_clean}
@@ -146,6 +146,43 @@ module _ (n : ℕ) where
   unfolding unread
   unread_clean ws = followed_clean _ _ (named_clean ws) (λ p. followed_clean _ _ (numbered_clean p.1) (λ r. ended_clean r.1))
 
+  triggered_clean : (ws : List (List ℕ)) → Clean (triggered n ws)
+  unfolding triggered
+  triggered_clean ws = followed_clean _ _ (one_of_clean _ _ ws) (λ t. followed_clean _ _ (one_of_clean _ _ t) (λ p. ended_clean p))
+
+  link_triggered_clean : (ws : List (List ℕ)) → Clean (link_triggered n ws)
+  unfolding link_triggered
+  link_triggered_clean ws = followed_clean _ _ (named_clean ws) (λ p. triggered_clean p.1)
+
+  number_triggered_clean : (ws : List (List ℕ)) → Clean (number_triggered n ws)
+  unfolding number_triggered
+  number_triggered_clean ws = followed_clean _ _ (numbered_clean ws) (λ a. triggered_clean a.1)
+
+  source_triggered_clean : (key : List ℕ) (ws : List (List ℕ)) → Clean (source_triggered n key ws)
+  unfolding source_triggered
+  source_triggered_clean key ws =
+      if_clean (bytes_eq key (codes "link")) _ _ (link_triggered_clean ws) (if_clean (bytes_eq key (codes "wired") || bytes_eq key (codes "sci")) _ _ (number_triggered_clean ws) tt)
+
+  trigger_clean : (ws : List (List ℕ)) → Clean (trigger n ws)
+  unfolding trigger
+  trigger_clean ws = followed_clean _ _ (word_clean ws) (λ w. source_triggered_clean w.0 w.1)
+
+  bus_refused_clean : (ws : List (List ℕ)) → Clean (bus_refused n ws)
+  unfolding bus_refused
+  bus_refused_clean ws = followed_clean _ _ (numbered_clean ws) (λ r. ended_clean r.1)
+
+  bus_known_clean : (segment : List ℕ) (ws : List (List ℕ)) → Clean (bus_known n segment ws)
+  unfolding bus_known
+  bus_known_clean segment ws = followed_clean _ _ (here_clean _) (λ s. followed_clean _ _ (numbered_clean ws) (λ b. ended_clean b.1))
+
+  bus_state_clean : (ws : List (List ℕ)) → Clean (bus_state n ws)
+  unfolding bus_state
+  bus_state_clean ws = followed_clean _ _ (word_clean ws) (λ w. if_clean (bytes_eq w.0 (codes "refused")) _ _ (bus_refused_clean w.1) (bus_known_clean w.0 w.1))
+
+  bus_clean : (ws : List (List ℕ)) → Clean (bus n ws)
+  unfolding bus
+  bus_clean ws = followed_clean _ _ (named_clean ws) (λ p. bus_state_clean p.1)
+
   set_clean : (w : List ℕ) (ws : List (List ℕ)) → Clean (set n w ws)
   unfolding set
   set_clean w ws = followed_clean _ _ (set_links_clean w ws) (λ ps. followed_clean _ _ (numbers_after_clean [] ps.1) (λ is. tt))
@@ -178,8 +215,16 @@ module _ (n : ℕ) where
   spared_line_clean ws d = followed_clean _ _ (spared_clean ws) (λ ns. followed_clean _ _ (here_clean d.spared) (λ ms. tt))
 
   unread_line_clean : (ws : List (List ℕ)) (d : Said) → Clean (unread_line n ws d)
-  unfolding unread_line with_unread
+  unfolding unread_line with_option
   unread_line_clean ws d = followed_clean _ _ (unread_clean ws) (λ u. if_clean (is_some d.spared) _ _ tt tt)
+
+  trigger_line_clean : (ws : List (List ℕ)) (d : Said) → Clean (trigger_line n ws d)
+  unfolding trigger_line with_option
+  trigger_line_clean ws d = followed_clean _ _ (trigger_clean ws) (λ u. if_clean (is_some d.spared) _ _ tt tt)
+
+  bus_line_clean : (ws : List (List ℕ)) (d : Said) → Clean (bus_line n ws d)
+  unfolding bus_line with_option
+  bus_line_clean ws d = followed_clean _ _ (bus_clean ws) (λ u. if_clean (is_some d.spared) _ _ tt tt)
 
   rule_line_clean : (r : Rule) (ws : List (List ℕ)) (d : Said) → Clean (rule_line n r ws d)
   unfolding rule_line with_rule
@@ -197,6 +242,14 @@ module _ (n : ℕ) where
   unfolding bound_line with_bound
   bound_line_clean ws d = followed_clean _ _ (bound_clean ws) (λ b. if_clean (is_some d.bound) _ _ tt tt)
 
+  claimless_clean : (key : List ℕ) (ws : List (List ℕ)) (d : Said) → Clean (claimless n key ws d)
+  unfolding claimless
+  claimless_clean key ws d =
+      if_clean (bytes_eq key (codes "unread")) _ _ (unread_line_clean ws d)
+      (if_clean (bytes_eq key (codes "trigger")) _ _ (trigger_line_clean ws d)
+      (if_clean (bytes_eq key (codes "bus")) _ _ (bus_line_clean ws d)
+      (if_clean (is_passed_over key) _ _ tt tt)))
+
   keyed_clean : (key : List ℕ) (ws : List (List ℕ)) (d : Said) → Clean (keyed n key ws d)
   unfolding keyed
   keyed_clean key ws d =
@@ -205,13 +258,12 @@ module _ (n : ℕ) where
       (if_clean (bytes_eq key (codes "sci")) _ _ (sci_line_clean ws d)
       (if_clean (bytes_eq key (codes "avoid")) _ _ (avoid_line_clean ws d)
       (if_clean (bytes_eq key (codes "spared")) _ _ (spared_line_clean ws d)
-      (if_clean (bytes_eq key (codes "unread")) _ _ (unread_line_clean ws d)
       (if_clean (bytes_eq key (codes "first")) _ _ (rule_line_clean rule.First ws d)
       (if_clean (bytes_eq key (codes "spread")) _ _ (rule_line_clean rule.Spread ws d)
       (if_clean (bytes_eq key (codes "give")) _ _ (give_line_clean ws d)
       (if_clean (bytes_eq key (codes "busiest")) _ _ (busiest_line_clean ws d)
       (if_clean (bytes_eq key (codes "bound")) _ _ (bound_line_clean ws d)
-      (if_clean (is_passed_over key) _ _ tt tt)))))))))))
+      (claimless_clean key ws d))))))))))
 
   line_clean : (ws : List (List ℕ)) (d : Said) → Clean (line n ws d)
   unfolding line
