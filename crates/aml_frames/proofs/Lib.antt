@@ -1,3 +1,4 @@
+pub mod Answering
 pub mod Between
 pub mod Machine
 pub mod OperandShapes

@@ -77,9 +77,9 @@ module _ {S : Type 0} (ac : Accesses S) (ev : Task → Run S Flow) where
   refused_unwound {f = f} {s2 = s2} {d2 = d2} {zs = zs} c xs x h i known ended g = record { is = λ ne. h.is ∙ (i.is (known ne) ∙ (g.is ne ∙ unwound_end ac ev f d2 zs s2 (ended ne))) }
 
   -- an item that is passed over
-  pub goes_passed : {s s1 : State S × ℕ} {w : State S} {u : Unit {0}} (e : Refusal) (c d : Site) (xs ys : List Entry) (x : ListItem) (scope : List Seg) (w0 : State S) (n : ℕ) → is_passable e ≡ true → (w0, n) ≡ s → scope ≡ x.list.scope → Does (Ok u) w (passed_over scope e) w0 → d ≡ behind_term x.list x.behind.levels → ys ≡ xs
+  pub goes_passed : {s s1 : State S × ℕ} {w : State S} {u : Unit {0}} (e : Refusal) (c d : Site) (xs ys : List Entry) (x : ListItem) (scope : List Seg) (w0 : State S) (n : ℕ) → Does (Ok u) w (passed_over scope e) w0 → is_passable e ≡ true → (w0, n) ≡ s → scope ≡ x.list.scope → d ≡ behind_term x.list x.behind.levels → ys ≡ xs
       → s1 ≡ (w, n) → Goes ac ev (Ok (control.Items x.behind)) d ys s1 (then_all ac ev (stop e) c (xs ++ entry.Item x ∷ [])) s
-  goes_passed {w = w} e c d xs ys x scope w0 n holds is at h stands same after =
+  goes_passed {w = w} e c d xs ys x scope w0 n h holds is at stands same after =
       let noted : w ≡ with_passed x.list.scope e w0 = noted_as e w scope w0 holds (h.is tt) ∙ ap (λ p. with_passed p e w0) at in
       rw (stands, same, after, ← is) (record { is = λ _. passed_on ac ev e c xs x (w0, n) holds ∙ ap (λ v. machine ac ev (control.Items x.behind) (behind_term x.list x.behind.levels) xs (v, n)) (sym noted) })
 

@@ -18,7 +18,8 @@ ghost use Rattle.aml_objects.specs.declared.value.Value.TheVariants as values;
 ghost use Rattle.aml_frames.specs.Follow.{turn_items, body_run, list_run, all_left, next_run, next_ends};
 ghost use Rattle.aml_marked.specs.Marked.{walk_levels};
 ghost use Rattle.aml_frames.specs.Uses.{optional, access_done};
-ghost use Rattle.aml_frames.specs.Stack.{whole, then_all, machine, Goes, stack_weight, entry_weight, control_weight};
+ghost use Rattle.aml_frames.specs.Stack.{whole, then_all, machine, gone, Goes, stack_weight, entry_weight, control_weight};
+ghost use Rattle.aml_frames.specs.Answered.{answer_weight};
 ghost use Rattle.aml_frames.specs.Weights.{most, next_weight, target_weight, access_weight, charged};
 
 use crate::accesses::begin_read;
@@ -120,7 +121,7 @@ fn whole(body: &Activation) -> Items
 }
 
 /// The loop.
-#[tactic(auto, using(crate::proofs::Unwinding::unwound))]
+#[tactic(auto, using(crate::proofs::Answering::answered))]
 fn execute<S: Space>(
     alloc: Global,
     run: &mut Running<S>,
@@ -134,40 +135,61 @@ fn execute<S: Space>(
     let mut control = first;
     'steps: loop {
         match control {
-            Control::Term(levels) => match step_term(alloc, run, &mut stack, levels) {
-                Ok(after) => control = after,
-                Err(refusal) => control = unwind(alloc, run, &mut stack, refusal)?,
-            },
-            Control::Items(items) => match step_items(alloc, run, &mut stack, items) {
-                Ok(after) => control = after,
-                Err(refusal) => control = unwind(alloc, run, &mut stack, refusal)?,
-            },
-            Control::Package(filling) => match step_package(alloc, run, &mut stack, filling) {
-                Ok(after) => control = after,
-                Err(refusal) => control = unwind(alloc, run, &mut stack, refusal)?,
-            },
-            Control::Target(target, aim) => match step_target(alloc, run, &mut stack, target, aim) {
-                Ok(after) => control = after,
-                Err(refusal) => control = unwind(alloc, run, &mut stack, refusal)?,
-            },
-            Control::Read(field, reading) => match step_read(
-                alloc, run, &mut stack, field, reading,
-            ) {
-                Ok(after) => control = after,
-                Err(refusal) => control = unwind(alloc, run, &mut stack, refusal)?,
-            },
-            Control::Access(access) => match step_access(alloc, run, &mut stack, access) {
-                Ok(after) => control = after,
-                Err(refusal) => control = unwind(alloc, run, &mut stack, refusal)?,
-            },
+            Control::Term(levels) => {
+                let answer = step_term(alloc, run, &mut stack, levels);
+                control = go_on(alloc, run, &mut stack, answer)?;
+            }
+            Control::Items(items) => {
+                let answer = step_items(alloc, run, &mut stack, items);
+                control = go_on(alloc, run, &mut stack, answer)?;
+            }
+            Control::Package(filling) => {
+                let answer = step_package(alloc, run, &mut stack, filling);
+                control = go_on(alloc, run, &mut stack, answer)?;
+            }
+            Control::Target(target, aim) => {
+                let answer = step_target(alloc, run, &mut stack, target, aim);
+                control = go_on(alloc, run, &mut stack, answer)?;
+            }
+            Control::Read(field, reading) => {
+                let answer = step_read(alloc, run, &mut stack, field, reading);
+                control = go_on(alloc, run, &mut stack, answer)?;
+            }
+            Control::Access(access) => {
+                let answer = step_access(alloc, run, &mut stack, access);
+                control = go_on(alloc, run, &mut stack, answer)?;
+            }
             Control::Flow(flow) => match stack.entries.pop() {
                 None => return Ok(flow),
-                Some(top) => match step_entry(alloc, run, &mut stack, top, flow) {
-                    Ok(after) => control = after,
-                    Err(refusal) => control = unwind(alloc, run, &mut stack, refusal)?,
-                },
+                Some(top) => {
+                    let answer = step_entry(alloc, run, &mut stack, top, flow);
+                    control = go_on(alloc, run, &mut stack, answer)?;
+                }
             },
         }
+    }
+}
+
+/// What is done behind a step: what it answers, or, where it is refused, what goes on behind an item that is passed over.
+#[inline(always)]
+fn go_on<S: Space>(
+    alloc: Global,
+    run: &mut Running<S>,
+    stack: &mut Stack,
+    answer: Result<Control, Refusal>,
+) -> Result<Control, Refusal>
+    ensures steps { run.new.1 ≡ run.old.1 }
+    ensures passable { OnOk result (IfErr answer (λ e. is_passable e ≡ true)) }
+    ensures falls { IfOk result (λ c. stack_weight stack.new.entries.items + control_weight c ≤
+        stack_weight stack.old.entries.items + answer_weight answer) }
+    ensures ended { OnErr result (NotMemory result → stack.new.entries.items ≡ []) }
+    ensures known { NotMemory result → NotMemory answer }
+    ensures means { Goes S.accesses (meaning S.accesses) result stack.new.act stack.new.entries.items run.new
+        (gone S.accesses (meaning S.accesses) answer stack.old.act stack.old.entries.items) run.old }
+{
+    match answer {
+        Ok(after) => Ok(after),
+        Err(refusal) => unwind(alloc, run, stack, refusal),
     }
 }
 
