@@ -49,6 +49,8 @@ module _ {S : Type 0} (s : MachineState S) where
   pub none_tabled : (list ps : List (List Seg)) (p : List Seg) → list ≡ filter (has_table s) ps → has_table s p ≡ false → list ≡ filter (has_table s) (ps ++ p ∷ [])
   none_tabled list ps p so is = rw (so, filtered ps p, is) (sym (append-nil (filter (has_table s) ps)))
 
+pub ruleset tabling = (tabled, one_tabled, none_tabled)
+
 -- ---- what is told behind a report
 
 module _ {S : Type 0} (accesses : Accesses S) where

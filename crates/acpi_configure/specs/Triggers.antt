@@ -27,11 +27,11 @@ abbrev pub triggered_by : ℕ → InterruptSource → TriggerLine
 triggered_by flags s = record { source = s; trigger = trigger_by flags; polarity = polarity_by flags }
 
 -- the flags of the first override to a global system interrupt, and of the first override of a source; 0 where there is none
-unfoldable pub flags_to : ℕ → List OverrideLine → ℕ
+abbrev pub flags_to : ℕ → List OverrideLine → ℕ
 flags_to gsi [] = 0
 flags_to gsi (o ∷ os) = if o.gsi == gsi then o.flags else flags_to gsi os
 
-unfoldable pub flags_of : ℕ → List OverrideLine → ℕ
+abbrev pub flags_of : ℕ → List OverrideLine → ℕ
 flags_of source [] = 0
 flags_of source (o ∷ os) = if o.source == source then o.flags else flags_of source os
 

@@ -170,6 +170,7 @@ fn devices_with_tables<S: Space>(alloc: Global, machine: &Machine<S>) -> Result<
 }
 
 /// Those of some devices that have a routing table.
+#[tactic(auto, using(crate::proofs::Telling::tabling))]
 fn with_tables<S: Space>(
     alloc: Global,
     machine: &Machine<S>,
