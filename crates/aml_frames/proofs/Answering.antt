@@ -1,5 +1,5 @@
 -- The loop goes on with what a step answers, or behind an item that is passed over.
-use Rattle.std.specs.Prelude.{◌≡◌, ℕ, ◌+◌, ◌<◌, ◌≤◌, true, List, [], Ok, Err, IfOk, IfErr, IsErr, IsErrAnd}
+use Rattle.std.specs.Prelude.{◌≡◌, ◌≢◌, ℕ, ◌+◌, ◌<◌, ◌≤◌, true, List, [], Ok, Err, IfOk, IfErr, IsErr, IsErrAnd}
 use Rattle.std.proofs.Common.{◌∙◌, ap, sym, arith}
 use Rattle.ar_space.specs.Accesses.{Accesses}
 use Rattle.ar_space.specs.Change.{Does, Same}
@@ -25,16 +25,16 @@ falls_answered (Ok c) x z y a b n u v w is h i same holds le = let q = ap charge
 falls_answered (Err e) x z y a b n u v w is h i same holds le = let p = i holds in let q = ap charged same in let k = ap control_weight is in omega (arith, p, q, k, le)
 
 module _ {S : Type 0} (ac : Accesses S) (ev : Task → Run S Flow) where
-  pub same_answered : {m : Run S Flow} {s0 s s1 s2 : State S × ℕ} {d d2 : Site} {ys zs : List Entry} (r : Outcome Control) (c : Site) (xs : List Entry) (x y : Control) → Same m s0 (machine ac ev x c xs) s → Goes ac ev r d ys s1 (machine ac ev x c xs) s → (NotMemory {A = Control} (Ok y) → NotMemory r)
+  pub same_answered : {m : Run S Flow} {s0 s s1 s2 : State S × ℕ} {d d2 : Site} {ys zs : List Entry} (r : Outcome Control) (c : Site) (xs : List Entry) (x y : Control) → Same m s0 (machine ac ev x c xs) s → Goes ac ev r d ys s1 (machine ac ev x c xs) s → (Unit {0} → NotMemory r)
       → Goes ac ev (Ok y) d2 zs s2 (gone ac ev r d ys) s1 → Same m s0 (machine ac ev y d2 zs) s2
   same_answered r c xs x y h i known g = record { is = h.is ∙ (i.is (known tt) ∙ g.is tt) }
 
   -- or it ends
   pub refused_answered : {m : Run S Flow} {q : Outcome Flow} {s0 s s1 s2 : State S × ℕ} {d d2 : Site} {ys zs : List Entry} (r : Outcome Control) (f : Refusal) (c : Site) (xs : List Entry) (x : Control) → Same m s0 (machine ac ev x c xs) s → Goes ac ev r d ys s1 (machine ac ev x c xs) s
-      → (NotMemory {A = Control} (Err f) → NotMemory r) → (NotMemory {A = Control} (Err f) → zs ≡ []) → Goes ac ev (Err f) d2 zs s2 (gone ac ev r d ys) s1 → IsErr q × IsErrAnd q (λ y. y ≡ f) → Does q s2 m s0
+      → (f ≢ OutOfMemory → NotMemory r) → (f ≢ OutOfMemory → zs ≡ []) → Goes ac ev (Err f) d2 zs s2 (gone ac ev r d ys) s1 → IsErr q × IsErrAnd q (λ y. y ≡ f) → Does q s2 m s0
   refused_answered {q = Ok v} r f c xs x h i known ended g b = absurd (cc b.0)
-  refused_answered {q = Err y} {s2 = s2} {d2 = d2} {zs = zs} r f c xs x h i known ended g b = record { is = λ ny.
-      let ne : f ≡ OutOfMemory → ⊥ = λ k. ny (b.1 ∙ k) in
-      h.is ∙ (i.is (known ne) ∙ (g.is ne ∙ (unwound_end ac ev f d2 zs s2 (ended ne) ∙ ap (λ z. (Err z, s2)) (sym b.1)))) }
+  refused_answered {q = Err y} {s2 = s2} {d2 = d2} {zs = zs} r f c xs x h i known ended g b =
+      let over = λ (ne : f ≢ OutOfMemory). h.is ∙ (i.is (known ne) ∙ (g.is ne ∙ unwound_end ac ev f d2 zs s2 (ended ne))) in
+      record { is = λ ny. over (λ k. ny (b.1 ∙ k)) ∙ ap (λ (z : Refusal). (Err z, s2)) (sym b.1) }
 
 pub ruleset answered = (same_answered, refused_answered, falls_answered)
