@@ -44,7 +44,7 @@ use Rattle.aml_meaning.specs.declared.store_target.StoreTarget.{StoreTarget}
 use Rattle.aml_meaning.specs.declared.term_kind.Count.{Count}
 use Rattle.aml_frames.specs.Uses.{optional, target_ends, target_run, access_run}
 use Rattle.aml_meaning.specs.Meaning.{meaning}
-use Rattle.aml_frames.proofs.PassedItems.{given_ok, never_refused, never_err, never_memory, refused_paid, refused_free, refused_met, access_enough, target_enough, four_enough, most_enough}
+use Rattle.aml_frames.proofs.PassedItems.{given_ok, never_refused, never_err, never_memory, refused_begun, refused_paid, refused_free, refused_met, access_enough, target_enough, four_enough, most_enough}
 use Rattle.aml_frames.proofs.Stepping.{leads_goes_on, leads_goes_off, leads_item, list_passing, leads_no_item, leads_end}
 use Rattle.aml_frames.proofs.Weighing.{charged_step, falling}
 use Rattle.aml_frames.specs.Places.{Site, behind_term}
@@ -199,17 +199,11 @@ module _ {S : Type 0} {ac : Accesses S} where
 
 -- ---- the loop
 
-pub falls_popped : (n m : ℕ) (xs ys : List Entry) (y : Entry) (x : Control) (f : Flow) → n < m + (stack_weight ys + entry_weight y + 3) → xs ≡ ys ++ y ∷ [] → x ≡ control.Flow f → n < m + (stack_weight xs + control_weight x)
-falls_popped n m xs ys y x f h e i = rw (e, i, weight_on ys y) h
-
 pub empty_list : (xs : List Entry) → length xs ≡ 0 → xs ≡ []
 empty_list [] h = refl
 empty_list (x ∷ xs) h = absurd (cc h)
 
 module _ {S : Type 0} (ac : Accesses S) (ev : Task → Run S Flow) where
-  pub same_goes : {m : Run S Flow} {s0 s s1 : State S × ℕ} {d : Site} {ys : List Entry} (c : Site) (xs : List Entry) (x y : Control) → Same m s0 (machine ac ev x c xs) s → Goes ac ev (Ok y) d ys s1 (machine ac ev x c xs) s → Same m s0 (machine ac ev y d ys) s1
-  same_goes c xs x y h i = record { is = h.is ∙ i.is tt }
-
   pub does_ended : {m : Run S Flow} {s0 s : State S × ℕ} (c : Site) (xs : List Entry) (f : Flow) (x : Control) → Same m s0 (machine ac ev x c xs) s → x ≡ control.Flow f → xs ≡ [] → Does (Ok f) s m s0
   unfolding then_all unwinding give settle
   does_ended {s = s} c xs f x h i e = record { is = λ _. h.is ∙ ap (λ y. machine ac ev y c xs s) i ∙ ap (λ ys. then_all ac ev (give f) c ys s) e }
@@ -322,7 +316,7 @@ falls_kept (Ok c) a levels xs ys x pushed next =
     omega (arith, k, none)
 falls_kept (Err e) a levels xs ys x pushed next = tt
 
-pub ruleset listing_on = (falls_kept, weight_on, falls_item, falls_done, item_last, item_on, item_none, item_over, item_next, item_refused, item_kept, given_ok, never_refused, never_err, never_memory, goes_memory)
+pub ruleset listing_on = (falls_kept, weight_on, falls_item, falls_done, item_last, item_on, item_none, item_over, item_next, item_refused, item_kept, given_ok, never_refused, never_err, never_memory, refused_begun, goes_memory)
 
 pub ruleset going = (never_refused, weight_on, goes_flow, goes_items, goes_package, goes_term, goes_turn, goes_scope, goes_body, goes_body_then, goes_target, goes_division, goes_found, goes_read, goes_counted, goes_access_then, goes_flow_then, goes_memory)
 

@@ -59,6 +59,11 @@ pub refused_free : (e : Refusal) (r : Outcome Control) (a b x y v : ℕ) → a �
 refused_free e (Ok c) a b x y v h same some i = absurd (cc i.0)
 refused_free e (Err z) a b x y v h same some i = λ holds. let p = charged_less a b h in omega (arith, p, same, some)
 
+-- an item of a list, which pays a step
+pub refused_begun : (e : Refusal) (r : Outcome Control) (a b x : ℕ) → (is_passable e ≡ true → a < b) → IsErr r × IsErrAnd r (λ z. z ≡ e) → IfErr r (λ z. is_passable z ≡ true → charged a + (x + 1) < charged b + (x + 4))
+refused_begun e (Ok c) a b x h i = absurd (cc i.0)
+refused_begun e (Err z) a b x h i = λ holds. let p = charged_step a b (h (ap is_passable (sym i.1) ∙ holds)) in omega (arith, p)
+
 pub refused_met : (e : Refusal) (r : Outcome Control) (a b x y u : ℕ) → a ≤ b → x ≡ y → IsErr r × IsErrAnd r (λ z. z ≡ e) → IfErr r (λ z. is_passable z ≡ true → charged a + (x + 1) < charged b + (y + u + 3))
 refused_met e (Ok c) a b x y u h same i = absurd (cc i.0)
 refused_met e (Err z) a b x y u h same i = λ holds. let p = charged_less a b h in omega (arith, p, same)

@@ -1,8 +1,8 @@
 -- A refusal unwinds the stack, up to an item that is passed over.
-use Rattle.std.specs.Prelude.{◌≡◌, ◌≢◌, ℕ, ◌+◌, ◌<◌, ◌≤◌, Bool, true, false, List, [], ◌∷◌, ◌++◌, Ok, Err, OnOk, OnErr, IfOk, IfErr, IsErr, IsErrAnd, refl}
-use Rattle.std.proofs.Common.{◌∙◌, ap, sym, subst, arith}
+use Rattle.std.specs.Prelude.{◌≡◌, ◌≢◌, ℕ, ◌+◌, ◌≤◌, true, List, [], ◌∷◌, ◌++◌, Ok, Err, OnOk, OnErr, IfOk, IfErr, IsErr, IsErrAnd, refl}
+use Rattle.std.proofs.Common.{◌∙◌, ap, sym, arith}
 use Rattle.ar_space.specs.Accesses.{Accesses}
-use Rattle.ar_space.specs.Change.{Does, Same, stop}
+use Rattle.ar_space.specs.Change.{Does, stop}
 use Rattle.ar_space.specs.Outcome.{Outcome, NotMemory}
 use Rattle.ar_space.specs.declared.refusal.Refusal.{Refusal}
 use Rattle.ar_space.specs.declared.refusal.Refusal.TheVariants.{OutOfMemory}
@@ -20,9 +20,8 @@ use Rattle.aml_frames.specs.declared.frames.Entry.TheVariants as entry
 use Rattle.aml_frames.specs.declared.frames.Items.{Items}
 use Rattle.aml_frames.specs.declared.frames.ListItem.{ListItem}
 use Rattle.aml_frames.specs.Places.{Site, behind_term}
-use Rattle.aml_frames.specs.Weights.{charged}
 use Rattle.aml_frames.specs.Stack.{then_all, machine, Goes, stack_weight, entry_weight, control_weight}
-use Rattle.aml_frames.proofs.Machine.{weight_on, stopped_anywhere, unwound_end, passed_on}
+use Rattle.aml_frames.proofs.Machine.{weight_on, passed_on}
 
 never_passed : (e : Refusal) → e ≡ OutOfMemory → is_passable e ≡ true → ⊥
 never_passed e is holds = absurd (cc (sym holds ∙ ap is_passable is))
@@ -30,6 +29,10 @@ never_passed e is holds = absurd (cc (sym holds ∙ ap is_passable is))
 -- what is passed over is no want of memory
 pub passable_known : (e : Refusal) → is_passable e ≡ true → e ≢ OutOfMemory
 passable_known e holds is = never_passed e is holds
+
+pub answered_known : (r : Outcome Control) (e : Refusal) → OnOk r (is_passable e ≡ true) → OnErr r (NotMemory r → e ≢ OutOfMemory) → NotMemory r → e ≢ OutOfMemory
+answered_known (Ok c) e holds known ne = passable_known e holds
+answered_known (Err f) e holds known ne = known ne
 
 -- ---- weights
 
@@ -46,10 +49,6 @@ falls_passed (Ok c) zs ys xs y x i w same e is h next =
     omega (arith, k, one, all, four, h)
 falls_passed (Err e) zs ys xs y x i w same k is h next = tt
 
--- a step that was refused, and then passed over
-pub falls_unwound : (e : Refusal) (a b n m u v k : ℕ) → b ≡ a → (is_passable e ≡ true → charged a + (u + 1) < charged n + m) → is_passable e ≡ true → v + k ≤ u + 1 → charged b + (v + k) < charged n + m
-falls_unwound e a b n m u v k same h holds le = let p = h holds in let q = ap charged same in omega (arith, p, q, le)
-
 -- ---- what is passed over is noted
 
 noted_as : {S : Type 0} {u : Unit {0}} (e : Refusal) (w : State S) (scope : List Seg) (before : State S) → is_passable e ≡ true → passed_over scope e before ≡ (Ok u, w) → w ≡ with_passed scope e before
@@ -59,29 +58,12 @@ noted_as e w scope before holds h = sym (ap (λ (a : Outcome (Unit {0}) × State
 -- ---- what it means
 
 module _ {S : Type 0} (ac : Accesses S) (ev : Task → Run S Flow) where
-  pub unwound_none : (e : Refusal) (c d : Site) (xs ys : List Entry) (m : Run S Flow) (s0 s s1 : State S × ℕ) → m s0 ≡ then_all ac ev (stop e) c xs s → xs ≡ ys → s1 ≡ s → Goes ac ev (Err e) d ys s1 m s0
-  unwound_none e c d xs ys m s0 s s1 h same after = record { is = λ ne. h ∙ (ap (λ zs. then_all ac ev (stop e) c zs s) same ∙ (stopped_anywhere ac ev e ys c d s ∙ ap (λ t. then_all ac ev (stop e) d ys t) (sym after))) }
-
-  pub unwound_passed : {r : Outcome Control} (e : Refusal) (c d : Site) (xs ys zs : List Entry) (x : ListItem) (y : Entry) (m : Run S Flow) (s0 s s1 : State S × ℕ) → m s0 ≡ then_all ac ev (stop e) c xs s → xs ≡ ys ++ y ∷ [] → y ≡ entry.Item x
-      → Goes ac ev r d zs s1 (then_all ac ev (stop e) c (ys ++ entry.Item x ∷ [])) s → Goes ac ev r d zs s1 m s0
-  unwound_passed e c d xs ys zs x y m s0 s s1 h same is g = record { is = λ ne. h ∙ (ap (λ zs. then_all ac ev (stop e) c zs s) (same ∙ ap (λ z. ys ++ z ∷ []) is) ∙ g.is ne) }
-
-  -- the loop goes on behind an item that is passed over
-  pub same_unwound : {m : Run S Flow} {e : Refusal} {s0 s s1 s2 : State S × ℕ} {d d2 : Site} {ys zs : List Entry} (c : Site) (xs : List Entry) (x y : Control) → Same m s0 (machine ac ev x c xs) s → Goes ac ev (Err e) d ys s1 (machine ac ev x c xs) s → is_passable e ≡ true
-      → Goes ac ev (Ok y) d2 zs s2 (then_all ac ev (stop e) d ys) s1 → Same m s0 (machine ac ev y d2 zs) s2
-  same_unwound {e = e} c xs x y h i holds g = record { is = h.is ∙ (i.is (passable_known e holds) ∙ g.is tt) }
-
-  -- or it ends
-  pub refused_unwound : {m : Run S Flow} {e f : Refusal} {s0 s s1 s2 : State S × ℕ} {d d2 : Site} {ys zs : List Entry} (c : Site) (xs : List Entry) (x : Control) → Same m s0 (machine ac ev x c xs) s → Goes ac ev (Err e) d ys s1 (machine ac ev x c xs) s
-      → (f ≢ OutOfMemory → e ≢ OutOfMemory) → (f ≢ OutOfMemory → zs ≡ []) → Goes ac ev (Err f) d2 zs s2 (then_all ac ev (stop e) d ys) s1 → Does (Err f) s2 m s0
-  refused_unwound {f = f} {s2 = s2} {d2 = d2} {zs = zs} c xs x h i known ended g = record { is = λ ne. h.is ∙ (i.is (known ne) ∙ (g.is ne ∙ unwound_end ac ev f d2 zs s2 (ended ne))) }
-
   -- an item that is passed over
-  pub goes_passed : {s s1 : State S × ℕ} {w : State S} {u : Unit {0}} (e : Refusal) (c d : Site) (xs ys : List Entry) (x : ListItem) (scope : List Seg) (w0 : State S) (n : ℕ) → Does (Ok u) w (passed_over scope e) w0 → is_passable e ≡ true → (w0, n) ≡ s → scope ≡ x.list.scope → d ≡ behind_term x.list x.behind.levels → ys ≡ xs
-      → s1 ≡ (w, n) → Goes ac ev (Ok (control.Items x.behind)) d ys s1 (then_all ac ev (stop e) c (xs ++ entry.Item x ∷ [])) s
-  goes_passed {w = w} e c d xs ys x scope w0 n h holds is at stands same after =
+  pub goes_passed : {w : State S} {u : Unit {0}} (e : Refusal) (c d : Site) (xs : List Entry) (x : ListItem) (scope : List Seg) (w0 : State S) (n : ℕ) → Does (Ok u) w (passed_over scope e) w0 → is_passable e ≡ true → scope ≡ x.list.scope → d ≡ behind_term x.list x.behind.levels
+      → Goes ac ev (Ok (control.Items x.behind)) d xs (w, n) (then_all ac ev (stop e) c (xs ++ entry.Item x ∷ [])) (w0, n)
+  goes_passed {w = w} e c d xs x scope w0 n h holds at stands =
       let noted : w ≡ with_passed x.list.scope e w0 = noted_as e w scope w0 holds (h.is tt) ∙ ap (λ p. with_passed p e w0) at in
-      rw (stands, same, after, ← is) (record { is = λ _. passed_on ac ev e c xs x (w0, n) holds ∙ ap (λ v. machine ac ev (control.Items x.behind) (behind_term x.list x.behind.levels) xs (v, n)) (sym noted) })
+      rw stands (record { is = λ _. passed_on ac ev e c xs x (w0, n) holds ∙ ap (λ v. machine ac ev (control.Items x.behind) (behind_term x.list x.behind.levels) xs (v, n)) (sym noted) })
 
 -- only want of memory refuses to note what may be passed over
 noted_always : {S : Type 0} (e z : Refusal) (w w1 : State S) (scope : List Seg) → is_passable e ≡ true → Does {A = Unit {0}} (Err z) w1 (passed_over scope e) w → z ≢ OutOfMemory → ⊥
@@ -98,5 +80,3 @@ pass_goes ac ev e z w w1 scope (Ok c) d ys m holds h i = absurd (cc i.0)
 pass_goes ac ev e z w w1 scope (Err y) d ys m holds h i = record { is = λ ne. absurd (noted_always e z w w1 scope holds h (λ q. ne (i.1 ∙ q))) }
 
 pub ruleset passing = (goes_passed, pass_memory, pass_goes)
-
-pub ruleset unwound = (same_unwound, refused_unwound, falls_unwound, unwound_none, unwound_passed, falls_passed)

@@ -1,4 +1,4 @@
-use Rattle.std.proofs.Common.{rules, refl}
+use Rattle.std.proofs.Common.{rules}
 use Rattle.aml_meaning.specs.Meaning.{meaning}
 use Rattle.aml_frames.proofs.Unwinding.{goes_passed, pass_memory, pass_goes}
 use Rattle.aml_frames.proofs.passing.pass_item_over.Goals as goal
@@ -11,4 +11,5 @@ returns-in_err-pass_over-clause-means g c = pass_goes g.S.Space.accesses (meanin
 
 pub returns-clause-means : goal.returns-clause-means
 returns-clause-means g c =
-    goes_passed g.S.Space.accesses (meaning g.S.Space.accesses) c.args.refusal c.args.stack.now.act c.over_term.new.self c.args.stack.now.entries.items c.args.stack.now.entries.items c.args.item _ c.run.inside.world c.run.inside.steps c.in_ok-pass_over.ensures c.requires (search rules) (search rules) (search rules) refl (search rules)
+    let e = c.run.view_is in
+    rw (← e) (goes_passed g.S.Space.accesses (meaning g.S.Space.accesses) c.args.refusal c.args.stack.now.act c.over_term.new.self c.args.stack.now.entries.items c.args.item _ c.run.inside.world c.run.inside.steps c.in_ok-pass_over.ensures c.requires (search rules) (search rules))

@@ -1,4 +1,5 @@
 use Rattle.std.proofs.Common.{arith, refl}
+use Rattle.aml_frames.proofs.Unwinding.{answered_known}
 use Rattle.aml_frames.proofs.stack.go_on.Goals as goal
 
 pub returns-in-Ok-clause-passable : goal.returns-in-Ok-clause-passable
@@ -18,6 +19,9 @@ returns-clause-passable g c = rw c.in-Err.is c.unwind.ensures.passable
 
 pub returns-clause-falls : goal.returns-clause-falls
 returns-clause-falls g c = rw c.in-Err.is c.unwind.ensures.falls
+
+pub returns-clause-known : goal.returns-clause-known
+returns-clause-known g c = rw c.in-Err.is (answered_known c.unwind.result c.in-Err.refusal c.unwind.ensures.passable c.unwind.ensures.known)
 
 pub returns-clause-means : goal.returns-clause-means
 returns-clause-means g c = rw c.in-Err.is c.unwind.ensures.means
