@@ -11,7 +11,7 @@ use Rattle.aml_path.specs.declared.segment.Seg.{Seg}
 use Rattle.acpi_machine.specs.Buses.{bus_found}
 use Rattle.acpi_machine.specs.MachineStates.{MachineState}
 use Rattle.acpi_machine.specs.Stops.{AllOrNone}
-use Rattle.acpi_machine.proofs.Stopping.{made_given}
+use Rattle.acpi_machine.proofs.Stopping.{made_given, none_made, stops_here, goes_start}
 use Rattle.route_report.specs.declared.report.BusLine.{BusLine}
 use Rattle.route_report.specs.declared.report.TriggerLine.{TriggerLine}
 use Rattle.route_report.specs.ForKernels.{with_kernel_lines}
@@ -110,14 +110,25 @@ module _ {S : Type 0} (accesses : Accesses S) where
   pub stops_told : (s t : MachineState S) (list : List (List Seg)) → list ≡ devices_with_tables s → StopsInBuses accesses list s t → StopsInBuses accesses (devices_with_tables s) s t
   stops_told s t list e h = rw (← e) h
 
-  pub told_of : (s t : MachineState S) (x : Outcome RoutingReport) (list : List (List Seg)) (own : ℕ) (r : RoutingReport) → Answers (Ok list) (Ok (devices_with_tables s)) → own ≡ sci_interrupt s.tables.fadt → Does x t (lines_told accesses list own r) s → Does x t (kernel_told accesses r) s
+  pub told_of : (s t : MachineState S) (x : Outcome RoutingReport) (list found : List (List Seg)) (own : ℕ) (r : RoutingReport) → list ≡ found → Answers (Ok found) (Ok (devices_with_tables s)) → own ≡ sci_interrupt s.tables.fadt
+      → Does x t (lines_told accesses list own r) s → Does x t (kernel_told accesses r) s
   unfolding kernel_told
-  told_of s t x list own r a e h =
-      let same : list ≡ devices_with_tables s = cc (a.is tt) in
-      record { is = λ n. subst (λ (l : List (List Seg)). lines_told accesses l (sci_interrupt s.tables.fadt) r s ≡ (x, t)) same (subst (λ (n : ℕ). lines_told accesses list n r s ≡ (x, t)) e (h.is n)) }
+  told_of s t x list found own r alike a e h =
+      let here : devices_with_tables s ≡ found = cc (a.is tt) in
+      record { is = λ n. subst (λ (l : List (List Seg)). lines_told accesses l (sci_interrupt s.tables.fadt) r s ≡ (x, t)) (alike ∙ sym here) (subst (λ (n : ℕ). lines_told accesses list n r s ≡ (x, t)) e (h.is n)) }
 
-  pub stops_of : (s t : MachineState S) (list : List (List Seg)) → Answers (Ok list) (Ok (devices_with_tables s)) → StopsInBuses accesses list s t → StopsInTelling accesses true s t
-  stops_of s t list a h = stops_told s t list (cc (a.is tt)) h
+  pub stops_of : (s t : MachineState S) (list found : List (List Seg)) → list ≡ found → Answers (Ok found) (Ok (devices_with_tables s)) → StopsInBuses accesses list s t → StopsInTelling accesses true s t
+  stops_of s t list found alike a h =
+      let here : devices_with_tables s ≡ found = cc (a.is tt) in
+      stops_told s t list (alike ∙ sym here) h
+
+  pub stops_unasked : (s : MachineState S) → StopsInTelling accesses true s s
+  stops_unasked s = stops_here (bus_asked accesses) (λ device. AllOrNone (bus_asked accesses device)) (λ device u. none_made) (devices_with_tables s) goes_start
+
+  pub not_asked : (kernel : Bool) (r : RoutingReport) (s : MachineState S) → kernel ≡ false → Does (Ok r) s (told_if accesses kernel r) s
+  unfolding told_if give
+  not_asked true r s e = absurd (cc e)
+  not_asked false r s e = record { is = λ n. refl }
 
   pub reported_if : (o : RunOptions) (before configured after : MachineState S) (plain : RoutingReport) (kernel : Bool) (x : Outcome RoutingReport) → kernel ≡ o.kernel → IsReportWith accesses o before configured plain → Does x after (told_if accesses kernel plain) configured
       → ((q : RoutingReport) (ts : List TriggerLine) (bs : List BusLine) → IsReadable q → IsReadable (with_kernel_lines q ts bs)) → ((q : RoutingReport) (ts : List TriggerLine) (bs : List BusLine) → IsReadable q → claim_of_report (with_kernel_lines q ts bs) ≡ claim_of_report q)

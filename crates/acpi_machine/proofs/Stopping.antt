@@ -39,6 +39,12 @@ made {after = after} m before (Err e) view d h unspent = by (memory_or_not e)
     by (inl q) = record { is = inl (unspent, h q) }
     by (inr ne) = record { is = inr (ap (λ x. x.1) (d.is ne)) }
 
+-- the same, where the value is the change's own
+pub made_plain : {S B : Type 0} {after : MachineState S} (m : Change (MachineState S) B) (before : MachineState S) (r : Outcome B)
+    → Does r after m before → IfErr r (λ e. e ≡ refusal.OutOfMemory → after.spent ≡ true) → before.spent ≡ false → Made m before after
+made_plain m before (Ok b) d h unspent = made m before (Ok b) (λ x. x) d h unspent
+made_plain m before (Err e) d h unspent = made m before (Err e) (λ x. x) d h unspent
+
 -- nothing is made
 pub none_made : {S A : Type 0} {m : Change (MachineState S) A} {s : MachineState S} → AllOrNone m s s
 none_made = record { is = inl refl }

@@ -2,7 +2,7 @@ use Rattle.std.proofs.Common.{sym, ap, inr, ◌∙◌}
 use Rattle.std.specs.Prelude.{◌≡◌, true, false}
 use Rattle.acpi_machine.specs.Buses.{bus_found}
 use Rattle.acpi_machine.specs.MachineStates.{MachineState}
-use Rattle.acpi_machine.proofs.Stopping.{made}
+use Rattle.acpi_machine.proofs.Stopping.{made_plain}
 use Rattle.acpi_machine.proofs.Noticed.{does_spent, does_unspent}
 use Rattle.acpi_machine.proofs.machine.Machine.find_bus.Goals as goal
 
@@ -16,4 +16,4 @@ pub returns-clause-evaluated : goal.returns-clause-evaluated
 unfolding bus_found
 returns-clause-evaluated g c =
     let unspent : c.args.self.now.spent ≡ false = sym (ap (λ (s : MachineState g.row.S.Denot). s.spent) c.self.view_is) ∙ c.if-self.false in
-    made (bus_found g.S.Space.accesses c.args.device.now) c.args.self.now c.bus_noticed.result (λ bus. bus) (does_unspent _ c.args.self.now unspent c.bus_noticed.ensures.answer) c.bus_noticed.ensures.memory unspent
+    made_plain (bus_found g.S.Space.accesses c.args.device.now) c.args.self.now c.bus_noticed.result (does_unspent _ c.args.self.now unspent c.bus_noticed.ensures.answer) c.bus_noticed.ensures.memory unspent
