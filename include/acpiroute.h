@@ -40,7 +40,7 @@
  * own buffers. Everything that is handed in stays the caller's. A call reads no file, prints nothing, and touches no register.
  *
  * Give a call 128 KiB of stack: at most 91 KiB were measured. It takes as much memory as the tables ask for. The option `--steps`
- * bounds how many terms an evaluation begins, and neither time nor memory.
+ * bounds how many terms an evaluation begins, and neither time nor memory; the option `--accesses` bounds the accesses of registers.
  */
 #ifndef ACPIROUTE_H
 #define ACPIROUTE_H

@@ -24,7 +24,7 @@ const ROWS: [Help; 58] = [
     Help {
         number: 2,
         name: "Device",
-        help: "see to the device behind the register space",
+        help: "see to the device behind the register space, or give a higher number behind --accesses",
     },
     Help {
         number: 10,

@@ -11,7 +11,7 @@ use Rattle.machine_text.specs.declared.machine_lines.MachineText.{MachineText}
 use Rattle.watched_space.specs.declared.last_access.Accessed.{Accessed}
 use Rattle.acpiroute_words.specs.Written.{Written}
 use Rattle.acpiroute_words.specs.declared.request.Asking.{Asking}
-use Rattle.ar_space.specs.Bytes.{byte_accesses}
+use Rattle.acpiroute_lib.specs.Machines.{register_accesses}
 use Rattle.acpi_explain.specs.Explaining.{IsExplanation}
 use Rattle.acpi_explain.specs.declared.explanation.Explanation.{Explanation}
 use Rattle.acpi_explain.specs.declared.stage.Stage.{Stage}
@@ -34,7 +34,7 @@ explanation_told steps IsIt e stage access x w it h is = record { stage = stage;
 module _ (q : Asking) (said : MachineText) where
   -- the stage that a second run found is that of the run
   staged : (text : List ℕ) → machine_text text ≡ Ok said → (ended : RunEnd) (last : Option Accessed) (w : Written) → IsWatched q (tables_of said.space.memory said.rsdp) said.osi said.space ended last
-      → IsExplained q.evaluation.steps (λ phase e. IsStageFound q phase text) ended last w → IsExplained q.evaluation.steps (λ phase e. IsStageOf (watched byte_accesses) q (tables_of said.space.memory said.rsdp) said.osi (first_watch said.space) e) ended last w
+      → IsExplained q.evaluation.steps (λ phase e. IsStageFound q phase text) ended last w → IsExplained q.evaluation.steps (λ phase e. IsStageOf (watched register_accesses) q (tables_of said.space.memory said.rsdp) said.osi (first_watch q.evaluation said.space) e) ended last w
   staged text is (end.Refused phase e) last w run (ne, lines) = (
     ne,
     record {

@@ -4,14 +4,14 @@ ghost use Rattle.ar_space.specs.Outcome.{Answers, seen};
 ghost use Rattle.aml_meaning.specs.Given as given;
 ghost use Rattle.acpiroute_lib.specs.EvalCommand.{given_argument, value_at, value_written, evaluated_text, eval_answer};
 
-use crate::machine::machine_of_text_in;
+use crate::machine::{Registers, machine_of_text_in};
 use crate::value_text::value_line;
 use acpi_machine::Machine;
 use acpiroute_words::{Answer, Argument, ArgumentBytes, Arguments, Completion, Evaluation};
 use aml_meaning::Datum;
 use aml_objects::Octets;
 use aml_path::Path;
-use ar_space::{PathText, Refusal, Sparse};
+use ar_space::{PathText, Refusal};
 use route_report::Mode;
 use std::alloc::{AllocError, Global};
 
@@ -48,7 +48,7 @@ pub(crate) fn data(alloc: Global, arguments: &[Argument]) -> Result<Vec<Datum>, 
 #[tactic(auto, using(crate::proofs::Evaluated::change_answers), unfolding(crate::specs::EvalCommand::value_at))]
 fn value_at(
     alloc: Global,
-    machine: &mut Machine<Sparse>,
+    machine: &mut Machine<Registers>,
     path: &Path,
     arguments: Vec<Datum>,
 ) -> Result<Datum, Refusal>
@@ -72,7 +72,7 @@ pub fn value_answer(alloc: Global, value: &Datum) -> Result<Answer, Refusal>
 #[tactic(auto, using(ar_space::specs::Outcome::answering), unfolding(crate::specs::EvalCommand::evaluated_text))]
 fn evaluated_text(
     alloc: Global,
-    machine: &mut Machine<Sparse>,
+    machine: &mut Machine<Registers>,
     path: &str,
     arguments: &[Argument],
 ) -> Result<Answer, Refusal>

@@ -2,7 +2,8 @@
 ghost use Rattle.std.specs.Prelude.{◌≡◌, IfOk, map};
 ghost use Rattle.ar_space.specs.Outcome.{Answers};
 ghost use Rattle.machine_text.specs.MachineText.{machine_text};
-ghost use Rattle.acpiroute_lib.specs.Machines.{machine_with, machine_of_text, initialized_machine, machine_of_text_in};
+ghost use Rattle.acpiroute_lib.specs.Machines.{registers_of, machine_with, machine_of_text, initialized_machine};
+ghost use Rattle.acpiroute_lib.specs.Machines.{machine_of_text_in};
 
 use acpi_machine::{Machine, Mode, load_tables_as};
 use acpiroute_words::Evaluation;
@@ -11,6 +12,10 @@ use ar_space::{Refusal, Sparse};
 use ar_tables::{Tables, find_tables};
 use machine_text::{MachineText, read_machine};
 use std::alloc::{AllocError, Global};
+use watched_space::Metered;
+
+/// The register space of a run: the bytes of a machine text, to which accesses may be bounded.
+pub(crate) type Registers = Metered<Sparse>;
 
 /// Texts that `_OSI` is to know.
 pub(crate) fn octets(alloc: Global, texts: Vec<Vec<u8>>) -> Result<Vec<Octets>, AllocError>
@@ -23,15 +28,22 @@ pub(crate) fn octets(alloc: Global, texts: Vec<Vec<u8>>) -> Result<Vec<Octets>, 
     Ok(list)
 }
 
+/// The register space of a run that is evaluated like this.
+pub(crate) fn registers_of(evaluation: Evaluation, space: Sparse) -> Registers
+    ensures { result ≡ registers_of evaluation space }
+{
+    Metered::new(space, evaluation.accesses)
+}
+
 /// A machine of these tables over a register space.
 #[tactic(auto, unfolding(crate::specs::Machines::machine_with))]
 fn machine_with(
     alloc: Global,
     evaluation: Evaluation,
     tables: Tables,
-    space: Sparse,
+    space: Registers,
     osi: Vec<Octets>,
-) -> Result<Machine<Sparse>, Refusal>
+) -> Result<Machine<Registers>, Refusal>
     ensures { Answers result (machine_with evaluation tables space osi.items) }
 {
     match load_tables_as(
@@ -61,21 +73,22 @@ pub(crate) fn machine_of_text(
     alloc: Global,
     evaluation: Evaluation,
     text: Vec<u8>,
-) -> Result<Machine<Sparse>, Refusal>
+) -> Result<Machine<Registers>, Refusal>
     ensures { Answers result (machine_of_text evaluation text.items) }
 {
     let said = machine_said(alloc, text)?;
     let tables = find_tables(alloc, said.space.memory(), said.rsdp)?;
     let osi = octets(alloc, said.osi.into_vec())?;
-    machine_with(alloc, evaluation, tables, said.space, osi)
+    let space = registers_of(evaluation, said.space);
+    machine_with(alloc, evaluation, tables, space, osi)
 }
 
 #[tactic(auto, using(crate::proofs::Machines::initializing))]
 fn initialized_machine(
     alloc: Global,
     mode: Mode,
-    machine: Machine<Sparse>,
-) -> Result<Machine<Sparse>, Refusal>
+    machine: Machine<Registers>,
+) -> Result<Machine<Registers>, Refusal>
     ensures { Answers result (initialized_machine mode machine) }
 {
     let mut machine = machine;
@@ -97,7 +110,7 @@ pub(crate) fn machine_of_text_in(
     mode: Mode,
     evaluation: Evaluation,
     text: Vec<u8>,
-) -> Result<Machine<Sparse>, Refusal>
+) -> Result<Machine<Registers>, Refusal>
     ensures { Answers result (machine_of_text_in mode evaluation text.items) }
 {
     let machine = machine_of_text(alloc, evaluation, text)?;

@@ -3,15 +3,15 @@ ghost use Rattle.std.specs.Prelude.{◌≡◌, Ok};
 ghost use Rattle.ar_space.specs.Outcome.{Answers};
 ghost use Rattle.acpiroute_lib.specs.NamesCommand.{names_answer, names_of_machine};
 
-use crate::machine::machine_of_text;
+use crate::machine::{Registers, machine_of_text};
 use crate::name_lines::name_lines;
 use acpi_machine::Machine;
 use acpiroute_words::{Answer, Completion, Evaluation};
-use ar_space::{Refusal, Sparse};
+use ar_space::Refusal;
 use std::alloc::Global;
 
 /// All names of a machine but the root, in path order, one a line.
-fn names_of_machine(alloc: Global, machine: &Machine<Sparse>) -> Result<Answer, Refusal>
+fn names_of_machine(alloc: Global, machine: &Machine<Registers>) -> Result<Answer, Refusal>
     ensures { Answers result (Ok (names_of_machine machine.now)) }
 {
     let nodes = machine.walk_namespace(alloc)?;

@@ -98,17 +98,17 @@ fn decline<W: Sink, E: Sink>(writer: &mut W, errors: &mut E) -> u8
 /// The commands:
 ///
 /// - `check`: reads a report, and writes `yes`, or `no` and the number of its flaw.
-/// - `eval [--mode apic|pic] [--steps N] [--profile core|wide] PATH [ARGUMENT..]`: reads a machine text, loads its
+/// - `eval [--mode apic|pic] [--steps N] [--profile core|wide] [--accesses M] PATH [ARGUMENT..]`: reads a machine text, loads its
 /// tables, initializes the machine in the mode, by default `apic`, evaluates the object at the path with these
 /// arguments, at most seven, each an integer below 2^64 in decimal digits, `s:` and the bytes of a string, or `b:`
 /// and those of a buffer in hexadecimal digits, and writes its value with a line feed: `integer N` in decimal digits;
 /// `string H` and `buffer H`, the bytes in upper-case hexadecimal digits, `-` where there is none; `package C ( V..
 /// )`, the count of its elements and the elements, each behind a blank; `name P`, the path of what holds no data;
 /// `reference`; `none`, no value.
-/// - `names [--steps N] [--profile core|wide]`: reads a machine text, loads its tables, and writes the names of the
+/// - `names [--steps N] [--profile core|wide] [--accesses M]`: reads a machine text, loads its tables, and writes the names of the
 /// namespace, one a line in path order: the path, a blank, and the kind of what stands there, with a method how many
 /// arguments it takes, with an alias its target.
-/// - `route [--dry] [--mode apic|pic] [--steps N] [--profile core|wide] [--avoid LIST]`: reads a machine text, loads
+/// - `route [--dry] [--mode apic|pic] [--steps N] [--profile core|wide] [--accesses M] [--avoid LIST]`: reads a machine text, loads
 /// its tables, initializes the machine in the mode, by default `apic`, chooses an interrupt for each link device,
 /// none of those in the list, sets them, and writes the report of this; with `--dry` no link device is set. The list
 /// is 1 to 255 numbers below 2^32 in decimal digits, separated by commas; for any other text, where nothing else is
@@ -125,7 +125,8 @@ fn decline<W: Sink, E: Sink>(writer: &mut W, errors: &mut E) -> u8
 /// writes the lines of these bytes, and behind them a line that begins with `#` and tells how the run ended.
 ///
 /// N is the budget of steps for each table and each evaluation, a number from 1 to 1,000,000,000 in decimal digits,
-/// by default 1,000,000. The profile says how much of AML is evaluated, by default `core`. Refusals come in this
+/// by default 1,000,000. M is how many accesses of registers the run makes, a number below 2^64 in decimal digits: each
+/// further one is refused as 2, and by default none is. The profile says how much of AML is evaluated, by default `core`. Refusals come in this
 /// order: of the machine text, of the tables, of loading, of initializing, of the path's text, of evaluating or
 /// routing.
 ///

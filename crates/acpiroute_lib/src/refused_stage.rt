@@ -1,6 +1,6 @@
 //! What was done when a run was refused: it is found by a second run over the same register space.
 ghost use Rattle.std.specs.Prelude.{◌≡◌, ◌≢◌, Bool, false, IfOk, Some, None, Ok, Err};
-ghost use Rattle.ar_space.specs.Bytes.{byte_accesses};
+ghost use Rattle.acpiroute_lib.specs.Machines.{register_accesses};
 ghost use Rattle.ar_space.specs.declared.refusal.Refusal.{Refusal};
 ghost use Rattle.ar_space.specs.declared.refusal.Refusal.TheVariants.{OutOfMemory};
 ghost use Rattle.ar_tables.specs.FindTables.{tables_of};
@@ -16,6 +16,7 @@ ghost use Rattle.acpiroute_lib.specs.WhyCommand.{IsStageFound, first_watch};
 ghost use Rattle.acpiroute_lib.specs.WhyStages.{IsNamedStage, IsCallingStage, IsStageIn};
 
 use crate::machine::octets;
+use crate::shown::first_watch;
 use acpi_explain::{Phase, Stage, refused_call, refused_object, refused_table};
 use acpi_machine::{Machine, load_tables_as};
 use acpiroute_words::{Asking, Question};
@@ -25,7 +26,6 @@ use ar_space::{Refusal, Space};
 use ar_tables::{Tables, find_tables};
 use machine_text::{MachineText, read_machine};
 use std::alloc::{AllocError, Global};
-use watched_space::LastAccess;
 
 /// No stage where the second run is refused otherwise; only want of memory is handed on.
 fn no_stage(refusal: Refusal) -> Result<Option<Stage>, AllocError>
@@ -220,8 +220,8 @@ fn stage_said(
     phase: Phase,
     said: MachineText,
 ) -> Result<Option<Stage>, AllocError>
-    ensures { IfOk result (IsStageIn (watched byte_accesses) (Some phase) asking.now
-        (tables_of said.space.memory said.rsdp) said.osi (first_watch said.space)) }
+    ensures { IfOk result (IsStageIn (watched register_accesses) (Some phase) asking.now
+        (tables_of said.space.memory said.rsdp) said.osi (first_watch asking.now.evaluation said.space)) }
 {
     let osi = octets(alloc, said.osi.into_vec())?;
     match find_tables(alloc, said.space.memory(), said.rsdp) {
@@ -231,7 +231,7 @@ fn stage_said(
             phase,
             tables,
             osi,
-            LastAccess::new(said.space),
+            first_watch(asking.evaluation, said.space),
         ),
         Err(refusal) => no_stage(refusal),
     }

@@ -6,11 +6,11 @@ ghost use Rattle.route_report.specs.Readable.{IsReadable, claim_of_report};
 ghost use Rattle.route_report.specs.Reading.{claim_of_text};
 ghost use Rattle.acpiroute_lib.specs.RouteCommand.{is_refused, completion_of, printed, IsRouted, IsRouteAnswer};
 
-use crate::machine::machine_of_text_in;
+use crate::machine::{Registers, machine_of_text_in};
 use acpi_configure::{Options, configure_with};
 use acpi_machine::Machine;
 use acpiroute_words::{Answer, Completion, Evaluation};
-use ar_space::{Refusal, Sparse};
+use ar_space::Refusal;
 use route_report::{Mode, Report, SetLine, SetOutcome, print};
 use std::alloc::Global;
 
@@ -57,7 +57,7 @@ pub fn report_answer(alloc: Global, report: &Report) -> Result<Answer, Refusal>
 #[tactic(auto, using(crate::proofs::Routes::routing))]
 fn routed(
     alloc: Global,
-    machine: &mut Machine<Sparse>,
+    machine: &mut Machine<Registers>,
     options: &Options<'_>,
 ) -> Result<Answer, Refusal>
     ensures { NotMemory result → IsRouted options.now machine.old result }

@@ -28,6 +28,8 @@ Behind the number stands where or what: 'at N' an offset, 'op XXXX' an opcode, '
 pub(crate) const ROUTE: &str = "\
 The machine text is read from the standard input: acpiroute route < machine.txt
 
+--steps bounds the terms that an evaluation begins, and --accesses the accesses of registers in the whole run: one term may make many.
+
 The numbers of --avoid are separated by commas, without blanks: --avoid 3,4,7. Any other text is told by the line 'bad --avoid'. With the \
 8259 controllers, --mode pic, devices of the ISA bus may use interrupts that links offer, and only those of the System Control Interrupt \
 and of wired pins are counted: --avoid 1,3,4,6,7,12,14,15 leaves those of keyboard, serial ports, floppy disk, parallel port, mouse and \

@@ -7,8 +7,8 @@ ghost use Rattle.acpiroute_words.specs.CommandLine.{first_why_app, second_why_ap
 ghost use Rattle.acpiroute_words.specs.CommandLine.{why_evaluated, has_route_options, why_asked, why_of};
 
 use crate::command_line::{
-    arguments_arg, avoid_arg, dry_arg, eval_of, mode_arg, profile_arg, route_of, spare_arg,
-    spread_arg, steps_arg,
+    accesses_arg, arguments_arg, avoid_arg, dry_arg, eval_of, mode_arg, profile_arg, route_of,
+    spare_arg, spread_arg, steps_arg,
 };
 use crate::help_texts;
 use crate::request::{Asked, Asking, Question, Request};
@@ -74,7 +74,8 @@ fn second_why_command<'a>(alloc: Global) -> Result<Command<'a>, AllocError>
     first_why_command(alloc)?
         .arg(spare_arg(alloc))?
         .arg(spread_arg(alloc))?
-        .arg(profile_arg(alloc))
+        .arg(profile_arg(alloc))?
+        .arg(accesses_arg(alloc))
 }
 
 pub(crate) fn why_command<'a>(alloc: Global) -> Result<Command<'a>, AllocError>

@@ -1,6 +1,5 @@
 -- Runs in the wide profile, and which runs in the core one leave nothing out.
 use Rattle.std.specs.Prelude.{Ok, Err}
-use Rattle.ar_space.specs.Bytes.{Bytes}
 use Rattle.ar_space.specs.Outcome.{Outcome}
 use Rattle.aml_meaning.specs.declared.profile.Profile.TheVariants as profile
 use Rattle.acpi_machine.specs.MachineStates.{MachineState}
@@ -9,6 +8,7 @@ use Rattle.route_report.specs.Reports.{RoutingReport}
 use Rattle.recorded_route.specs.declared.settings.Settings.{Settings}
 use Rattle.acpiroute_words.specs.Written.{Written}
 use Rattle.acpiroute_words.specs.declared.request.Evaluation.{Evaluation}
+use Rattle.acpiroute_lib.specs.Machines.{Registers}
 use Rattle.acpiroute_lib.specs.RouteCommand.{IsReportOf}
 use Rattle.machine_laws.specs.Widened.{IsWithheld, TellsNothingLeftOut}
 
@@ -25,9 +25,9 @@ LeavesNothingOut (Err e) = IsWithheld {A = RoutingReport} (Err e) → ⊥
 
 -- the same evaluation in the wide profile
 abbrev pub evaluation_widened : Evaluation → Evaluation
-evaluation_widened evaluation = record { profile = profile.Wide; steps = evaluation.steps }
+evaluation_widened evaluation = record { profile = profile.Wide; steps = evaluation.steps; accesses = evaluation.accesses }
 
 -- a text is that of a report of a machine, and no line of it tells of what the profile leaves out
-abbrev pub IsWholeReport : RunOptions → Outcome (MachineState Bytes) → Written → Type 0
+abbrev pub IsWholeReport : RunOptions → Outcome (MachineState Registers) → Written → Type 0
 IsWholeReport o (Ok m) w = (is : IsReportOf o m w) × TellsNothingLeftOut is.report
 IsWholeReport o (Err e) w = ⊥
