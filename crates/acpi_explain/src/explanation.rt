@@ -12,7 +12,7 @@ use acpiroute_words::Evaluation;
 use aml_meaning::Trace;
 use ar_space::Refusal;
 use std::alloc::{AllocError, Global};
-use std::{fmt, str};
+use std::fmt;
 use watched_space::Accessed;
 
 /// Why a run was refused. `{}` prints the lines that `acpiroute why` writes; where that takes memory, it was taken when

@@ -1,3 +1,4 @@
+use Rattle.std.proofs.Common.{rules}
 use Rattle.acpi_explain.proofs.Putting.{without_name, with_name}
 use Rattle.acpi_explain.proofs.trace_lines.place_lines.Goals as goal
 
@@ -5,4 +6,4 @@ pub returns-in-None : goal.returns-in-None
 returns-in-None c = without_name c.in_ok-text.text.items c.in_ok-text.ensures
 
 pub returns-in-Some : goal.returns-in-Some
-returns-in-Some c = with_name c.in_ok-text.text.items c.put_line.new.text.items _ c.in_ok-text.ensures c.in_ok-put_line.ensures
+returns-in-Some c = with_name c.in_ok-text.text.items c.put_line.new.text.items c.in_ok-words.words.items c.in_ok-text.ensures (search rules)
