@@ -76,7 +76,7 @@ fn call_at<S: Space>(
 }
 
 /// Makes the calls of `Machine::initialize` one after the other, and gives the path of the first that is refused; none
-/// where no call is. Nothing is said of a machine on which memory ran out. The mode is left as it is.
+/// where no call is. Nothing is said of a machine on which memory ran out, nor of the mode that is left.
 ///
 /// Those before it are answered, and it is refused in the world that they leave.
 pub fn refused_call<S: Space>(

@@ -103,8 +103,8 @@ module _ {S : Type 0} (accesses : Accesses S) (q : Asking) (t : Tables) (osi : L
 
   -- ---- loading
 
-  table_told : (found : Option ℕ) (stage : Option Stage) → ((x : Refusal) (w : State S) → loaded_over accesses q t osi before ≡ (Err x, w) → IsLoadingStage accesses q t osi before x stage) → IsStageIn accesses (Some phases.Loading) q (Ok t) osi before stage
-  table_told found stage h = found_stage (Some phases.Loading) stage (record {
+  table_told : (stage : Option Stage) → ((x : Refusal) (w : State S) → loaded_over accesses q t osi before ≡ (Err x, w) → IsLoadingStage accesses q t osi before x stage) → IsStageIn accesses (Some phases.Loading) q (Ok t) osi before stage
+  table_told stage h = found_stage (Some phases.Loading) stage (record {
     loading = λ x w is p. h x w is;
     calling = λ x w s is i p. absurd (cc p);
     asked = λ w ready e left is i p r. absurd (asked_not_loading q.question p);
@@ -116,12 +116,12 @@ module _ {S : Type 0} (accesses : Accesses S) (q : Asking) (t : Tables) (osi : L
   pub table_refused : (n : ℕ) (found : Option ℕ) → found ≡ Some n → IsTable accesses q.evaluation.profile t q.evaluation.steps osi before found → IsStageIn accesses (Some phases.Loading) q (Ok t) osi before (Some (stages.Loading n))
   table_refused n found same h =
       let at : IsTableRefused accesses q.evaluation.profile t q.evaluation.steps osi before n = subst (λ f. IsTable accesses q.evaluation.profile t q.evaluation.steps osi before f) same h in
-      table_told found (Some (stages.Loading n)) (λ x w is. inl (n, refl, at, same_world_refusal at.refusal x at.after w (sym at.is_run ∙ is)))
+      table_told (Some (stages.Loading n)) (λ x w is. inl (n, refl, at, same_world_refusal at.refusal x at.after w (sym at.is_run ∙ is)))
 
   pub none_refused : (found : Option ℕ) → found ≡ None → IsTable accesses q.evaluation.profile t q.evaluation.steps osi before found → IsStageIn accesses (Some phases.Loading) q (Ok t) osi before None
   none_refused found same h =
       let at : IsTable accesses q.evaluation.profile t q.evaluation.steps osi before None = subst (λ f. IsTable accesses q.evaluation.profile t q.evaluation.steps osi before f) same h in
-      table_told found None (λ x w is. inr (
+      table_told None (λ x w is. inr (
         refl,
         λ few.
             let all = at few in
