@@ -69,7 +69,7 @@ fn call_of<S: Space + Drop>(
     asking: &Asking,
     machine: Machine<S>,
 ) -> Result<Option<Stage>, AllocError>
-    ensures { IfOk result (λ stage. (e : Refusal) (after : MachineState S.Value) → machine.spent ≡ false →
+    ensures { IfOk result (λ stage. (e : Refusal) (after : MachineState S) → machine.spent ≡ false →
         initialized S.accesses asking.now.mode machine ≡ (Err e, after) →
         IsCallingStage S.accesses asking.now machine e stage) }
 {
@@ -117,7 +117,7 @@ fn object_of<S: Space + Drop>(
     avoid: &[u32],
     machine: Machine<S>,
 ) -> Result<Option<Stage>, AllocError>
-    ensures { IfOk result (λ stage. (ready : MachineState S.Value) →
+    ensures { IfOk result (λ stage. (ready : MachineState S) →
         initialized S.accesses asking.now.mode machine ≡ (Ok tt, ready) →
         (s : Stage) × ((stage ≡ Some s) × IsStage S.accesses avoid.now ready s)) }
 {
