@@ -191,14 +191,14 @@ module _ {S : Type 0} (accesses : Accesses S) (q : Asking) (t : Tables) (osi : L
   object_if m (Ok stage) avoid is same h = λ dry spare spread question. object_told m stage dry avoid spare spread is same question h
   object_if m (Err e) avoid is same h = tt
 
-  pub routed_if : {E : Type 0} (r : Result (Option Stage) E) (dry : Bool) (avoid : List ℕ) (spare spread : Bool) → q.question ≡ Route dry avoid spare spread
+  pub routed_if : {E : Type 0} (r : Result (Option Stage) E) (dry : Bool) (avoid given : List ℕ) (spare spread : Bool) → q.question ≡ Route dry avoid spare spread → given ≡ avoid
       → IfOk r (λ stage. (dry spare spread : Bool) → q.question ≡ Route dry avoid spare spread → IsStageIn accesses (Some phases.Running) q (Ok t) osi before stage) → IfOk r (IsStageIn accesses (Some phases.Running) q (Ok t) osi before)
-  routed_if (Ok stage) dry avoid spare spread question h = h dry spare spread question
-  routed_if (Err e) dry avoid spare spread question h = tt
+  routed_if (Ok stage) dry avoid given spare spread question same h = h dry spare spread (question ∙ ap (λ x. Route dry x spare spread) (sym same))
+  routed_if (Err e) dry avoid given spare spread question same h = tt
 
-  pub named_if : {E : Type 0} (r : Result (Option Stage) E) (path : List ℕ) (arguments : List Argument) → q.question ≡ Eval path arguments → IfOk r (IsNamedStage (path_of_text path)) → IfOk r (IsStageIn accesses (Some phases.Running) q (Ok t) osi before)
-  named_if (Ok stage) path arguments question h = named_told path arguments stage question h
-  named_if (Err e) path arguments question h = tt
+  pub named_if : {E : Type 0} (r : Result (Option Stage) E) (path given : List ℕ) (arguments : List Argument) → q.question ≡ Eval path arguments → given ≡ path → IfOk r (IsNamedStage (path_of_text given)) → IfOk r (IsStageIn accesses (Some phases.Running) q (Ok t) osi before)
+  named_if (Ok stage) path given arguments question same h = named_told path arguments stage question (subst (λ x. IsNamedStage (path_of_text x) stage) same h)
+  named_if (Err e) path given arguments question same h = tt
 
   -- ---- where no stage is told
 
@@ -258,3 +258,11 @@ of_refused x text (Err e) P is ne = tt
 pub of_all : {A E : Type 0} (text : Outcome A) (a : A) (r : Result (Option Stage) E) (P : A → Option Stage → Type 0) → text ≡ Ok a → IfOk r (P a) → IfOk r (λ stage. (b : A) → text ≡ Ok b → P b stage)
 of_all {A = A} text a (Ok stage) P is h = λ b i. let both : ◌≡◌ {A = Outcome A} (Ok a) (Ok b) = sym is ∙ i in let same : a ≡ b = cc both in subst (λ y. P y stage) same h
 of_all text a (Err e) P is h = tt
+
+-- the object at the path of a text
+pub named_some : (text : Outcome (List Seg)) (p : List Seg) → text ≡ Ok p → IsNamedStage text (Some (stages.Reading p))
+named_some text p is = subst (λ x. IsNamedStage x (Some (stages.Reading p))) (sym is) refl
+
+pub named_refused : {E : Type 0} (x : Refusal) (text : Outcome (List Seg)) (r : Result (Option Stage) E) → (x ≢ OutOfMemory → text ≡ Err x) → IfOk r (λ _. x ≢ OutOfMemory) → IfOk r (λ stage. stage ≡ None) → IfOk r (IsNamedStage text)
+named_refused x text (Ok stage) is ne none = subst (λ y. IsNamedStage y stage) (sym (is ne)) none
+named_refused x text (Err e) is ne none = tt

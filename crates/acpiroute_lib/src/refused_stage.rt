@@ -77,7 +77,8 @@ fn call_of<S: Space + Drop>(
     let found = refused_call(alloc, asking.mode, &mut machine);
     // (by a call: what a scope drops at its end is dropped part by part, and long to prove)
     drop(machine);
-    match found? {
+    let call = found?;
+    match call {
         Some(path) => Ok(Some(Stage::Calling(path))),
         None => Ok(None),
     }
@@ -124,10 +125,11 @@ fn object_of<S: Space + Drop>(
     let mut machine = machine;
     match machine.initialize(alloc, asking.mode) {
         Ok(()) => {
-            let stage = refused_object(alloc, &mut machine, avoid);
+            let found = refused_object(alloc, &mut machine, avoid);
             // (by a call: what a scope drops at its end is dropped part by part, and long to prove)
             drop(machine);
-            Ok(Some(stage?))
+            let stage = found?;
+            Ok(Some(stage))
         }
         Err(refusal) => {
             drop(machine);
