@@ -42,7 +42,7 @@ module _ {S : Type 0} (accesses : Accesses S) where
     unfolding found_by settle give ◌>>=◌ go_on
     narrowing_refused g asked s t h i is = by (narrowed o.spare (barred_if o.spare o.avoid asked) sci g) refl (rw (h, i) at is)
       where
-        by : (x : Outcome Gathering) → narrowed o.spare (barred_if o.spare o.avoid asked) sci g ≡ x → go_on x t (λ gathering. give (record { asked = asked; gathering = gathering })) ≡ (Err e, after) → narrowed o.spare (barred_if o.spare o.avoid asked) sci g ≡ Err e
+        by : (x : Outcome Gathering) → narrowed o.spare (barred_if o.spare o.avoid asked) sci g ≡ x → go_on {B = Findings} x t (λ gathering. give (record { asked = asked; gathering = gathering })) ≡ (Err e, after) → narrowed o.spare (barred_if o.spare o.avoid asked) sci g ≡ Err e
         by (Ok y) at j = let never : ◌≡◌ {A = Outcome Findings} (Ok (record { asked = asked; gathering = y })) (Err e) = ap (λ (p : Outcome Findings × MachineState S). p.0) j in absurd (cc never)
         by (Err y) at j = let same : ◌≡◌ {A = Outcome Findings} (Err y) (Err e) = ap (λ (p : Outcome Findings × MachineState S). p.0) j in let both : y ≡ e = cc same in at ∙ ap Err both
 

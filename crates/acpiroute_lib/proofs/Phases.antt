@@ -42,7 +42,7 @@ module _ {S : Type 0} (accesses : Accesses S) (mode : Mode) where
   unfolding ◌>>=◌ go_on
   phase_unnamed m after path x (Refused phase e) is h p = λ ne. p ne ∙ by (initialized accesses mode m).0 (h ne) ne
     where
-      by : (r : Outcome (Unit {0})) → go_on r (initialized accesses mode m).1 (λ _ s. (Err x, s)) ≡ (Err e, after) → e ≢ OutOfMemory → started_phase None r ≡ started_phase (named_phase (path_of_text path)) r
+      by : (r : Outcome (Unit {0})) → go_on {B = Unit {0}} r (initialized accesses mode m).1 (λ _ s. (Err x, s)) ≡ (Err e, after) → e ≢ OutOfMemory → started_phase None r ≡ started_phase (named_phase (path_of_text path)) r
       by (Ok u) i ne = let v : Err x ≡ Err e = ap (λ q. q.0) i in let w : x ≡ e = cc v in ap named_phase (sym (is (λ q. ne (sym w ∙ q))))
       by (Err y) i ne = refl
   phase_unnamed m after path x (Done report) is h p = tt

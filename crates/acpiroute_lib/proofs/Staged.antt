@@ -192,7 +192,7 @@ module _ {S : Type 0} (accesses : Accesses S) (q : Asking) (t : Tables) (osi : L
   object_if m (Err e) avoid is same h = tt
 
   pub routed_if : {E : Type 0} (r : Result (Option Stage) E) (dry : Bool) (avoid given : List ℕ) (spare spread : Bool) → q.question ≡ Route dry avoid spare spread → given ≡ avoid
-      → IfOk r (λ stage. (dry spare spread : Bool) → q.question ≡ Route dry avoid spare spread → IsStageIn accesses (Some phases.Running) q (Ok t) osi before stage) → IfOk r (IsStageIn accesses (Some phases.Running) q (Ok t) osi before)
+      → IfOk r (λ stage. (dry spare spread : Bool) → q.question ≡ Route dry given spare spread → IsStageIn accesses (Some phases.Running) q (Ok t) osi before stage) → IfOk r (IsStageIn accesses (Some phases.Running) q (Ok t) osi before)
   routed_if (Ok stage) dry avoid given spare spread question same h = h dry spare spread (question ∙ ap (λ x. Route dry x spare spread) (sym same))
   routed_if (Err e) dry avoid given spare spread question same h = tt
 
@@ -248,7 +248,7 @@ not_initialized x m after (Err e) P is ne = tt
 -- a machine that is initialized
 pub initialized_so : {S : Type 0} (m : Outcome (Unit {0}) × MachineState S) (after : MachineState S) (stage : Stage) (P : MachineState S → Stage → Type 0) → m ≡ (Ok tt, after) → P after stage
     → (ready : MachineState S) → m ≡ (Ok tt, ready) → (s : Stage) × ((Some stage ≡ Some s) × P ready s)
-initialized_so {S = S} m after stage P is h ready i = (stage, refl, subst (λ x. P x stage) (ap (λ (p : Outcome (Unit {0}) × MachineState S). p.1) (sym is ∙ i)) h)
+initialized_so {S = S} m after stage P is h ready i = (stage, (refl, subst (λ x. P x stage) (ap (λ (p : Outcome (Unit {0}) × MachineState S). p.1) (sym is ∙ i)) h))
 
 -- what is said of all, where one is refused or is it
 pub of_refused : {A E : Type 0} (x : Refusal) (text : Outcome A) (r : Result (Option Stage) E) (P : A → Option Stage → Type 0) → (x ≢ OutOfMemory → text ≡ Err x) → IfOk r (λ _. x ≢ OutOfMemory) → IfOk r (λ stage. (a : A) → text ≡ Ok a → P a stage)
