@@ -92,7 +92,7 @@ fn add_trigger(asked: &mut Exchange, options: &mut OptionLines) {
 /// `bus D S B`, or `bus D refused R`
 fn add_bus(asked: &mut Exchange, options: &mut OptionLines) {
     let device = path(asked);
-    let state = if asked.takes("refused") {
+    let state = if asked.takes("refused ") {
         BusState::Refused(asked.number(0xFF) as u8)
     } else {
         BusState::Known {
