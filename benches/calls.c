@@ -89,7 +89,7 @@ static struct acpiroute_access record[4096];
 static struct acpiroute_reply reply;
 
 static uint32_t configure(size_t length, struct acpiroute_wanted *wanted) {
-    struct acpiroute_settings settings = {1000000, strcmp(words[3], "pic") == 0 ? ACPIROUTE_PIC : ACPIROUTE_APIC, 0};
+    struct acpiroute_settings settings = {1000000, strcmp(words[3], "pic") == 0 ? ACPIROUTE_PIC : ACPIROUTE_APIC, 0, 0};
     uint32_t no_avoid = 0;
     return acpiroute_configure(&settings, &no_avoid, 0, machine.at, machine.length, record, length, text, sizeof text, line, sizeof line,
                                &reply, wanted);

@@ -2,9 +2,10 @@
  * acpiroute: a proved ACPI interrupt router, over memory.
  *
  * Five calls do what the commands of the program `acpiroute` do, with input, output and error line in memory. They are proved to have
- * the contract of that program, whose README says what the commands do, and what their options are. Four further calls are over a
- * record, for a machine whose registers only the caller can access: `acpiroute_configure` does what `route` does, and
- * `acpiroute_evaluate` what `eval` does, with the tables from a machine text, and the same two over the tables as they stand in memory.
+ * the contract of that program, whose README says what the commands do, and what their options are. Six further calls are over a
+ * record, for a machine whose registers only the caller can access: `acpiroute_configure` does what `route` does,
+ * `acpiroute_configure_pins` the same with the routing as plain numbers, and `acpiroute_evaluate` does what `eval` does, with the tables
+ * from a machine text; and the same three over the tables as they stand in memory. A kernel wants `acpiroute_configure_tables_pins`.
  *
  * What a caller has to keep to, which nothing checks:
  *
@@ -19,7 +20,7 @@
  *
  *                                  for programs            libacpiroute_kernel.a    libacpiroute_kernel_no_sse.a
  *     made by                      rt lib, a release       tools/kernel_library.py, a release
- *     calls                        all                     all                      the four over a record
+ *     calls                        all                     all                      the six over a record
  *     x86-64 processors            from x86-64-v2 on       all                      all
  *     registers                    general, xmm0 to xmm15  general, xmm0 to xmm15   general
  *     128 bytes below the stack    used (the red zone)     not used                 not used
@@ -40,7 +41,7 @@
  * own buffers. Everything that is handed in stays the caller's. A call reads no file, prints nothing, and touches no register.
  *
  * Give a call 128 KiB of stack: at most 91 KiB were measured. It takes as much memory as the tables ask for. The option `--steps`
- * bounds how many terms an evaluation begins, and neither time nor memory.
+ * bounds how many terms an evaluation begins, and neither time nor memory; the option `--accesses` bounds the accesses of registers.
  */
 #ifndef ACPIROUTE_H
 #define ACPIROUTE_H
@@ -85,7 +86,9 @@ struct acpiroute_reply {
     size_t text_length;
     /*
      * How many bytes the line has: what the program would write to its errors; 0 where it writes nothing there. They are at the
-     * start of the buffer `line`. A refusal is one line with a line feed at its end.
+     * start of the buffer `line`. A refusal is one line with a line feed at its end. With the option "--profile wide" of
+     * `acpiroute_route`, `acpiroute_names` and `acpiroute_eval` lines "passed R P" stand before it, or alone, for what was passed
+     * over in loading and initializing: 65 lines at most.
      */
     size_t line_length;
     /*
@@ -190,7 +193,8 @@ struct acpiroute_wanted {
 
 /*
  * Which interrupt controllers the machine is told that it uses, and the profile in which its AML is evaluated: the core profile, and
- * where ACPIROUTE_WIDE is added the wide one, as with the option `--profile wide`.
+ * where ACPIROUTE_WIDE is added the wide one, as with the option `--profile wide`. These calls write no lines "passed R P": what the
+ * wide profile passed over in loading and initializing is not told.
  */
 enum { ACPIROUTE_PIC = 0, ACPIROUTE_APIC = 1, ACPIROUTE_WIDE = 2 };
 
@@ -202,6 +206,8 @@ struct acpiroute_settings {
     uint8_t mode;
     /* 1 where no link is to be set, and else 0. */
     uint8_t dry;
+    /* 1 where the report is to have the lines for a kernel, as with the option `--kernel`, and else 0. */
+    uint8_t kernel;
 };
 
 /*
@@ -209,15 +215,15 @@ struct acpiroute_settings {
  *
  * Of the machine text only the tables in its memory are read, and the texts of `_OSI`: its registers are passed over. Each access of a
  * register is answered from the record, in order, from the first of its entries on; accesses of memory that tables ask for are among
- * them. At the first access that the record does not hold, the entries end to count: the run goes on to its end with each further access
+ * them. From the first access that the record does not hold, no entry counts any more: the run goes on to its end with each further access
  * refused, which changes nothing outside of the call, and the call answers ACPIROUTE_WANTED with that first access. So a caller
  *
  *  1. calls with an empty record;
  *  2. makes the access that is wanted, appends it with its answer to the record, and calls again, with all else as before, unless
  *     `wanted->entry` says that the record is not of this run;
- *  3. goes on so until the call answers something else. Where that is ACPIROUTE_REPLIED, the status says how the run came out: 0 the
- *     links are set (none where `dry` is 1), 3 they are set but for those that refused it, as the text says, 1 the machine is refused,
- *     for the reason in the line.
+ *  3. goes on so until the call answers something else. Where that is ACPIROUTE_REPLIED, the status says how the run came out: 0 no link
+ *     refused its setting (a link without `_SRS` isn't set, and none is where `dry` is 1), 3 one did, as the text says, 1 the machine
+ *     is refused, for the reason in the line.
  *
  * A record that grew in this way is of this run, as long as all else that is handed in, and its entries, are as they were. Each call
  * tells in `wanted->entry` at which entry it stopped. At `record_length` the access that is wanted is the next one after those of the
@@ -227,6 +233,9 @@ struct acpiroute_settings {
  *
  * That a run ends in all cases is not proved: registers may answer so that its steps run out (70), and one step may make many
  * accesses. A caller sets a limit of its own to the length of its record.
+ *
+ * Where `kernel` is 1, lines `trigger` and `bus` stand behind all others of the report. Once the links are set, each device with a
+ * `_PRT` is asked for its bus, which may want accesses of its own; so a record is of runs with the same `kernel`.
  *
  * The record is read anew by each call, and keeps to the order in which accesses were made. Between two accesses the caller may do
  * what it likes, but nothing else is to change the registers that the tables use. After ACPIROUTE_TOO_SMALL, ACPIROUTE_NO_MEMORY or
@@ -240,7 +249,7 @@ uint32_t acpiroute_configure(const struct acpiroute_settings *settings, const ui
 /*
  * Evaluates an object of a machine: the tables are loaded, the machine is initialized, and the object at a path, such as
  * "\\_SB_.PCI0._BBN" with no zero byte at the end, is read or called with integers. The text is the value as `eval` writes it,
- * such as "integer 128", and a line feed. `dry` of the settings is 0 or 1, and counts for nothing.
+ * such as "integer 128", and a line feed. `dry` and `kernel` of the settings are 0 or 1, and count for nothing.
  *
  * The record is one of its own: begin with an empty one for each object. All else is as with `acpiroute_configure`. Loading the tables
  * and initializing, which calls `\_INI`, `\_SB_._INI` and `\_PIC`, may write to registers, once more for each object; the machine is
@@ -278,6 +287,82 @@ uint32_t acpiroute_evaluate_tables(const struct acpiroute_settings *settings, co
                                    size_t parts_length, const uint8_t *osi, size_t osi_length, const struct acpiroute_access *record, size_t record_length, uint8_t *text,
                                    size_t text_capacity, uint8_t *line, size_t line_capacity, struct acpiroute_reply *reply,
                                    struct acpiroute_wanted *wanted);
+
+/*
+ * A pin of a PCI device, with the interrupt that its link was given or that it is wired to, as an interrupt controller is programmed for
+ * it. Elements of one interrupt may differ in `low` or `level`, where the tables contradict themselves: links are compared with one
+ * another, and not with wired pins.
+ */
+struct acpiroute_pin {
+    /* Its interrupt: of 8259 controllers their line, of I/O APICs the global system interrupt. */
+    uint32_t interrupt;
+    /* The segment group and the bus of its device; 0 where `has_bus` is 0. */
+    uint16_t segment;
+    /* The number of its device on that bus, as the `_PRT` has it: a device of PCI is below 32. */
+    uint16_t device;
+    uint8_t bus;
+    /* 0 for A, 1 for B, 2 for C, 3 for D. */
+    uint8_t pin;
+    /* 1 where it is triggered by a level, 0 by an edge. */
+    uint8_t level;
+    /* 1 where it is active low, 0 active high. */
+    uint8_t low;
+    /*
+     * 1 where the bus is known, 0 where the line `bus` of its `_PRT` says that it is refused. In the core profile that is so of every
+     * PCI-to-PCI bridge with a `_PRT`. Such a pin isn't one of the bridge above: ask in the wide profile, or don't use the device.
+     */
+    uint8_t has_bus;
+    /*
+     * 1 where the pin is wired, or where its link is set to the interrupt as far as the link tells: it reads back just this one, or it
+     * has no `_CRS` and took its setting. 0 where it has no `_SRS`, refused its setting, or reads back something else, and where `dry`
+     * is 1: then another interrupt may come.
+     */
+    uint8_t is_set;
+};
+
+/* The System Control Interrupt, which power management events raise. */
+struct acpiroute_sci {
+    /* Its interrupt, counted as those of pins are; 0 where the machine has none. */
+    uint32_t interrupt;
+    /* 1 where it is triggered by a level, 0 by an edge, or where there is none. */
+    uint8_t level;
+    /* 1 where it is active low, 0 active high, or where there is none. */
+    uint8_t low;
+    /* 1 where the machine has one. */
+    uint8_t is_known;
+};
+
+/* What a call for pins has said. */
+struct acpiroute_pins_reply {
+    /* How many pins there are; 0 after a refusal. They are at the start of the array `pins`. */
+    size_t pins_length;
+    /* How many bytes the line has, as in `struct acpiroute_reply`. */
+    size_t line_length;
+    /* The System Control Interrupt; after a refusal none is known. */
+    struct acpiroute_sci sci;
+    /* 0 no link refused its setting, 3 one did (`is_set` tells whose pins those are), 1 the machine is refused. */
+    uint8_t status;
+};
+
+/*
+ * `acpiroute_configure` and `acpiroute_configure_tables` with the routing as plain numbers in place of a text: for each line `pin` of the
+ * report whose interrupt is known there is one element of `pins`, in the order of these lines, and `reply` has the System Control
+ * Interrupt. `pins_capacity` is how many elements the array has; where it or the buffer of the line is too short, the call answers
+ * ACPIROUTE_TOO_SMALL, `reply` has both lengths, the SCI and the status also then, and array and buffer are as they were. 4,096 elements
+ * are enough. I/O APICs are not among these numbers: the lines `ioapic` of the text have them, and so has the MADT. The report has the
+ * lines for a kernel in any case: `kernel` of the settings is 0 or 1, and counts for nothing. So a record of these calls is one of the
+ * calls above where `kernel` is 1. A pin whose link isn't present has no element.
+ */
+uint32_t acpiroute_configure_pins(const struct acpiroute_settings *settings, const uint32_t *avoid, size_t avoid_length,
+                                  const uint8_t *machine, size_t machine_length, const struct acpiroute_access *record,
+                                  size_t record_length, struct acpiroute_pin *pins, size_t pins_capacity, uint8_t *line,
+                                  size_t line_capacity, struct acpiroute_pins_reply *reply, struct acpiroute_wanted *wanted);
+
+uint32_t acpiroute_configure_tables_pins(const struct acpiroute_settings *settings, const uint32_t *avoid, size_t avoid_length, uint64_t rsdp,
+                                         const struct acpiroute_part *parts, size_t parts_length, const uint8_t *osi, size_t osi_length,
+                                         const struct acpiroute_access *record, size_t record_length, struct acpiroute_pin *pins,
+                                         size_t pins_capacity, uint8_t *line, size_t line_capacity,
+                                         struct acpiroute_pins_reply *reply, struct acpiroute_wanted *wanted);
 
 #ifdef __cplusplus
 }

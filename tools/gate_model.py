@@ -12,15 +12,12 @@ import sys
 
 sys.dont_write_bytecode = True
 import gate_plan
+from gate_plan import ADDED, ALONE
 from usage import answer_help
 
 ROOT = os.path.join(os.path.dirname(os.path.abspath(__file__)), "..")
 # seconds for running the programs at the end, once nothing is left to prove
 LAST = 30
-# the part of a proof in which it is one process, whatever it was given
-ALONE = 0.12
-# what each further process adds to the processor seconds
-ADDED = 0.12
 # how much less of a processor a process gets at the next lower priority
 NEXT_LOWER = 1.25
 

@@ -5,8 +5,9 @@ A task's key is a crate's name, what is done, and in some kits a number. What is
 A task is described as the kit's `rt ci` does: by what it waits for, its lines, the bytes of memory that it is expected to need,
 and a call.
 
-The slack of a task is how many seconds later it could begin without the whole run ending later, if each proof had one process and never
-waited for a processor. What has next to none belongs to the longest chain."""
+The slack of a task is how many seconds later it could begin without the whole run ending later, if no task waited for a processor. What
+has next to none belongs to the longest chain. Its proofs get several processes and end sooner, so another chain may be the longest then:
+what has next to none by that reckoning belongs to the chains that have several processes, too."""
 import collections
 import os
 
@@ -22,6 +23,10 @@ STEP = 60
 LOWEST = 15
 # what a further process of a proof takes of the memory of the first, by the kit's estimate
 FURTHER = 0.6
+# how often the slack is reckoned anew with what several processes save
+ROUNDS = 2
+# the part of a proof in which it is one process, whatever it was given, and what each further process adds to the processor seconds
+ALONE, ADDED = 0.12, 0.12
 
 
 def read_table():
@@ -35,16 +40,29 @@ class Plan:
     def __init__(self, tasks, table, processors):
         self.tasks, self.table, self.processors = tasks, table, processors
         self.tries = collections.Counter(key[0] for key in tasks if key[1] == "edits")
-        self.several = min(4, max(2, 3 * processors // 4)) if processors > 1 else 1
-        before, behind = {}, {it: self.seconds(it) for it in tasks}
+        self.several = min(4, max(2, processors // 2)) if processors > 1 else 1
+        self.chain = set()
+        self.slack = self.slacks()
+        for _ in range(ROUNDS):
+            self.chain |= {it for it in tasks if it[1] == "proof" and self.slack[it] <= CHAIN}
+            self.slack = self.slacks()
+
+    def slacks(self):
+        """The slack of each task, with the processes that proofs have so far."""
+        before, behind = {}, {it: self.lasting(it) for it in self.tasks}
         # (a task comes after those that it waits for)
-        for key, task in tasks.items():
-            before[key] = max((before[it] + self.seconds(it) for it in task[0]), default=0)
-        for key in reversed([*tasks]):
-            for it in tasks[key][0]:
-                behind[it] = max(behind[it], self.seconds(it) + behind[key])
-        longest = max((before[it] + behind[it] for it in tasks), default=0)
-        self.slack = {it: longest - before[it] - behind[it] for it in tasks}
+        for key, task in self.tasks.items():
+            before[key] = max((before[it] + self.lasting(it) for it in task[0]), default=0)
+        for key in reversed([*self.tasks]):
+            for it in self.tasks[key][0]:
+                behind[it] = max(behind[it], self.lasting(it) + behind[key])
+        longest = max((before[it] + behind[it] for it in self.tasks), default=0)
+        return {it: longest - before[it] - behind[it] for it in self.tasks}
+
+    def lasting(self, key):
+        """How many seconds a task lasts that never waits for a processor."""
+        processes = self.processes(key)
+        return self.seconds(key) * (ALONE + (1 - ALONE + ADDED * (processes - 1)) / processes)
 
     def seconds(self, key):
         """The processor seconds of a task with one process."""
@@ -61,7 +79,7 @@ class Plan:
         return sorted(self.tasks, key=lambda it: self.slack[it])
 
     def is_in_chain(self, key):
-        return key[1] == "proof" and self.slack[key] <= CHAIN
+        return key in self.chain
 
     def processes(self, key):
         return self.several if self.is_in_chain(key) else 1

@@ -1,9 +1,8 @@
 #!/usr/bin/env python3
-"""lemmas.py [--list] - whether specs/ holds definitions alone: names each statement with a proof that stands there.
+"""lemmas.py - whether specs/ holds definitions alone: names each statement with a proof that stands there.
 
 A definition begins with `abbrev` or `unfoldable`, or is part of a `record`, a `data` or a `mutual`. What has a signature without these is a
-statement, and its clauses are its proof: it belongs into proofs/. The files of KNOWN still hold some: these crates stand below all others,
-and the script says where one of them has none left."""
+statement, and its clauses are its proof: it belongs into proofs/."""
 import glob
 import os
 import re
@@ -12,11 +11,7 @@ import sys
 import usage
 
 ROOT = os.path.join(os.path.dirname(os.path.abspath(__file__)), '..', 'crates')
-# nearly every crate cites these
-KNOWN = {
-    'ar_space/specs/Change.antt', 'ar_space/specs/Each.antt', 'ar_space/specs/Outcome.antt', 'ar_space/specs/Registers.antt',
-    'aml_path/specs/Segments.antt',
-}
+
 
 def around(lines, at):
     """the line that a line stands under, by its indentation"""
@@ -42,17 +37,12 @@ def statements(path):
 
 def main():
     usage.answer_help(__doc__)
-    bad, left = [], set()
+    bad = []
     for path in sorted(glob.glob(os.path.join(ROOT, '*/specs/**/*.antt'), recursive=True)):
         name = os.path.relpath(path, ROOT)
-        found = list(statements(path))
-        if found and name in KNOWN:
-            left.add(name)
-        if '--list' in sys.argv[1:] or name not in KNOWN:
-            bad += [f'crates/{name}:{line}: {word} is a statement with a proof: move it to proofs/' for line, word in found]
-    bad += [f'crates/{name} holds no statement any more: take it out of KNOWN in tools/lemmas.py' for name in sorted(KNOWN - left)]
-    print('\n'.join(bad) if bad else 'specs/ holds definitions alone, but for ' + str(len(KNOWN)) + ' files of the lowest crates')
-    return 1 if bad and '--list' not in sys.argv[1:] else 0
+        bad += [f'crates/{name}:{line}: {word} is a statement with a proof: move it to proofs/' for line, word in statements(path)]
+    print('\n'.join(bad) if bad else 'specs/ holds definitions alone')
+    return 1 if bad else 0
 
 
 if __name__ == '__main__':

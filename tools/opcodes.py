@@ -64,6 +64,8 @@ WITHOUT_OPCODE = [
      "target_uses: store_value; accesses: begin_write; field_access: begin_access; short_names: put_node"),
     ("An access of an IndexField", "Fields: index_unit index_unit_written",
      "index_access: begin_indexed; aml_interp/index_fields: index_bits"),
+    ("An access of a BankField", "Fields: bank_selected bank_unit bank_unit_written",
+     "bank_access: begin_banked; aml_interp/bank_fields: bank_bits"),
     ("The address of a field in PCI_Config", "Fields: pci_address; PciFunctions: pci_function",
      "pci: begin_pci; aml_interp/fields: pci_address"),
 ]
@@ -95,9 +97,9 @@ One row for each opcode of AML.
   operator makes *of values* is defined in `specs/Operations.antt`, and its code is in `crates/aml_meaning/src/operations.rt`; of the wide
   profile in `specs/WideOperations.antt` and `wide_operations.rt`. What gives
   or takes an integer that is there already is done at once (`known`).
-- **Field**, **IndexField** and the `Create` terms only declare fields. How a field of an operation region is read and written is in
-  `specs/Fields.antt`, with its code in `crates/aml_frames/src/field_access.rt` and `index_access.rt`; for a buffer field in
-  `crates/aml_fields/specs/BufferFields.antt`, with its code in `crates/aml_fields/src/buffer_fields.rt`.
+- **Field**, **IndexField**, **BankField** and the `Create` terms only declare fields. How a field of an operation region is read and
+  written is in `specs/Fields.antt`, with its code in `crates/aml_frames/src/field_access.rt`, `index_access.rt` and `bank_access.rt`; for a
+  buffer field in `crates/aml_fields/specs/BufferFields.antt`, with its code in `crates/aml_fields/src/buffer_fields.rt`.
 - **Tests** are files of rows: in `crates/name_rows/data` the one with the row `the opcode NAME, read and refused`, and in
   `crates/evaluation_rows/data` the one that names the term most often.
 
@@ -108,7 +110,8 @@ TAIL = """
 ## What has no opcode of its own
 
 A name stands for itself, and targets, stores and accesses of fields are parts of many terms. What an integer is that such a part gives or
-takes at once is in `short_names` and `short_terms`. The functions of `aml_interp` do the same for a caller that reads a field from outside.
+takes at once is in `short_names` and `short_terms`; an operator over such integers is in `short_operations`, where an operand, a
+predicate or a Return asks for its integer. The functions of `aml_interp` do the same for a caller that reads a field from outside.
 
 | What | Definition | Code |
 |---|---|---|

@@ -87,7 +87,7 @@ CASES = {
         (f"{REPORT}/specs/Reading.antt", '(codes "give") then', '(codes "gave") then', "Reading.antt doesn't know the line give"),
         (f"{REPORT}/specs/Reading.antt", '(codes "pin") ||', '(codes "pins") ||', "Reading.antt doesn't know the line pin"),
         (f"{REPORT}/src/line.rt", 'key == b"give"', 'key == b"gave"', "line.rt doesn't know the line give"),
-        (f"{REPORT}/src/line.rt", '|| key == b"pin".as_slice()', "", "line.rt doesn't know the line pin"),
+        (f"{REPORT}/src/claimless.rt", '|| key == b"pin".as_slice()', "", "line.rt doesn't know the line pin"),
         (f"{REPORT}/src/line.rt", "        give_line(alloc", "        bound_line(alloc", "read by give_line in the definition"),
         (f"{REPORT}/src/lines.rt", 'b"give"', 'b"gave"', "lines.rt writes no line give"),
         (f"{REPORT}/src/printing.rt", "`give P N` for", "`give P M` for", "has no form `give P N`"),

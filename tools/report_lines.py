@@ -35,7 +35,7 @@ One row for each line, in the order in which `route` writes them. `check` reads 
 one in any order. `README.md` shows a report, and says what each line means for a user.
 
 - **Form**: D and P are paths; N, K, C, I, S, G, R decimal numbers; A and F hexadecimal digits, eight and four; V is `-`, `none` or
-  numbers; X is A to D. `N..` and `P..` are one or more. Where an offer isn't `small` and `low`, it is `extended` and `high`; a bound
+  numbers; X is A to D. `N..` and `P..` are one or more. An offer is `small` or `extended`, and `low` or `high`; a bound
   without links has `-` in their place. The first line of a report of version 1 is `acpiroute 1`.
 - **Versions** are those that have the line. `route` writes version 2, and version 3 where options add lines.
 - **`check`**: *read*, it tests what the line says, or believes it of the machine; *form alone*, the line has to have its form, and what it

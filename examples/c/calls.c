@@ -74,10 +74,12 @@ struct question {
     const char *osi;
 };
 
-enum { ROOM = 1 << 16, UNTOUCHED = 0xEE, RSDP = 0xE0000 };
+enum { ROOM = 1 << 16, MOST_PINS = 64, UNTOUCHED = 0xEE, RSDP = 0xE0000 };
 static struct places {
     uint8_t text[ROOM], line[ROOM];
+    struct acpiroute_pin pins[MOST_PINS];
     struct acpiroute_reply reply;
+    struct acpiroute_pins_reply sizes;
     struct acpiroute_wanted wanted;
 } now, untouched;
 static struct acpiroute_access record[64];
@@ -104,6 +106,18 @@ static uint32_t ask(const struct question *it, size_t text_room, size_t line_roo
                                   &now.wanted);
     return acpiroute_configure(&it->settings, it->avoid, it->avoid_length, it->input.at, it->input.length, record, record_length, now.text,
                                text_room, now.line, line_room, &now.reply, &now.wanted);
+}
+
+/* The same for pins. */
+static uint32_t ask_pins(const struct question *it, size_t pins_room, size_t line_room) {
+    now = untouched;
+    requests = 0;
+    if (it->parts != NULL)
+        return acpiroute_configure_tables_pins(&it->settings, it->avoid, it->avoid_length, RSDP, it->parts, it->parts_length,
+                                               (const uint8_t *)it->osi, strlen(it->osi), record, record_length, now.pins, pins_room,
+                                               now.line, line_room, &now.sizes, &now.wanted);
+    return acpiroute_configure_pins(&it->settings, it->avoid, it->avoid_length, it->input.at, it->input.length, record, record_length,
+                                    now.pins, pins_room, now.line, line_room, &now.sizes, &now.wanted);
 }
 
 /* What is judged. */
@@ -241,6 +255,88 @@ static void judge_spoiled(const struct question *it) {
     judge_told(&other, ACPIROUTE_MALFORMED);
     other = *it, other.settings.dry = 2;
     judge_told(&other, ACPIROUTE_MALFORMED);
+    other = *it, other.settings.kernel = 2;
+    judge_told(&other, ACPIROUTE_MALFORMED);
+}
+
+/* Pins. */
+
+static int is_same_pin(const struct acpiroute_pin *one, const struct acpiroute_pin *other) {
+    return one->interrupt == other->interrupt && one->segment == other->segment && one->device == other->device &&
+           one->bus == other->bus && one->pin == other->pin && one->level == other->level && one->low == other->low &&
+           one->has_bus == other->has_bus && one->is_set == other->is_set;
+}
+
+/* What a call for pins should say: the pins and the System Control Interrupt, or a line. */
+struct routing {
+    uint8_t status;
+    const struct acpiroute_pin *pins;
+    size_t count;
+    struct acpiroute_sci sci;
+    const char *line;
+};
+
+static struct routing refused_by(const char *line) {
+    return (struct routing){1, NULL, 0, {0, 0, 0, 0}, line};
+}
+
+static int is_same_sci(struct acpiroute_sci one, struct acpiroute_sci other) {
+    return one.interrupt == other.interrupt && one.level == other.level && one.low == other.low && one.is_known == other.is_known;
+}
+
+static int are_sizes(const struct routing *wanted) {
+    return now.sizes.pins_length == wanted->count && now.sizes.line_length == strlen(wanted->line) &&
+           now.sizes.status == wanted->status && is_same_sci(now.sizes.sci, wanted->sci) && is_untouched(now.text, ROOM) &&
+           is_untouched((uint8_t *)&now.wanted, sizeof now.wanted);
+}
+
+static int are_pins(uint32_t came, const struct routing *wanted) {
+    size_t count = wanted->count;
+    int is_right = came == ACPIROUTE_REPLIED && are_sizes(wanted) && is_put(now.line, strlen(wanted->line), wanted->line) &&
+                   is_untouched((uint8_t *)(now.pins + count), (MOST_PINS - count) * sizeof *now.pins);
+    for (size_t i = 0; is_right && i < count; i++)
+        is_right = is_same_pin(&now.pins[i], &wanted->pins[i]);
+    return is_right;
+}
+
+/* What a call for pins says, the array and the buffer too small, and each request for memory refused. */
+static void judge_pins(const struct question *it, struct routing wanted) {
+    size_t count = wanted.count, length = strlen(wanted.line);
+    struct routing without_memory = refused_by("refused 99\n");
+    judge(it, "the pins", are_pins(ask_pins(it, MOST_PINS, ROOM), &wanted));
+    judge(it, "pins with just enough room", are_pins(ask_pins(it, count, length), &wanted));
+    if (count > 0 || length > 0) {
+        uint32_t came = ask_pins(it, count - (count > 0), length - (length > 0));
+        judge(it, "pins without room", came == ACPIROUTE_TOO_SMALL && are_sizes(&wanted) &&
+              is_untouched((uint8_t *)now.pins, sizeof now.pins) && is_untouched(now.line, ROOM));
+    }
+    for (refused = 0;; refused++) {
+        uint32_t came = ask_pins(it, MOST_PINS, ROOM);
+        if (requests <= refused)
+            break;
+        if (!are_pins(came, &wanted) && !are_pins(came, &without_memory) &&
+            !(came == ACPIROUTE_NO_MEMORY && is_all_untouched()))
+            judge(it, "pins without memory", 0);
+    }
+    refused = SIZE_MAX;
+    judge(it, "the memory that is left", blocks == 0);
+}
+
+/* A call for pins over each beginning of a record wants the access that follows. */
+static void judge_pins_wanted(const struct question *it) {
+    size_t whole = record_length;
+    for (record_length = 0; record_length < whole; record_length++) {
+        struct acpiroute_access next = record[record_length];
+        next.answer = ACPIROUTE_ANSWERED;
+        next.value = next.kind == ACPIROUTE_READ ? 0 : next.value;
+        uint32_t came = ask_pins(it, MOST_PINS, ROOM);
+        judge(it, "a wanted access", came == ACPIROUTE_WANTED && now.wanted.entry == record_length &&
+              is_same_access(&now.wanted.access, &next) && is_untouched((uint8_t *)&now.sizes, sizeof now.sizes) &&
+              is_untouched((uint8_t *)now.pins, sizeof now.pins) && is_untouched(now.line, ROOM));
+    }
+    struct question other = *it;
+    other.settings.kernel = 2;
+    judge(it, "malformed settings", ask_pins(&other, MOST_PINS, ROOM) == ACPIROUTE_MALFORMED && is_all_untouched());
 }
 
 static const char *folder;
@@ -260,7 +356,7 @@ static const char *text_of(const char *name) {
 }
 
 static struct question over(const char *name, command *command, const char *options, struct bytes input) {
-    return (struct question){name, command, options, NULL, {1000000, ACPIROUTE_APIC, 0}, {0}, 0, {0}, 0, input, NULL, 0, ""};
+    return (struct question){name, command, options, NULL, {1000000, ACPIROUTE_APIC, 0, 0}, {0}, 0, {0}, 0, input, NULL, 0, ""};
 }
 
 /* A text with each line left out that begins so. */
@@ -348,6 +444,86 @@ static size_t parts_of(struct bytes text, struct acpiroute_part *parts, size_t m
     return count;
 }
 
+/* The report of the four links with the lines for a kernel: each link offers interrupts that are active high, the SCI is level and low, as
+ * no override says otherwise, and PCI0 has neither _SEG nor _BBN. */
+static const char *for_kernels(const char *report) {
+    const char *lines = "trigger link \\_SB_.LNKA level high\ntrigger link \\_SB_.LNKB level high\ntrigger link \\_SB_.LNKC level high\n"
+                        "trigger link \\_SB_.LNKD level high\ntrigger sci 9 level low\nbus \\_SB_.PCI0 0 0\n";
+    const char *text = with(with(report, "acpiroute 2\n", "acpiroute 3\n"), "avoid -\n", "avoid -\nfirst\n");
+    char *made = (char *)room(strlen(text) + strlen(lines) + 1).at;
+    strcpy(made, text);
+    return strcat(made, lines);
+}
+
+/* The pins of the lines `pin` of that report, of which those of one link aren't set; all are, where that link's letter is blank. */
+static size_t pins_of(const char *report, char unset, struct acpiroute_pin *pins) {
+    size_t count = 0;
+    unsigned device, interrupt;
+    char pin, link;
+    for (const char *line = report; *line; line = strchr(line, '\n') + 1)
+        if (sscanf(line, "pin \\_SB_.PCI0 %u %c %u \\_SB_.LNK%c", &device, &pin, &interrupt, &link) == 4)
+            pins[count++] = (struct acpiroute_pin){interrupt, 0, (uint16_t)device, 0, (uint8_t)(pin - 'A'), 1, 0, 1, link != unset};
+    return count;
+}
+
+/* The first write is refused by its device: a link refuses its setting, and the run goes on. */
+static void judge_refused_setting(const struct question *it, struct chipset *chipset, const char *report) {
+    struct acpiroute_pin pins[MOST_PINS];
+    struct routing wanted = {3, pins, pins_of(report, 'A', pins), {9, 1, 1, 1}, ""};
+    size_t first = 0;
+    while (record[first].kind != ACPIROUTE_WRITE)
+        first++;
+    chipset_reset(chipset);
+    record[first].answer = ACPIROUTE_DEVICE_FAILED;
+    record_length = first + 1;
+    while (ask_pins(it, MOST_PINS, ROOM) == ACPIROUTE_WANTED && record_length < sizeof record / sizeof *record) {
+        record[record_length] = now.wanted.access;
+        chipset_access(chipset, &record[record_length++]);
+    }
+    judge_pins(it, wanted);
+}
+
+/* The lines for a kernel, and the pins. */
+static void judge_kernel_calls(struct question it, const char *report) {
+    struct acpiroute_pin pins[MOST_PINS];
+    struct routing wanted = {0, pins, pins_of(report, ' ', pins), {9, 1, 1, 1}, ""};
+    struct chipset chipset;
+    judge(&it, "the lines of pins", wanted.count == 16);
+    it.settings.kernel = 1;
+    chipset_reset(&chipset);
+    grow(&it, &chipset, 1);
+    judge(&it, "what the chipset is set to", memcmp(chipset.routing, (uint8_t[]){5, 5, 10, 10}, 4) == 0);
+    judge_reply(&it, 0, for_kernels(report), "");
+    judge_pins(&it, wanted);
+    it.settings.kernel = 0;
+    judge_pins(&it, wanted);
+    judge_pins_wanted(&it);
+    judge_refused_setting(&it, &chipset, report);
+    it.settings.dry = 1, it.settings.kernel = 1;
+    chipset_reset(&chipset);
+    grow(&it, &chipset, 1);
+    for (size_t i = 0; i < wanted.count; i++)
+        pins[i].is_set = 0;
+    judge_pins(&it, wanted);
+    record[0].answer = ACPIROUTE_DEVICE_FAILED, record[0].value = 0;
+    judge_pins(&it, refused_by("refused 2\n"));
+    record_length = 0;
+}
+
+/* Pins that are wired, edges, and buses that are not known: as the rows of `route --kernel` have them for this machine. */
+static void judge_wired_pins(void) {
+    const struct acpiroute_pin pins[] = {
+        {19, 0, 1, 0, 0, 1, 1, 0, 1}, {21, 0, 1, 0, 0, 1, 1, 0, 1}, {17, 2, 1, 128, 0, 1, 1, 1, 1}, {18, 0, 1, 0, 0, 1, 1, 0, 1},
+        {16, 0, 1, 0, 0, 0, 0, 1, 1}, {5, 0, 1, 0, 1, 1, 1, 1, 0},  {22, 0, 1, 0, 0, 1, 1, 0, 1},
+    };
+    struct question it = over("pins", NULL, "", example("../crates/program_rows/data/kernel.txt"));
+    it.settings.dry = 1;
+    record_length = 0;
+    judge_pins(&it, (struct routing){0, pins, sizeof pins / sizeof *pins, {20, 1, 0, 1}, ""});
+    it.input = (struct bytes){(uint8_t *)"rsdp 0\n", 7};
+    judge_pins(&it, refused_by("refused 13\n"));
+}
+
 /* The calls over a record, of the tables of a text or of parts: on a chipset whose registers are others than those of the text. */
 static void judge_record_calls(struct question it) {
     const char *report = text_of("i440fx.report");
@@ -357,6 +533,7 @@ static void judge_record_calls(struct question it) {
     judge(&it, "what the chipset is set to", memcmp(chipset.routing, (uint8_t[]){5, 5, 10, 10}, 4) == 0);
     judge_spoiled(&it);
     judge_reply(&it, 0, report, "");
+    judge_kernel_calls(it, report);
     it.settings.dry = 1;
     chipset_reset(&chipset);
     grow(&it, &chipset, 1);
@@ -377,6 +554,7 @@ static void judge_record_calls(struct question it) {
     judge(&it, "what the chipset is set to", chipset.routing[0] != 5 && chipset.routing[1] != 5);
     it.avoid_length = 0;
     it.object = "\\_SB_.LNKA._STA";
+    it.settings.kernel = 1;
     chipset_reset(&chipset);
     grow(&it, &chipset, 1);
     judge_spoiled(&it);
@@ -443,6 +621,7 @@ int main(int count, char **words) {
     chipset_reset(&chipset);
     grow(&refused_machine, &chipset, 0);
     judge_reply(&refused_machine, 1, "", "refused 101\n");
+    judge_wired_pins();
     printf("%u passed, %u failed\n", passed, failed);
     return failed > 0;
 }

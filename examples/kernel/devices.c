@@ -77,21 +77,22 @@ static void walk(unsigned bus) {
 }
 
 /*
- * The route of a device's pin. The report has the pins of the buses whose bridges have a `_PRT`. A pin behind a bridge without one
+ * The route of a device's pin. There are routes for the buses whose bridges have a `_PRT`. A pin behind a bridge without one
  * is a pin of the bridge itself, as PCI bridges turn them: pin P of device D is pin (P + D) mod 4.
  */
 static struct route routed(const struct device *it) {
     unsigned bus = it->place.bus, device = it->place.device, pin = it->pin;
-    while (!is_root_bus(bus) && buses[bus].is_behind) {
+    while (!has_table(bus) && buses[bus].is_behind) {
         pin = (pin + device) % 4;
         device = buses[bus].bridge.device;
         bus = buses[bus].bridge.bus;
     }
     struct route route = route_of(bus, device, pin);
     char name[2] = {"ABCD"[pin], 0};
-    say("device %s at %x:%x.%x: pin %s of device %u on bus %u: %s%s, interrupt %u %s", it->kind->name, (uint64_t)it->place.bus,
+    say("device %s at %x:%x.%x: pin %s of device %u on bus %u: %s %u %s %s", it->kind->name, (uint64_t)it->place.bus,
         (uint64_t)it->place.device, (uint64_t)it->place.function, name, (uint64_t)device, (uint64_t)bus,
-        route.is_found ? "by " : "NOT IN THE REPORT", route.by, (uint64_t)route.line.interrupt, route.line.is_low ? "low" : "high");
+        route.is_found ? "interrupt" : "NOT IN THE REPORT", (uint64_t)route.line.interrupt, route.line.is_level ? "level" : "edge",
+        route.line.is_low ? "low" : "high");
     return route;
 }
 
@@ -201,7 +202,8 @@ static void try_sci(unsigned wrong) {
     expect(route.is_found, "the report has no SCI");
     route.line.interrupt += wrong;
     unsigned vector = vector_of(route.line.interrupt);
-    say("sci: interrupt %u %s", (uint64_t)route.line.interrupt, route.line.is_low ? "low" : "high");
+    say("sci: interrupt %u %s %s", (uint64_t)route.line.interrupt, route.line.is_level ? "level" : "edge",
+        route.line.is_low ? "low" : "high");
     lines_close();
     line_set(route.line, 0);
     clear_events();
@@ -228,7 +230,7 @@ struct tried devices_try(uint16_t events, unsigned wrong) {
     struct tried tried = {0};
     walk(0);
     for (unsigned bus = 1; bus < 256; bus++)
-        if (is_root_bus(bus) && !buses[bus].is_behind)
+        if (has_table(bus) && !buses[bus].is_behind)
             walk(bus);
     for (unsigned i = 0; i < device_count; i++) {
         unsigned before = faults;

@@ -73,14 +73,15 @@ struct tables { uint64_t rsdp; struct acpiroute_part parts[320]; size_t count; }
 struct fixed_ports { uint16_t timer, events; };
 struct fixed_ports tables_at(struct tables *tables, uint64_t rsdp);
 
-/* routing.c: the run of the library, and what its report says. */
+/* routing.c: the run of the library, and where it routes each pin. */
 enum spoil { NOT_SPOILED, SPOILED };
 void routing_run(const struct tables *machine, int is_apic, enum spoil spoil);
-struct route { int is_found; struct line line; const char *by; };
-/* What it says of a pin (0 for A) of a device on a root bus, and of the System Control Interrupt. */
+struct route { int is_found; struct line line; };
+/* That of a pin (0 for A) of a device on a bus that has a routing table, and that of the System Control Interrupt. */
 struct route route_of(unsigned bus, unsigned device, unsigned pin);
 struct route route_of_sci(void);
-int is_root_bus(unsigned bus);
+/* Whether a bus has a routing table of its own. */
+int has_table(unsigned bus);
 
 /* devices.c: the devices whose pins software can raise, each tried with its route. */
 struct tried { unsigned devices, bad; };

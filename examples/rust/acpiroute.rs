@@ -68,6 +68,7 @@ pub struct Settings {
     pub steps: u64,
     pub mode: u8,
     pub dry: u8,
+    pub kernel: u8,
 }
 
 /// A part of the machine's memory in which tables stand.

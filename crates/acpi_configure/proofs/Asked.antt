@@ -5,7 +5,8 @@ use Rattle.std.specs.List.{filter_map, cons_option}
 use Rattle.std.proofs.lemmas.List.{drop_all}
 use Rattle.ar_space.specs.Accesses.{Accesses}
 use Rattle.ar_space.specs.Outcome.{Outcome, Answers, seen}
-use Rattle.ar_space.specs.Change.{Does, does_settle}
+use Rattle.ar_space.specs.Change.{Does}
+use Rattle.ar_space.proofs.Changes.{does_settle}
 use Rattle.aml_path.specs.declared.segment.Seg.{Seg}
 use Rattle.acpi_machine.specs.MachineStates.{MachineState}
 use Rattle.acpi_machine.specs.Stops.{AllOrNone}

@@ -7,7 +7,8 @@ use Rattle.ar_space.specs.declared.refusal.Refusal.{Refusal}
 use Rattle.ar_space.specs.declared.refusal.Refusal.TheVariants.{OutOfMemory}
 use Rattle.ar_space.specs.Accesses.{Accesses}
 use Rattle.ar_space.specs.Outcome.{Outcome, NotMemory, Answers, seen}
-use Rattle.ar_space.specs.Change.{Change, Does, Same, give, ◌>>=◌, does_ok, does_err, changing}
+use Rattle.ar_space.specs.Change.{Change, Does, Same, give, ◌>>=◌}
+use Rattle.ar_space.proofs.Changes.{does_ok, does_err, changing}
 use Rattle.acpi_machine.specs.MachineStates.{MachineState}
 use Rattle.acpi_links.specs.Links.{PresentLink}
 use Rattle.route_model.specs.Links.{OfferingLink, offers_of}

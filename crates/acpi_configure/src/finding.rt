@@ -39,7 +39,7 @@ impl Model for Found {
 }
 
 /// Finds what there is: first the links, then the other devices.
-#[tactic(auto, using(ar_space::specs::Change::changing), unfolding(crate::specs::WithOptions::found_by))]
+#[tactic(auto, using(ar_space::proofs::Changes::changing), unfolding(crate::specs::WithOptions::found_by))]
 pub(crate) fn find<S: Space>(
     alloc: Global,
     machine: &mut Machine<S>,

@@ -102,7 +102,7 @@ fn tell_kernel<S: Space>(
 }
 
 /// The report with the lines for a kernel, of these devices with a routing table.
-#[tactic(auto, using(ar_space::specs::Change::changing), unfolding(crate::specs::ForKernels::lines_told))]
+#[tactic(auto, using(ar_space::proofs::Changes::changing), unfolding(crate::specs::ForKernels::lines_told))]
 fn tell_lines<S: Space>(
     alloc: Global,
     machine: &mut Machine<S>,
@@ -160,7 +160,7 @@ fn with_kernel_lines(
 }
 
 /// The paths of the devices that have a routing table, in path order.
-#[tactic(auto, using(ar_space::specs::Outcome::answering), unfolding(crate::specs::ForKernels::devices_with_tables))]
+#[tactic(auto, using(ar_space::proofs::Outcomes::answering), unfolding(crate::specs::ForKernels::devices_with_tables))]
 fn devices_with_tables<S: Space>(alloc: Global, machine: &Machine<S>) -> Result<Vec<Path>, Refusal>
     ensures value { Answers (seen (λ list. list.items) result) (Ok (devices_with_tables machine.now)) }
     ensures memory { IfErr result (λ refusal. refusal ≡ OutOfMemory) }
@@ -217,7 +217,7 @@ fn ask_buses<S: Space>(
 }
 
 /// The bus of the routing table of one device: a refusal is told, but for want of memory.
-#[tactic(auto, using(ar_space::specs::Change::changing), unfolding(crate::specs::ForKernels::bus_asked))]
+#[tactic(auto, using(ar_space::proofs::Changes::changing), unfolding(crate::specs::ForKernels::bus_asked))]
 fn ask_bus<S: Space>(
     alloc: Global,
     machine: &mut Machine<S>,

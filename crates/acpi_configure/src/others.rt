@@ -106,7 +106,7 @@ fn ask_devices<S: Space>(
 }
 
 /// What a device has: a refusal is told, but for want of memory.
-#[tactic(auto, using(ar_space::specs::Change::changing), unfolding(crate::specs::Others::device_asked))]
+#[tactic(auto, using(ar_space::proofs::Changes::changing), unfolding(crate::specs::Others::device_asked))]
 fn ask_device<S: Space>(
     alloc: Global,
     machine: &mut Machine<S>,
@@ -134,7 +134,7 @@ fn try_to_ask<S: Space>(
 }
 
 /// The interrupts of the `_CRS` of a device that has one and is present.
-#[tactic(auto, using(ar_space::specs::Change::changing), unfolding(crate::specs::Others::device_resources))]
+#[tactic(auto, using(ar_space::proofs::Changes::changing), unfolding(crate::specs::Others::device_resources))]
 fn device_resources<S: Space>(
     alloc: Global,
     machine: &mut Machine<S>,
@@ -166,7 +166,7 @@ fn resources_at<S: Space>(
 }
 
 /// The interrupts of the `_CRS` of a device that is present.
-#[tactic(auto, using(ar_space::specs::Change::changing), unfolding(crate::specs::Others::present_resources))]
+#[tactic(auto, using(ar_space::proofs::Changes::changing), unfolding(crate::specs::Others::present_resources))]
 fn present_resources<S: Space>(
     alloc: Global,
     machine: &mut Machine<S>,
@@ -179,7 +179,7 @@ fn present_resources<S: Space>(
     resources_if(alloc, machine, present, device)
 }
 
-#[tactic(auto, using(ar_space::specs::Change::changing), unfolding(crate::specs::Others::resources_if))]
+#[tactic(auto, using(ar_space::proofs::Changes::changing), unfolding(crate::specs::Others::resources_if))]
 fn resources_if<S: Space>(
     alloc: Global,
     machine: &mut Machine<S>,

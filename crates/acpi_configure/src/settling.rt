@@ -28,7 +28,7 @@ pub(crate) type Settings = (Vec<SetLine>, Vec<AfterLine>);
 /// Sets each of some links to the interrupt that it is given, and then reads what each is set to; neither where no
 /// link is to be set. Only want of memory refuses it: any other refusal is told in the line of its link, and the next
 /// link follows.
-#[tactic(auto, using(ar_space::specs::Change::changing, acpi_machine::proofs::Stopping::making), unfolding(crate::specs::Settling::settled_unless))]
+#[tactic(auto, using(ar_space::proofs::Changes::changing, acpi_machine::proofs::Stopping::making), unfolding(crate::specs::Settling::settled_unless))]
 pub(crate) fn settle_unless<S: Space>(
     alloc: Global,
     machine: &mut Machine<S>,
@@ -49,7 +49,7 @@ pub(crate) fn settle_unless<S: Space>(
     }
 }
 
-#[tactic(auto, using(ar_space::specs::Change::changing), unfolding(crate::specs::Settling::settled))]
+#[tactic(auto, using(ar_space::proofs::Changes::changing), unfolding(crate::specs::Settling::settled))]
 fn settle<S: Space>(
     alloc: Global,
     machine: &mut Machine<S>,
@@ -91,7 +91,7 @@ fn set_links<S: Space>(
 }
 
 /// One link is set, and what came of it is told.
-#[tactic(auto, using(ar_space::specs::Change::changing), unfolding(crate::specs::Settling::link_set))]
+#[tactic(auto, using(ar_space::proofs::Changes::changing), unfolding(crate::specs::Settling::link_set))]
 fn set_link<S: Space>(
     alloc: Global,
     machine: &mut Machine<S>,
@@ -169,7 +169,7 @@ fn read_links<S: Space>(
 }
 
 /// What one link is set to.
-#[tactic(auto, using(ar_space::specs::Change::changing), unfolding(crate::specs::Settling::link_read))]
+#[tactic(auto, using(ar_space::proofs::Changes::changing), unfolding(crate::specs::Settling::link_read))]
 fn read_link<S: Space>(
     alloc: Global,
     machine: &mut Machine<S>,

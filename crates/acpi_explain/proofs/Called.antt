@@ -1,5 +1,5 @@
 -- The calls of initializing, made one after another, up to the first that is refused.
-use Rattle.std.proofs.Common.{◌≡◌, ◌∙◌, ap, refl, sym, subst}
+use Rattle.std.proofs.Common.{◌≡◌, ◌≢◌, ◌∙◌, ap, refl, sym, subst}
 use Rattle.std.specs.Prelude.{List, [], ◌∷◌, Bool, true, false, None, Ok, Err, if◌then◌else◌}
 use Rattle.ar_space.specs.Accesses.{Accesses}
 use Rattle.ar_space.specs.Change.{Change, Does, give, stop, settle, go_on, ◌>>=◌}
@@ -9,12 +9,14 @@ use Rattle.ar_space.specs.declared.refusal.Refusal.TheVariants as refusal
 use Rattle.ar_space.specs.declared.refusal.MachineFault.TheVariants.{Spent}
 use Rattle.aml_path.specs.declared.segment.Seg.{Seg}
 use Rattle.aml_meaning.specs.State.{State}
+use Rattle.aml_meaning.specs.Passing.{is_wide, passed_over}
 use Rattle.acpi_machine.specs.MachineStates.{MachineState}
 use Rattle.ar_tables.specs.declared.mode.Mode.{Mode}
 use Rattle.aml_meaning.specs.Given.{Given}
 use Rattle.std.specs.FinMap.{contains_key}
 use Rattle.aml_meaning.specs.Calling.{answered}
-use Rattle.acpi_machine.specs.Calls.{on_world, unless_spent, object_answered, evaluated_object, object_called, called_where_it_stands, initial_calls, started, initialized, mode_number}
+use Rattle.acpi_machine.specs.Calls.{on_world, unless_spent, object_answered, evaluated_object, object_called, refused_call, call_done, call_passing, called_where_it_stands, initial_calls, started, initialized, mode_number}
+use Rattle.acpi_machine.proofs.Passing.{call_answered, call_refused}
 use Rattle.acpi_explain.specs.Stages.{InitialPaths, in_mode}
 use Rattle.aml_meaning.specs.Given as given
 use Rattle.acpi_explain.specs.Refused.{TellsRefused}
@@ -28,15 +30,28 @@ module _ {S : Type 0} (accesses : Accesses S) where
   unfolding evaluated_object unless_spent
   evaluated_is p arguments s h = rw h refl
 
+  object_ok : (p : List Seg) (arguments : List Given) (s t : MachineState S) (g : Given) → s.spent ≡ false → evaluated_object accesses p arguments s ≡ (Ok g, t) → object_called accesses p arguments s ≡ (Ok tt, t)
+  unfolding object_called give ◌>>=◌ go_on
+  object_ok p arguments s t g spent h = let at : object_answered accesses p arguments s ≡ (Ok g, t) = sym (evaluated_is p arguments s spent) ∙ h in rw at refl
+
+  object_err : (p : List Seg) (arguments : List Given) (s t : MachineState S) (e : Refusal) → s.spent ≡ false → evaluated_object accesses p arguments s ≡ (Err e, t) → object_called accesses p arguments s ≡ (Err e, t)
+  unfolding object_called give ◌>>=◌ go_on
+  object_err p arguments s t e spent h = let at : object_answered accesses p arguments s ≡ (Err e, t) = sym (evaluated_is p arguments s spent) ∙ h in rw at refl
+
   pub called_ok : (p : List Seg) (arguments : List Given) (s t : MachineState S) (g : Given) → s.spent ≡ false → contains_key s.world.names.map p ≡ true → evaluated_object accesses p arguments s ≡ (Ok g, t)
       → called_where_it_stands accesses p arguments s ≡ (Ok tt, t)
-  unfolding called_where_it_stands object_called give ◌>>=◌ go_on
-  called_ok p arguments s t g spent key h = let at : object_answered accesses p arguments s ≡ (Ok g, t) = sym (evaluated_is p arguments s spent) ∙ h in rw (key, at) refl
+  unfolding called_where_it_stands
+  called_ok p arguments s t g spent key h =
+      let d : Does (Ok tt) t (object_called accesses p arguments) s = record { is = λ _. object_ok p arguments s t g spent h } in rw key ((call_answered p (object_called accesses p arguments) d).is tt)
 
-  pub called_err : (p : List Seg) (arguments : List Given) (s t : MachineState S) (e : Refusal) → s.spent ≡ false → contains_key s.world.names.map p ≡ true → evaluated_object accesses p arguments s ≡ (Err e, t)
-      → called_where_it_stands accesses p arguments s ≡ (Err e, t)
-  unfolding called_where_it_stands object_called give ◌>>=◌ go_on
-  called_err p arguments s t e spent key h = let at : object_answered accesses p arguments s ≡ (Err e, t) = sym (evaluated_is p arguments s spent) ∙ h in rw (key, at) refl
+  -- a refusal, which may be passed over
+  pub called_err : (p : List Seg) (arguments : List Given) (s t u : MachineState S) (e : Refusal) (r : Outcome (Unit {0})) → s.spent ≡ false → contains_key s.world.names.map p ≡ true → (e ≢ refusal.OutOfMemory → evaluated_object accesses p arguments s ≡ (Err e, t))
+      → Does r u (refused_call p e) t → Does r u (called_where_it_stands accesses p arguments) s
+  unfolding called_where_it_stands
+  called_err p arguments s t u e r spent key h passed =
+      let d : Does (Err e) t (object_called accesses p arguments) s = record { is = λ ne. object_err p arguments s t e spent (h ne) } in
+      let i : Does r u (call_passing p (object_called accesses p arguments)) s = call_refused p (object_called accesses p arguments) d passed in
+      record { is = λ ne. rw key (i.is ne) }
 
   pub called_none : (p : List Seg) (arguments : List Given) (s : MachineState S) → contains_key s.world.names.map p ≡ false → called_where_it_stands accesses p arguments s ≡ (Ok tt, s)
   unfolding called_where_it_stands
@@ -53,9 +68,24 @@ module _ {S : Type 0} (accesses : Accesses S) where
   unfolding object_called object_answered on_world ◌>>=◌
   called_in mode p arguments s = by_answer mode (answered accesses p arguments s.steps s.world).0 (answered accesses p arguments s.steps s.world).1 s
 
-  if_it_stands : (mode : Mode) (p : List Seg) (arguments : List Given) (s : MachineState S) (b : Bool) → (if b then object_called accesses p arguments (in_mode mode s) else (Ok tt, in_mode mode s))
-      ≡ (let r = (if b then object_called accesses p arguments s else (Ok tt, s)) in (r.0, in_mode mode r.1))
-  if_it_stands mode p arguments s true = called_in mode p arguments s
+  refused_in : (mode : Mode) (p : List Seg) (e : Refusal) (s : MachineState S) (wide : Bool) → (if wide then on_world (passed_over p e) (in_mode mode s) else (Err e, in_mode mode s))
+      ≡ (let r = (if wide then on_world (passed_over p e) s else (Err e, s)) in (r.0, in_mode mode r.1))
+  unfolding on_world
+  refused_in mode p e s true = refl
+  refused_in mode p e s false = refl
+
+  done_in : (mode : Mode) (p : List Seg) (x : Outcome (Unit {0})) (s : MachineState S) → call_done p x (in_mode mode s) ≡ (let r = call_done p x s in (r.0, in_mode mode r.1))
+  done_in mode p (Ok u) s = refl
+  done_in mode p (Err e) s = refused_in mode p e s (is_wide s.world.profile)
+
+  passing_in : (mode : Mode) (p : List Seg) (arguments : List Given) (s : MachineState S) → call_passing p (object_called accesses p arguments) (in_mode mode s) ≡ (let r = call_passing p (object_called accesses p arguments) s in (r.0, in_mode mode r.1))
+  unfolding call_passing
+  passing_in mode p arguments s =
+      ap (λ (a : Outcome (Unit {0}) × MachineState S). call_done p a.0 a.1) (called_in mode p arguments s) ∙ done_in mode p (object_called accesses p arguments s).0 (object_called accesses p arguments s).1
+
+  if_it_stands : (mode : Mode) (p : List Seg) (arguments : List Given) (s : MachineState S) (b : Bool) → (if b then call_passing p (object_called accesses p arguments) (in_mode mode s) else (Ok tt, in_mode mode s))
+      ≡ (let r = (if b then call_passing p (object_called accesses p arguments) s else (Ok tt, s)) in (r.0, in_mode mode r.1))
+  if_it_stands mode p arguments s true = passing_in mode p arguments s
   if_it_stands mode p arguments s false = refl
 
   moved : (mode : Mode) (p : List Seg) (arguments : List Given) (s t : MachineState S) (r : Outcome (Unit {0})) → called_where_it_stands accesses p arguments s ≡ (r, t) → called_where_it_stands accesses p arguments (in_mode mode s) ≡ (r, in_mode mode t)
@@ -67,9 +97,22 @@ module _ {S : Type 0} (accesses : Accesses S) where
   left_by (Ok a) w s = refl
   left_by (Err e) w s = refl
 
-  called_left : (p : List Seg) (arguments : List Given) (s : MachineState S) (b : Bool) → (if b then object_called accesses p arguments s else (Ok tt, s)).1.spent ≡ s.spent
+  object_left : (p : List Seg) (arguments : List Given) (s : MachineState S) → (object_called accesses p arguments s).1.spent ≡ s.spent
   unfolding object_called object_answered on_world ◌>>=◌
-  called_left p arguments s true = left_by (answered accesses p arguments s.steps s.world).0 (answered accesses p arguments s.steps s.world).1 s
+  object_left p arguments s = left_by (answered accesses p arguments s.steps s.world).0 (answered accesses p arguments s.steps s.world).1 s
+
+  refused_left : (p : List Seg) (e : Refusal) (s : MachineState S) (wide : Bool) → (if wide then on_world (passed_over p e) s else (Err e, s)).1.spent ≡ s.spent
+  unfolding on_world
+  refused_left p e s true = refl
+  refused_left p e s false = refl
+
+  done_left : (p : List Seg) (x : Outcome (Unit {0})) (s : MachineState S) → (call_done p x s).1.spent ≡ s.spent
+  done_left p (Ok u) s = refl
+  done_left p (Err e) s = refused_left p e s (is_wide s.world.profile)
+
+  called_left : (p : List Seg) (arguments : List Given) (s : MachineState S) (b : Bool) → (if b then call_passing p (object_called accesses p arguments) s else (Ok tt, s)).1.spent ≡ s.spent
+  unfolding call_passing
+  called_left p arguments s true = done_left p (object_called accesses p arguments s).0 (object_called accesses p arguments s).1 ∙ object_left p arguments s
   called_left p arguments s false = refl
 
   left : (p : List Seg) (arguments : List Given) (s t : MachineState S) (r : Outcome (Unit {0})) → called_where_it_stands accesses p arguments s ≡ (r, t) → s.spent ≡ false → t.spent ≡ false

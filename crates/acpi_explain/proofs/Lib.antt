@@ -2,5 +2,8 @@ pub mod Answered
 pub mod Called
 pub mod Found
 pub mod Halted
+pub mod Left
 pub mod Loaded
 pub mod Paths
+pub mod Putting
+pub mod Spared

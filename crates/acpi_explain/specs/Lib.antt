@@ -1,4 +1,5 @@
 pub mod Ends
+pub mod Explaining
 pub mod Halting
 pub mod Refused
 pub mod Stages

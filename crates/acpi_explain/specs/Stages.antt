@@ -85,7 +85,7 @@ module _ {S : Type 0} (accesses : Accesses S) where
   abbrev pub call_made : Call → Change (MachineState S) (Unit {0})
   call_made c = called_where_it_stands accesses c.0 c.1
 
-  -- The call at this path is refused; those before it are answered. So is initializing.
+  -- The call at this path is refused; those before it are answered or passed over. Initializing is refused so, too.
   pub record IsCallRefused (mode : Mode) (before : MachineState S) (path : List Seg) : Type 0 where
     pub paths : InitialPaths
     pub after : MachineState S

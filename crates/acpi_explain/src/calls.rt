@@ -56,7 +56,7 @@ fn below_root(alloc: Global, parent: [u8; 4], name: [u8; 4]) -> Result<Path, All
     }
 }
 
-/// Calls what stands at a path itself, if anything does.
+/// Calls what stands at a path itself, if anything does. A refusal may be passed over in the wide profile.
 fn call_at<S: Space>(
     alloc: Global,
     machine: &mut Machine<S>,
@@ -71,14 +71,14 @@ fn call_at<S: Space>(
     }
     match machine.evaluate_object(alloc, path, arguments) {
         Ok(_) => Ok(()),
-        Err(refusal) => Err(refusal),
+        Err(refusal) => machine.pass_call_over(alloc, path, refusal),
     }
 }
 
 /// Makes the calls of `Machine::initialize` one after the other, and gives the path of the first that is refused; none
-/// where no call is. Nothing is said of a machine on which memory ran out. The mode is left as it is.
+/// where no call is. Nothing is said of a machine on which memory ran out, nor of the mode that is left.
 ///
-/// Those before it are answered, and it is refused in the world that they leave.
+/// Those before it are answered or passed over, and it is refused in the world that they leave.
 pub fn refused_call<S: Space>(
     alloc: Global,
     mode: Mode,

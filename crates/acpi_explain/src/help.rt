@@ -1,6 +1,8 @@
 //! The name of each refusal, and what to do.
 ghost use Rattle.std.specs.Prelude.{◌≡◌};
 
+use aml_meaning::Profile;
+
 /// What is said of a refusal.
 #[derive(Clone, Copy, Debug)]
 pub struct Help {
@@ -22,7 +24,7 @@ const ROWS: [Help; 58] = [
     Help {
         number: 2,
         name: "Device",
-        help: "see to the device behind the register space",
+        help: "see to the device behind the register space, or give a higher number behind --accesses",
     },
     Help {
         number: 10,
@@ -112,12 +114,12 @@ const ROWS: [Help; 58] = [
     Help {
         number: 51,
         name: "RegionLimit",
-        help: "look at the operation region: a field lies outside, or its place comes from a wrong register",
+        help: "look at the operation region: a field lies outside, its place comes from a wrong register, or a bank field is too small",
     },
     Help {
         number: 60,
         name: "Exists",
-        help: "give each table once; if the firmware itself declares a name twice, there is no remedy",
+        help: "give each table once; where the firmware itself declares a name twice, --profile wide goes on behind it",
     },
     Help {
         number: 61,
@@ -306,8 +308,8 @@ const ROWS: [Help; 58] = [
     },
 ];
 
-/// What is said of the refusal with a number; of a number that is none, nothing.
-pub fn help_for(number: u8) -> Help
+/// What is said of the refusal with a number in the core profile; of a number that is none, nothing.
+fn core_help(number: u8) -> Help
     ensures { result.number ≡ number }
 {
     for row in &ROWS {
@@ -319,5 +321,36 @@ pub fn help_for(number: u8) -> Help
         number,
         name: "",
         help: "",
+    }
+}
+
+/// What to do where a run in the wide profile was refused by a number for which it has more to say than the core one, or
+/// for which the core one's help advises that profile.
+fn wide_help(number: u8) -> Option<&'static str> {
+    match number {
+        60 => Some("look at the control method: it declares a name that stands already"),
+        61 => Some(
+            "look for the path in names; route tells in lines passed which items were passed over: one may have declared the name",
+        ),
+        73 => Some("none: docs/OPCODES.md lists the terms that aren't evaluated"),
+        78 => Some(
+            "give the bytes 0E and 19 of each bridge; none where a device without _ADR, or one that is no bridge, is in between",
+        ),
+        113 => Some("look at the link with names: its _HID isn't PNP0C0F, or a table is missing"),
+        _ => None,
+    }
+}
+
+/// What is said of the refusal with a number, in a profile; of a number that is none, nothing.
+pub fn help_for(number: u8, profile: Profile) -> Help
+    ensures { result.number ≡ number }
+{
+    let row = core_help(number);
+    match profile {
+        Profile::Core => row,
+        Profile::Wide => match wide_help(number) {
+            Some(help) => Help { help, ..row },
+            None => row,
+        },
     }
 }

@@ -4,7 +4,7 @@ use Rattle.std.specs.Prelude.{Contains, Any, ◌↔◌}
 use Rattle.std.specs.List.Sorted.{IsStrictlySortedBy}
 use Rattle.std.specs.FinMap.{IsAntisymmetric, slice_cmp-IsAntisymmetric}
 use Rattle.aml_path.specs.declared.segment.Seg.{Seg}
-use Rattle.aml_path.specs.Segments.{seg_cmp_exact}
+use Rattle.aml_path.proofs.Segments.{seg_cmp_exact}
 use Rattle.aml_path.specs.Paths.{path_cmp}
 use Rattle.acpi_prt.specs.declared.pin.Pin.{Pin}
 use Rattle.acpi_prt.specs.declared.pin.Route.{Route}

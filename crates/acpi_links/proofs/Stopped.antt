@@ -3,7 +3,8 @@ use Rattle.std.specs.Prelude.{codes}
 use Rattle.std.proofs.Common.{◌≡◌, ℕ, List, [], ◌∷◌, Bool, true, false, Option, Some, Ok, refl, sym, ap, subst}
 use Rattle.ar_space.specs.Accesses.{Accesses}
 use Rattle.ar_space.specs.Outcome.{Outcome, Answers}
-use Rattle.ar_space.specs.Change.{Does, give, does_ok, does_made, does_settle}
+use Rattle.ar_space.specs.Change.{Does, give}
+use Rattle.ar_space.proofs.Changes.{does_ok, does_made, does_settle}
 use Rattle.aml_path.specs.declared.segment.Seg.{Seg}
 use Rattle.aml_meaning.specs.Given.{Given, Bytes}
 use Rattle.acpi_resources.specs.Records.{InterruptOffer}

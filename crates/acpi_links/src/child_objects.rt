@@ -22,7 +22,7 @@ pub fn stands<S: Space>(machine: &Machine<S>, path: &Path) -> bool
 }
 
 /// The bytes of the buffer that the object at a path answers, without arguments; `WrongType` for any other value.
-#[tactic(auto, using(ar_space::specs::Change::changing), unfolding(crate::specs::Answered::buffer_at))]
+#[tactic(auto, using(ar_space::proofs::Changes::changing), unfolding(crate::specs::Answered::buffer_at))]
 pub(crate) fn buffer_at<S: Space>(
     alloc: Global,
     machine: &mut Machine<S>,

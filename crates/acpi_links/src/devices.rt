@@ -17,7 +17,7 @@ use ar_space::{Refusal, Space};
 use std::alloc::Global;
 
 /// The paths of all devices, in path order.
-#[tactic(auto, using(ar_space::specs::Outcome::answering), unfolding(crate::specs::Devices::devices))]
+#[tactic(auto, using(ar_space::proofs::Outcomes::answering), unfolding(crate::specs::Devices::devices))]
 pub fn list_devices<S: Space>(alloc: Global, machine: &Machine<S>) -> Result<Vec<Path>, Refusal>
     ensures { Answers (seen (λ list. list.items) result) (Ok (devices machine.now)) }
 {
@@ -63,7 +63,7 @@ pub(crate) fn pins_of_each<S: Space>(
 }
 
 /// The pins of the routing table of a device, if it has one, each with the device.
-#[tactic(auto, using(ar_space::specs::Change::changing), unfolding(crate::specs::Devices::pins_of_device))]
+#[tactic(auto, using(ar_space::proofs::Changes::changing), unfolding(crate::specs::Devices::pins_of_device))]
 pub fn pins_of_device<S: Space>(
     alloc: Global,
     machine: &mut Machine<S>,

@@ -34,7 +34,7 @@ use std::alloc::Global;
 ///
 /// In the problem no link offers an interrupt that is avoided, and the System Control Interrupt is one more wired
 /// source. Sources that are wired to an avoided interrupt count as others do.
-#[tactic(auto, using(ar_space::specs::Change::changing, acpi_machine::proofs::Stopping::making), unfolding(crate::specs::Gatherings::gathered))]
+#[tactic(auto, using(ar_space::proofs::Changes::changing, acpi_machine::proofs::Stopping::making), unfolding(crate::specs::Gatherings::gathered))]
 pub fn gather<S: Space>(
     alloc: Global,
     machine: &mut Machine<S>,
@@ -66,7 +66,7 @@ fn sci_shown<S: Space>(machine: &Machine<S>) -> Result<Option<u32>, Refusal>
 }
 
 /// The pins of all routing tables.
-#[tactic(auto, using(ar_space::specs::Change::changing), unfolding(crate::specs::Gatherings::pins_found))]
+#[tactic(auto, using(ar_space::proofs::Changes::changing), unfolding(crate::specs::Gatherings::pins_found))]
 fn pins_found<S: Space>(
     alloc: Global,
     machine: &mut Machine<S>,
@@ -90,7 +90,7 @@ fn devices_listed<S: Space>(alloc: Global, machine: &Machine<S>) -> Result<Vec<P
 }
 
 /// The present links that some pins lead to.
-#[tactic(auto, using(ar_space::specs::Change::changing), unfolding(crate::specs::Gatherings::links_found))]
+#[tactic(auto, using(ar_space::proofs::Changes::changing), unfolding(crate::specs::Gatherings::links_found))]
 fn links_found<S: Space>(
     alloc: Global,
     machine: &mut Machine<S>,

@@ -141,7 +141,7 @@ fn push_found(list: &mut Vec<PresentLink>, found: Option<PresentLink>) -> Result
 }
 
 /// A link, if it is present.
-#[tactic(auto, using(ar_space::specs::Change::changing), unfolding(crate::specs::Links::link_asked))]
+#[tactic(auto, using(ar_space::proofs::Changes::changing), unfolding(crate::specs::Links::link_asked))]
 fn link_asked<S: Space>(
     alloc: Global,
     machine: &mut Machine<S>,
@@ -157,7 +157,7 @@ fn link_asked<S: Space>(
     link_if(alloc, machine, avoid, present, link)
 }
 
-#[tactic(auto, using(ar_space::specs::Change::changing, acpi_machine::proofs::Stopping::making), unfolding(crate::specs::Links::link_if))]
+#[tactic(auto, using(ar_space::proofs::Changes::changing, acpi_machine::proofs::Stopping::making), unfolding(crate::specs::Links::link_if))]
 fn link_if<S: Space>(
     alloc: Global,
     machine: &mut Machine<S>,
@@ -177,7 +177,7 @@ fn link_if<S: Space>(
 }
 
 /// A link that is present.
-#[tactic(auto, using(ar_space::specs::Change::changing), unfolding(crate::specs::Links::link_found))]
+#[tactic(auto, using(ar_space::proofs::Changes::changing), unfolding(crate::specs::Links::link_found))]
 fn link_found<S: Space>(
     alloc: Global,
     machine: &mut Machine<S>,

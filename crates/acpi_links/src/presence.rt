@@ -17,7 +17,7 @@ use std::alloc::Global;
 /// Whether a device is present: bit 0 of the integer that its `_STA` answers; one without `_STA` is.
 ///
 /// An answer that is no integer is refused as `WrongType`; a refusal of the evaluation is handed on.
-#[tactic(auto, using(ar_space::specs::Change::changing, acpi_machine::proofs::Stopping::making), unfolding(crate::specs::Presence::is_present))]
+#[tactic(auto, using(ar_space::proofs::Changes::changing, acpi_machine::proofs::Stopping::making), unfolding(crate::specs::Presence::is_present))]
 pub fn is_present<S: Space>(
     alloc: Global,
     machine: &mut Machine<S>,
@@ -48,7 +48,7 @@ fn presence_at<S: Space>(
 }
 
 /// Whether the status that an object answers says present.
-#[tactic(auto, using(ar_space::specs::Change::changing), unfolding(crate::specs::Presence::status_at))]
+#[tactic(auto, using(ar_space::proofs::Changes::changing), unfolding(crate::specs::Presence::status_at))]
 fn status_at<S: Space>(
     alloc: Global,
     machine: &mut Machine<S>,

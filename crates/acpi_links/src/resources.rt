@@ -27,7 +27,7 @@ use std::alloc::Global;
 /// Without `_PRS` it is refused as `NoOffer`, with the link's path. An answer that is no buffer is refused as
 /// `WrongType`, and bytes that are no offer of interrupts as `possible` says, but that the wide profile takes
 /// exclusive offers; a refusal of the evaluation is handed on.
-#[tactic(auto, using(ar_space::specs::Change::changing, acpi_machine::proofs::Stopping::making), unfolding(crate::specs::Resources::possible_resources))]
+#[tactic(auto, using(ar_space::proofs::Changes::changing, acpi_machine::proofs::Stopping::making), unfolding(crate::specs::Resources::possible_resources))]
 pub fn get_possible_resources<S: Space>(
     alloc: Global,
     machine: &mut Machine<S>,
@@ -85,7 +85,7 @@ fn offer_in<S: Space>(alloc: Global, machine: &Machine<S>, bytes: &[u8]) -> Resu
 }
 
 /// The offer in the buffer that an object answers.
-#[tactic(auto, using(ar_space::specs::Change::changing), unfolding(crate::specs::Resources::offer_at))]
+#[tactic(auto, using(ar_space::proofs::Changes::changing), unfolding(crate::specs::Resources::offer_at))]
 fn offer_at<S: Space>(
     alloc: Global,
     machine: &mut Machine<S>,
@@ -102,7 +102,7 @@ fn offer_at<S: Space>(
 ///
 /// An answer that is no buffer is refused as `WrongType`, and bytes that are no resource descriptors as `current`
 /// says; a refusal of the evaluation is handed on.
-#[tactic(auto, using(ar_space::specs::Change::changing, acpi_machine::proofs::Stopping::making), unfolding(crate::specs::Resources::current_resources))]
+#[tactic(auto, using(ar_space::proofs::Changes::changing, acpi_machine::proofs::Stopping::making), unfolding(crate::specs::Resources::current_resources))]
 pub fn get_current_resources<S: Space>(
     alloc: Global,
     machine: &mut Machine<S>,
@@ -133,7 +133,7 @@ fn current_at<S: Space>(
 }
 
 /// The numbers in the buffer that an object answers.
-#[tactic(auto, using(ar_space::specs::Change::changing), unfolding(crate::specs::Resources::numbers_at))]
+#[tactic(auto, using(ar_space::proofs::Changes::changing), unfolding(crate::specs::Resources::numbers_at))]
 fn numbers_at<S: Space>(
     alloc: Global,
     machine: &mut Machine<S>,
@@ -152,7 +152,7 @@ fn numbers_at<S: Space>(
 ///
 /// The argument of `_SRS` is `acpi_resources::setting` of the interrupt. What it answers is dropped; a refusal of its
 /// evaluation is handed on.
-#[tactic(auto, using(ar_space::specs::Change::changing, acpi_machine::proofs::Stopping::making), unfolding(crate::specs::Settings::resources_set))]
+#[tactic(auto, using(ar_space::proofs::Changes::changing, acpi_machine::proofs::Stopping::making), unfolding(crate::specs::Settings::resources_set))]
 pub fn set_current_resources<S: Space>(
     alloc: Global,
     machine: &mut Machine<S>,
@@ -189,7 +189,7 @@ fn set_at<S: Space>(
 }
 
 /// Calls the method at a path with a setting.
-#[tactic(auto, using(ar_space::specs::Change::changing, acpi_machine::proofs::Stopping::making), unfolding(crate::specs::Settings::setting_handed))]
+#[tactic(auto, using(ar_space::proofs::Changes::changing, acpi_machine::proofs::Stopping::making), unfolding(crate::specs::Settings::setting_handed))]
 fn hand_setting<S: Space>(
     alloc: Global,
     machine: &mut Machine<S>,

@@ -33,7 +33,7 @@ fn all_left(alloc: Global, avoid: &[u32], links: &[PresentLink]) -> Result<(), R
 ///
 /// Where nothing of a link's offer is left, it is refused as `Avoided`, with the path of the first such link. `sci`
 /// is the source of the System Control Interrupt, as it was when the links were asked.
-#[tactic(auto, using(ar_space::specs::Outcome::answering), unfolding(crate::specs::Sparing::avoiding))]
+#[tactic(auto, using(ar_space::proofs::Outcomes::answering), unfolding(crate::specs::Sparing::avoiding))]
 pub fn avoid_more(
     alloc: Global,
     avoid: &[u32],

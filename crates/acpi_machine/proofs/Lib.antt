@@ -1,6 +1,8 @@
 mod Bridged
+pub mod DownToBuses
 pub mod Loaded
 pub mod Noticed
+pub mod Passing
 pub mod Spaces
 pub mod Stopping
 pub mod Walked

@@ -1,16 +1,11 @@
 -- The loop over tables that are loaded.
-use Rattle.std.specs.Prelude.{◌≡◌, ℕ, ◌+◌, ◌<◌, ◌≤◌, nat_lt, List, [], ◌∷◌, length, drop, get_or, Ok, Err, if◌then◌else◌}
+use Rattle.std.specs.Prelude.{◌≡◌, ℕ, ◌+◌, ◌<◌, ◌≤◌, List, length, drop, get_or, Ok}
 use Rattle.std.proofs.Common.{refl, ◌∙◌, drop-cons, add-one}
 use Rattle.std.proofs.lemmas.List.{drop_all}
-use Rattle.ar_space.specs.declared.refusal.Refusal.TheVariants as refusal
-use Rattle.ar_space.specs.declared.refusal.EvaluationFault.TheVariants.{ObjectLimit}
 use Rattle.ar_space.specs.Accesses.{Accesses}
-use Rattle.ar_space.specs.Outcome.{Outcome}
-use Rattle.ar_space.specs.Change.{Change, Does, Same, same_ok, does_same, give, settle, ◌>>=◌, ◌>>◌}
-use Rattle.ar_tables.specs.declared.tables.Tables.{Tables}
+use Rattle.ar_space.specs.Change.{Change, Does, Same, give, settle, ◌>>=◌, ◌>>◌}
+use Rattle.ar_space.proofs.Changes.{same_ok, does_same}
 use Rattle.aml_meaning.specs.State.{State}
-use Rattle.aml_meaning.specs.Predefined.{predefined}
-use Rattle.aml_meaning.specs.Calling.{loaded}
 use Rattle.acpi_machine.specs.Loading.{table_loaded, each_loaded}
 
 module _ {S : Type 0} (accesses : Accesses S) where

@@ -1,7 +1,6 @@
 -- How it is noticed that memory ran out.
 use Rattle.std.specs.Prelude.{◌≡◌, ℕ, List, Bool, true, false, Ok, Err, IfErr, if◌then◌else◌}
 use Rattle.std.proofs.Common.{refl, ◌∙◌, ap}
-use Rattle.ar_space.specs.declared.refusal.Refusal.{Refusal}
 use Rattle.ar_space.specs.declared.refusal.Refusal.TheVariants as refusal
 use Rattle.ar_space.specs.Outcome.{Outcome, NotMemory, seen}
 use Rattle.ar_space.specs.Accesses.{Accesses}
@@ -17,7 +16,7 @@ use Rattle.acpi_machine.specs.Calls.{on_world, object_answered, unless_spent}
 use Rattle.acpi_machine.specs.MachineStates.{MachineState}
 use Rattle.acpi_machine.specs.declared.buses.PciBus.{PciBus}
 use Rattle.acpi_machine.specs.Buses.{bus_of_table, bus_answered}
-use Rattle.acpi_machine.specs.Noticing.{is_memory, noticed, ran_out}
+use Rattle.acpi_machine.specs.Noticing.{noticed, ran_out}
 
 not_memory : {A : Type 0} (r : Outcome A) → NotMemory r → ran_out r ≡ false
 not_memory (Ok a) ne = refl

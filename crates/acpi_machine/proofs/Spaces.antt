@@ -9,35 +9,41 @@ use Rattle.aml_namespace.specs.Namespace.{Namespace}
 use Rattle.aml_meaning.specs.State.{State, on_objects, on_names}
 use Rattle.aml_meaning.specs.Predefined.{takes, at_root, predefined_scopes, predefined_objects, predefined}
 
--- the register space is as it was
+-- the register space is as it was, and nothing is passed over
 record Keeps {S A : Type 0} (m : Change (State S) A) : Type 0 where
   is : (w : State S) → (m w).1.space ≡ w.space
+  passed : (w : State S) → (m w).1.passed ≡ w.passed
 
 gone_on : {S A B : Type 0} (r : Outcome A) (w : State S) (k : A → Change (State S) B) → ((a : A) → Keeps (k a)) → (go_on r w k).1.space ≡ w.space
 unfolding go_on
 gone_on (Ok a) w k h = (h a).is w
 gone_on (Err e) w k h = refl
 
+gone_on_passed : {S A B : Type 0} (r : Outcome A) (w : State S) (k : A → Change (State S) B) → ((a : A) → Keeps (k a)) → (go_on r w k).1.passed ≡ w.passed
+unfolding go_on
+gone_on_passed (Ok a) w k h = (h a).passed w
+gone_on_passed (Err e) w k h = refl
+
 module _ {S : Type 0} where
   kept_then : {A B : Type 0} (m : Change (State S) A) (k : A → Change (State S) B) → Keeps m → ((a : A) → Keeps (k a)) → Keeps (m >>= k)
   unfolding ◌>>=◌
-  kept_then m k h i = record { is = λ w. gone_on (m w).0 (m w).1 k i ∙ h.is w }
+  kept_then m k h i = record { is = λ w. gone_on (m w).0 (m w).1 k i ∙ h.is w; passed = λ w. gone_on_passed (m w).0 (m w).1 k i ∙ h.passed w }
 
   kept_settle : {A : Type 0} (x : Outcome A) → Keeps {S = S} (settle x)
   unfolding settle
-  kept_settle x = record { is = λ w. refl }
+  kept_settle x = record { is = λ w. refl; passed = λ w. refl }
 
   kept_names : {A : Type 0} (m : Change Namespace A) → Keeps {S = S} (on_names m)
   unfolding on_names
-  kept_names m = record { is = λ w. refl }
+  kept_names m = record { is = λ w. refl; passed = λ w. refl }
 
   kept_objects : {A : Type 0} (m : Change Objects A) → Keeps {S = S} (on_objects m)
   unfolding on_objects
-  kept_objects m = record { is = λ w. refl }
+  kept_objects m = record { is = λ w. refl; passed = λ w. refl }
 
   kept_takes : (p : List Seg) (n : ℕ) → Keeps {S = S} (takes p n)
   unfolding takes
-  kept_takes p n = record { is = λ w. refl }
+  kept_takes p n = record { is = λ w. refl; passed = λ w. refl }
 
   kept_at_root : (text : List ℕ) (o : NamedObject) (n : ℕ) → Keeps {S = S} (at_root text o n)
   unfolding at_root
@@ -57,3 +63,7 @@ module _ {S : Type 0} where
   pub predefined_keeps : (w : State S) → (predefined w).1.space ≡ w.space
   unfolding predefined
   predefined_keeps w = (kept_then predefined_scopes (λ _. predefined_objects) kept_scopes (λ _. kept_named_objects)).is w
+
+  pub predefined_passes : (w : State S) → (predefined w).1.passed ≡ w.passed
+  unfolding predefined
+  predefined_passes w = (kept_then predefined_scopes (λ _. predefined_objects) kept_scopes (λ _. kept_named_objects)).passed w

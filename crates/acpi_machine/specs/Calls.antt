@@ -1,13 +1,16 @@
 -- What a machine answers (ACPI 6.5, 5.5).
-use Rattle.std.specs.Prelude.{ℕ, List, [], ◌∷◌, codes, Ok, if◌then◌else◌}
+use Rattle.std.specs.Prelude.{ℕ, List, [], ◌∷◌, codes, Ok, Err, if◌then◌else◌}
 use Rattle.std.specs.FinMap.{contains_key}
+use Rattle.ar_space.specs.declared.refusal.Refusal.{Refusal}
 use Rattle.ar_space.specs.declared.refusal.Refusal.TheVariants as refusal
 use Rattle.ar_space.specs.declared.refusal.MachineFault.TheVariants.{Spent}
 use Rattle.ar_space.specs.Accesses.{Accesses}
+use Rattle.ar_space.specs.Outcome.{Outcome}
 use Rattle.ar_space.specs.Change.{Change, give, stop, settle, ◌>>=◌, ◌>>◌}
 use Rattle.aml_path.specs.declared.segment.Seg.{Seg}
 use Rattle.aml_meaning.specs.State.{State}
 use Rattle.aml_meaning.specs.Given as given
+use Rattle.aml_meaning.specs.Passing.{is_wide, passed_over}
 use Rattle.aml_meaning.specs.Calling.{answered}
 use Rattle.ar_tables.specs.declared.mode.Mode.{Mode}
 use Rattle.ar_tables.specs.declared.mode.Mode.TheVariants.{Pic, Apic}
@@ -28,6 +31,17 @@ abbrev pub mode_number : Mode → ℕ
 mode_number Pic = 0
 mode_number Apic = 1
 
+-- a call that is refused is passed over, as an item of a table is, where the profile is the wide one
+abbrev pub refused_call : {S : Type 0} → List Seg → Refusal → Change (MachineState S) (Unit {0})
+refused_call p e s = if is_wide s.world.profile then on_world (passed_over p e) s else (Err e, s)
+
+abbrev pub call_done : {S : Type 0} → List Seg → Outcome (Unit {0}) → Change (MachineState S) (Unit {0})
+call_done p (Ok done) s = (Ok done, s)
+call_done p (Err e) s = refused_call p e s
+
+unfoldable pub call_passing : {S : Type 0} → List Seg → Change (MachineState S) (Unit {0}) → Change (MachineState S) (Unit {0})
+call_passing p m s = let a = m s in call_done p a.0 a.1
+
 -- accesses: what the register space makes of them
 module _ {S : Type 0} (accesses : Accesses S) where
   -- what the object at a path answers within the steps of the machine
@@ -47,7 +61,7 @@ module _ {S : Type 0} (accesses : Accesses S) where
 
   -- where a name stands at the path itself
   unfoldable pub called_where_it_stands : List Seg → List given.Given → Change (MachineState S) (Unit {0})
-  called_where_it_stands p arguments s = if contains_key s.world.names.map p then object_called p arguments s else (Ok tt, s)
+  called_where_it_stands p arguments s = if contains_key s.world.names.map p then call_passing p (object_called p arguments) s else (Ok tt, s)
 
   unfoldable pub initial_calls : Mode → Change (MachineState S) (Unit {0})
   initial_calls mode = do

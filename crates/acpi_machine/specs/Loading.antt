@@ -1,12 +1,10 @@
 -- How the tables of a machine are loaded (ACPI 6.5, 5.4).
-use Rattle.std.specs.Prelude.{◌≡◌, ℕ, ◌+◌, ◌<◌, ◌≤◌, nat_lt, List, [], ◌∷◌, length, drop, get_or, Ok, Err, if◌then◌else◌}
-use Rattle.std.proofs.Common.{refl, ◌∙◌, drop-cons, add-one}
-use Rattle.std.proofs.lemmas.List.{drop_all}
+use Rattle.std.specs.Prelude.{ℕ, nat_lt, List, [], ◌∷◌, length, drop, Ok, Err, if◌then◌else◌}
 use Rattle.ar_space.specs.declared.refusal.Refusal.TheVariants as refusal
 use Rattle.ar_space.specs.declared.refusal.EvaluationFault.TheVariants.{ObjectLimit}
 use Rattle.ar_space.specs.Accesses.{Accesses}
 use Rattle.ar_space.specs.Outcome.{Outcome}
-use Rattle.ar_space.specs.Change.{Change, Does, Same, same_ok, does_same, give, settle, ◌>>=◌, ◌>>◌}
+use Rattle.ar_space.specs.Change.{Change, give, settle, ◌>>◌}
 use Rattle.ar_tables.specs.declared.tables.Tables.{Tables}
 use Rattle.aml_meaning.specs.State.{State}
 use Rattle.aml_meaning.specs.Predefined.{predefined}

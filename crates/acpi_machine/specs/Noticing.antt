@@ -1,9 +1,8 @@
 -- Want of memory is noticed: the machine answers no further call.
-use Rattle.std.specs.Prelude.{◌≡◌, ℕ, List, Bool, true, false, Ok, Err, IfErr, if◌then◌else◌}
-use Rattle.std.proofs.Common.{refl, ◌∙◌, ap}
+use Rattle.std.specs.Prelude.{Bool, true, false, Ok, Err, if◌then◌else◌}
 use Rattle.ar_space.specs.declared.refusal.Refusal.{Refusal}
 use Rattle.ar_space.specs.declared.refusal.Refusal.TheVariants as refusal
-use Rattle.ar_space.specs.Outcome.{Outcome, NotMemory, seen}
+use Rattle.ar_space.specs.Outcome.{Outcome}
 use Rattle.acpi_machine.specs.MachineStates.{MachineState}
 
 abbrev pub is_memory : Refusal → Bool

@@ -1,7 +1,6 @@
 -- Where a call may stop that evaluates objects, and wants memory of its own in between.
-use Rattle.std.specs.Prelude.{◌≡◌, ◌≢◌, ◌⊎◌, ℕ, suc, ◌+◌, ◌<◌, List, [], ◌∷◌, length, drop, get_or, true, false, Ok, Err, IfErr}
-use Rattle.std.proofs.Common.{refl, sym, ◌∙◌, ap, subst, inl, inr, drop-cons, add-one}
-use Rattle.ar_space.specs.Change.{Change, Does, give, settle, go_on, ◌>>=◌}
+use Rattle.std.specs.Prelude.{◌≡◌, ◌⊎◌, List, [], ◌∷◌, true, false, Ok}
+use Rattle.ar_space.specs.Change.{Change}
 use Rattle.acpi_machine.specs.MachineStates.{MachineState}
 
 -- how a machine may stand to what it was before

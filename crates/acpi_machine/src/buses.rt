@@ -1,13 +1,13 @@
 //! The buses that routing tables are for (ACPI 6.5, 6.2.13, 6.5.5 and 6.5.6).
-ghost use Rattle.std.specs.Prelude.{◌≡◌, [], ◌∷◌, Err, IfErr, true};
+ghost use Rattle.std.specs.Prelude.{◌≡◌, [], ◌∷◌, ◌++◌, Err, IfOk, IfErr, true};
 ghost use Rattle.ar_space.specs.declared.refusal.Refusal.TheVariants.{OutOfMemory};
 ghost use Rattle.ar_space.specs.Change.{Does};
-ghost use Rattle.ar_space.specs.Outcome.{Answers, NotMemory};
+ghost use Rattle.ar_space.specs.Outcome.{Answers, NotMemory, seen};
 ghost use Rattle.aml_meaning.specs.Calling.{ending, with_steps};
 ghost use Rattle.aml_meaning.specs.Fields.{bus_behind, bus_behind_all, inherited};
 ghost use Rattle.aml_meaning.specs.PciFunctions.{or_behind, behind_asked};
 ghost use Rattle.acpi_machine.specs.Stops.{Made};
-ghost use Rattle.acpi_machine.specs.Buses.{prt, bus_numbered, address_part, bus_of_table, bus_answered, bus_found};
+ghost use Rattle.acpi_machine.specs.Buses.{prt, is_itself, bridges_down_to, bus_numbered, address_part, bus_of_table, bus_answered, bus_found};
 
 use crate::calls::SPENT;
 use crate::machine::Machine;
@@ -29,7 +29,7 @@ pub struct PciBus {
 }
 
 /// The name of a routing table.
-#[tactic(auto, using(aml_path::specs::Segments::same_seg))]
+#[tactic(auto, using(aml_path::proofs::Segments::same_seg))]
 pub fn prt() -> Seg
     ensures { result ≡ prt }
 {
@@ -132,8 +132,7 @@ fn bus_of_table<S: Space>(
 {
     let bridge = run.world.nearest(alloc, Sought::Bridge, device)?;
     ask_behind(&run.world, bridge)?;
-    let table = device.child(alloc, prt())?;
-    let bridges = run.world.bridges_above(alloc, &table)?;
+    let bridges = bridges_down_to(alloc, &run.world, device)?;
     let segment = inherited(alloc, run, segment_group(), device)?;
     let bus = inherited(alloc, run, base_bus(), device)?;
     let behind = bus_behind_all(alloc, run, segment, bus, bridges)?;
@@ -157,6 +156,51 @@ fn or_behind(profile: Profile, bridge: Option<Path>) -> Result<(), Refusal>
             None => Ok(()),
             Some(_) => Err(Refusal::Evaluation(EvaluationFault::DeepPci)),
         },
+    }
+}
+
+/// The bridges from the nearest base bus number down to a device, which is itself among them where it is one.
+#[tactic(auto, using(crate::proofs::DownToBuses::down))]
+fn bridges_down_to<S>(
+    alloc: Global,
+    world: &WorldState<S>,
+    device: &Path,
+) -> Result<VecDeque<Path>, Refusal>
+    ensures { Does (seen (λ v. v.items) result) world.now (bridges_down_to device.now) world.now }
+{
+    let based = world.nearest(alloc, Sought::Parent(base_bus()), device)?;
+    let bridge = world.nearest(alloc, Sought::Bridge, device)?;
+    let bridges = world.bridges_above(alloc, device)?;
+    if is_itself(based, device) {
+        return Ok(bridges);
+    }
+    if is_itself(bridge, device) {
+        return with_device(alloc, bridges, device);
+    }
+    Ok(bridges)
+}
+
+/// Bridges and a device below them.
+fn with_device(
+    alloc: Global,
+    bridges: VecDeque<Path>,
+    device: &Path,
+) -> Result<VecDeque<Path>, Refusal>
+    ensures all { IfOk result (λ v. v.items ≡ bridges.items ++ device.now ∷ []) }
+    ensures memory { IfErr result (λ e. e ≡ OutOfMemory) }
+{
+    let mut bridges = bridges;
+    bridges.push_back(device.copy(alloc)?)?;
+    Ok(bridges)
+}
+
+/// Whether the nearest of a device and those above it is the device itself.
+fn is_itself(nearest: Option<Path>, device: &Path) -> bool
+    ensures { result ≡ is_itself nearest device.now }
+{
+    match nearest {
+        None => false,
+        Some(path) => path.segments().len() == device.segments().len(),
     }
 }
 

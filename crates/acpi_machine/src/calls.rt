@@ -13,7 +13,7 @@ ghost use Rattle.acpi_machine.specs.FixedPaths.{at_root, below_root};
 ghost use Rattle.acpi_machine.specs.Noticing.{noticed, ran_out};
 ghost use Rattle.acpi_machine.specs.Stops.{Made};
 ghost use Rattle.acpi_machine.specs.Calls.{object_answered, evaluated_object, object_called, called_where_it_stands};
-ghost use Rattle.acpi_machine.specs.Calls.{initial_calls, started, initialized, texts_kept, few_texts_kept, osi_set};
+ghost use Rattle.acpi_machine.specs.Calls.{refused_call, call_passing, initial_calls, started, initialized, texts_kept, few_texts_kept, osi_set};
 
 use crate::loading::few_texts;
 use crate::machine::Machine;
@@ -31,8 +31,8 @@ pub(crate) const SPENT: Refusal = Refusal::Machine(MachineFault::Spent);
 impl<S: Space> Machine<S> {
     /// Tells the firmware the mode, and initializes it: calls `\_INI`, `\_SB_._INI` (ACPI 6.5, 6.5.1), and `\_PIC`
     /// (5.8.1) with 0 for `Pic` or 1 for `Apic`, each where its name stands, each within the machine's steps. What
-    /// they answer is dropped; the first that is refused ends it. The mode is kept, however that ends, unless memory
-    /// runs out.
+    /// they answer is dropped; the first that is refused ends it. In the wide profile such a refusal as loading goes on
+    /// behind is passed over, and the next call follows. The mode is kept, however that ends, unless memory runs out.
     ///
     /// `Spent` where an earlier call ran out of memory; then nothing changes.
     ///
@@ -97,7 +97,7 @@ impl<S: Space> Machine<S> {
         self.set_few_texts(texts)
     }
 
-    #[tactic(auto, using(ar_space::specs::Change::changing), unfolding(crate::specs::Calls::few_texts_kept))]
+    #[tactic(auto, using(ar_space::proofs::Changes::changing), unfolding(crate::specs::Calls::few_texts_kept))]
     fn set_few_texts(&mut self, texts: Vec<Octets>) -> Result<(), Refusal>
         ensures answer { Does result self.new (few_texts_kept texts.items) self.old }
         ensures memory { NotMemory result }
@@ -158,7 +158,7 @@ impl<S: Space> Machine<S> {
         self.make_calls(alloc, mode)
     }
 
-    #[tactic(auto, using(ar_space::specs::Change::changing), unfolding(crate::specs::Calls::initial_calls))]
+    #[tactic(auto, using(ar_space::proofs::Changes::changing), unfolding(crate::specs::Calls::initial_calls))]
     fn make_calls(&mut self, alloc: Global, mode: Mode) -> Result<(), Refusal>
         ensures { Does result self.new (initial_calls S.accesses mode) self.old }
     {
@@ -182,13 +182,48 @@ impl<S: Space> Machine<S> {
             (map given_of arguments.items)) self.old }
     {
         if self.stands(path) {
-            self.call(alloc, path, arguments)
+            self.call_passing(alloc, path, arguments)
         } else {
             Ok(())
         }
     }
 
-    #[tactic(auto, using(ar_space::specs::Change::changing), unfolding(crate::specs::Calls::object_called))]
+    /// Calls what stands at a path. A refusal may be passed over in the wide profile.
+    #[tactic(auto, using(crate::proofs::Passing::passing))]
+    fn call_passing(
+        &mut self,
+        alloc: Global,
+        path: &Path,
+        arguments: Vec<Datum>,
+    ) -> Result<(), Refusal>
+        ensures { Does result self.new (call_passing path.now (object_called S.accesses path.now
+            (map given_of arguments.items))) self.old }
+    {
+        match self.call(alloc, path, arguments) {
+            Ok(()) => Ok(()),
+            Err(refusal) => self.pass_call_over(alloc, path, refusal),
+        }
+    }
+
+    /// Passes over the refusal of a call at a path, as initializing does in the wide profile: it is noted. In the core
+    /// profile, and where it isn't such a refusal as loading goes on behind, it is handed back, and nothing changes.
+    #[tactic(auto, using(crate::proofs::Passing::passing))]
+    pub fn pass_call_over(
+        &mut self,
+        alloc: Global,
+        path: &Path,
+        refusal: Refusal,
+    ) -> Result<(), Refusal>
+        ensures { Does result self.new (refused_call path.now refusal) self.old }
+    {
+        if self.profile().is_wide() {
+            self.world.pass_over(alloc, path, refusal)
+        } else {
+            Err(refusal)
+        }
+    }
+
+    #[tactic(auto, using(ar_space::proofs::Changes::changing), unfolding(crate::specs::Calls::object_called))]
     fn call(&mut self, alloc: Global, path: &Path, arguments: Vec<Datum>) -> Result<(), Refusal>
         ensures { Does result self.new (object_called S.accesses path.now (map given_of arguments.items)) self.old }
     {
@@ -223,7 +258,7 @@ fn ran_out<A>(outcome: &Result<A, Refusal>) -> bool
     matches!(outcome, Err(Refusal::OutOfMemory))
 }
 
-#[tactic(auto, using(ar_space::specs::Outcome::answering), unfolding(crate::specs::FixedPaths::at_root))]
+#[tactic(auto, using(ar_space::proofs::Outcomes::answering), unfolding(crate::specs::FixedPaths::at_root))]
 fn at_root(alloc: Global, name: [u8; 4]) -> Result<Path, Refusal>
     ensures { Answers result (at_root name) }
 {
@@ -231,7 +266,7 @@ fn at_root(alloc: Global, name: [u8; 4]) -> Result<Path, Refusal>
     path_of_one(alloc, segment)
 }
 
-#[tactic(auto, using(ar_space::specs::Outcome::answering), unfolding(crate::specs::FixedPaths::below_root))]
+#[tactic(auto, using(ar_space::proofs::Outcomes::answering), unfolding(crate::specs::FixedPaths::below_root))]
 fn below_root(alloc: Global, parent: [u8; 4], name: [u8; 4]) -> Result<Path, Refusal>
     ensures { Answers result (below_root parent name) }
 {

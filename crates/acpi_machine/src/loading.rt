@@ -10,7 +10,7 @@ ghost use Rattle.acpi_machine.specs.Loading.{few_texts, each_loaded, all_loaded,
 
 use crate::machine::Machine;
 use aml_interp::load;
-use aml_meaning::{Profile, Trace, World};
+use aml_meaning::{PassedOver, Profile, Trace, World};
 use aml_objects::Octets;
 use ar_space::{EvaluationFault, Refusal, Space};
 use ar_tables::{Mode, Table, Tables};
@@ -70,14 +70,16 @@ pub fn load_tables_as<S: Space>(
 {
     match load_tables_traced(alloc, profile, tables, space, steps, osi) {
         Ok(machine) => Ok(machine),
-        Err((refusal, space, trace)) => {
+        Err((refusal, space, trace, passed)) => {
             drop(trace);
+            drop(passed);
             Err((refusal, space))
         }
     }
 }
 
-/// As `load_tables_as`. Where a table is refused it also gives what `Machine::trace` would tell of it.
+/// As `load_tables_as`. Where a table is refused it also gives what `Machine::trace` would tell of it, and what was passed
+/// over before.
 pub fn load_tables_traced<S: Space>(
     alloc: Global,
     profile: Profile,
@@ -85,7 +87,7 @@ pub fn load_tables_traced<S: Space>(
     space: S,
     steps: u64,
     osi: Vec<Octets>,
-) -> Result<Machine<S>, (Refusal, S, Trace)>
+) -> Result<Machine<S>, (Refusal, S, Trace, PassedOver)>
     ensures world { IfOk result (λ machine. loaded_tables S.accesses tables steps osi.items
         (fresh_as profile tables.width osi.items space) ≡ (Ok tt, machine.world)) }
     ensures machine { IfOk result (λ machine. machine ≡ machine_of tables steps machine.world) }
@@ -95,14 +97,19 @@ pub fn load_tables_traced<S: Space>(
     ensures space { IfErr result (λ refused. refused.0 ≢ OutOfMemory →
         (loaded_tables S.accesses tables steps osi.items (fresh_as profile tables.width osi.items space)).1.space ≡
         refused.1) }
+    ensures passed { IfErr result (λ refused. refused.0 ≢ OutOfMemory →
+        (loaded_tables S.accesses tables steps osi.items (fresh_as profile tables.width osi.items space)).1.passed ≡
+        refused.3) }
 {
     match few_texts(&osi) {
         Ok(()) => {}
-        Err(refusal) => return Err((refusal, space, Trace::new(alloc))),
+        Err(refusal) => return Err((refusal, space, Trace::new(alloc), PassedOver::new(alloc))),
     }
     let mut world = match World::with_profile(alloc, profile, tables.width, osi, space) {
         Ok(world) => world,
-        Err((refusal, space)) => return Err((refusal, space, Trace::new(alloc))),
+        Err((refusal, space)) => {
+            return Err((refusal, space, Trace::new(alloc), PassedOver::new(alloc)));
+        }
     };
     match load_all(alloc, &mut world, &tables, steps) {
         Ok(()) => Ok(Machine {
@@ -113,8 +120,8 @@ pub fn load_tables_traced<S: Space>(
             spent: false,
         }),
         Err(refusal) => {
-            let (space, trace) = world.into_parts();
-            Err((refusal, space, trace))
+            let (space, trace, passed) = world.into_parts();
+            Err((refusal, space, trace, passed))
         }
     }
 }
@@ -132,7 +139,7 @@ pub(crate) fn few_texts(texts: &[Octets]) -> Result<(), Refusal>
 }
 
 /// Loads the DSDT and the SSDTs.
-#[tactic(auto, using(ar_space::specs::Change::changing), unfolding(crate::specs::Loading::all_loaded))]
+#[tactic(auto, using(ar_space::proofs::Changes::changing), unfolding(crate::specs::Loading::all_loaded))]
 fn load_all<S: Space>(
     alloc: Global,
     world: &mut World<S>,
@@ -146,7 +153,7 @@ fn load_all<S: Space>(
 }
 
 /// Loads each of some tables.
-#[tactic(auto, using(ar_space::specs::Change::changing, crate::proofs::Loaded::loading))]
+#[tactic(auto, using(ar_space::proofs::Changes::changing, crate::proofs::Loaded::loading))]
 fn load_each<S: Space>(
     alloc: Global,
     world: &mut World<S>,

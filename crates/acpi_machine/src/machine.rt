@@ -3,7 +3,7 @@ ghost use Rattle.std.specs.Prelude.{◌≡◌, option_map};
 ghost use Rattle.acpi_machine.specs.MachineStates.{sci_of};
 
 use crate::mode::is_apic;
-use aml_meaning::{Profile, Trace, World};
+use aml_meaning::{PassedOver, Profile, Trace, World};
 use ar_space::Space;
 use ar_tables::{Fadt, Madt, Mode, Tables, sci_source};
 use std::marker::Model;
@@ -95,9 +95,23 @@ impl<S: Space> Machine<S> {
         self.world.trace()
     }
 
-    /// The register space, with the accesses made so far, and what `trace` tells, both given back.
-    pub fn into_parts(self) -> (S, Trace)
-        ensures { result.0 ≡ self.world.space }
+    /// The refusals that were passed over in loading and in initializing, in their order; none in the core profile.
+    ///
+    /// ```
+    /// for item in machine.passed_over().kept() {
+    ///     println!(rt; "{} in {}", item.refusal, path_text(alloc, &item.scope)?)?;
+    /// }
+    /// ```
+    pub fn passed_over(&self) -> &PassedOver
+        ensures { result.now ≡ self.now.world.passed }
+    {
+        self.world.passed_over()
+    }
+
+    /// The register space, with the accesses made so far, what `trace` tells, and what was passed over, given back.
+    pub fn into_parts(self) -> (S, Trace, PassedOver)
+        ensures space { result.0 ≡ self.world.space }
+        ensures passed { result.2 ≡ self.world.passed }
     {
         self.world.into_parts()
     }

@@ -3,7 +3,8 @@ use Rattle.std.proofs.Common.{◌≢◌, List, [], ◌∷◌, length, map, Err, 
 use Rattle.ar_space.specs.declared.refusal.Refusal.TheVariants.{RoutingTable}
 use Rattle.ar_space.specs.declared.refusal.RoutingTableFault.TheVariants.{BadEntry}
 use Rattle.ar_space.specs.Accesses.{Accesses}
-use Rattle.ar_space.specs.Change.{Does, does_stop}
+use Rattle.ar_space.specs.Change.{Does}
+use Rattle.ar_space.proofs.Changes.{does_stop}
 use Rattle.aml_meaning.specs.declared.datum.Datum.{Datum}
 use Rattle.aml_meaning.specs.Given.{given_of}
 use Rattle.acpi_machine.specs.MachineStates.{MachineState}

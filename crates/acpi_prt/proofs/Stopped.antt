@@ -4,7 +4,8 @@ use Rattle.std.specs.Prelude.{codes}
 use Rattle.std.proofs.lemmas.List.{get_or-map}
 use Rattle.ar_space.specs.Accesses.{Accesses}
 use Rattle.ar_space.specs.Outcome.{Answers}
-use Rattle.ar_space.specs.Change.{Does, does_ok, does_settle, settle_ok}
+use Rattle.ar_space.specs.Change.{Does}
+use Rattle.ar_space.proofs.Changes.{does_ok, does_settle, settle_ok}
 use Rattle.aml_path.specs.declared.segment.Seg.{Seg}
 use Rattle.aml_meaning.specs.declared.datum.Datum.{Datum}
 use Rattle.aml_meaning.specs.Given.{Given, given_of}

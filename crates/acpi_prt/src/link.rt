@@ -22,7 +22,7 @@ const NOT_A_LINK: Refusal = Refusal::RoutingTable(RoutingTableFault::NotALink);
 const LINK_EISA_ID: u64 = 0x0F0C_D041;
 
 /// The path of the link device that stands at a path, or that an alias there leads to; else `NotALink`.
-#[tactic(auto, using(ar_space::specs::Change::changing, acpi_machine::proofs::Stopping::making), unfolding(crate::specs::Links::link_at))]
+#[tactic(auto, using(ar_space::proofs::Changes::changing, acpi_machine::proofs::Stopping::making), unfolding(crate::specs::Links::link_at))]
 pub(crate) fn link_at<S: Space>(
     alloc: Global,
     machine: &mut Machine<S>,
@@ -47,7 +47,7 @@ fn device_at<S: Space>(alloc: Global, machine: &Machine<S>, path: &Path) -> Resu
     device_in(alloc, machine, path)
 }
 
-#[tactic(auto, using(ar_space::specs::Outcome::answering), unfolding(crate::specs::Finding::device_in))]
+#[tactic(auto, using(ar_space::proofs::Outcomes::answering), unfolding(crate::specs::Finding::device_in))]
 fn device_in<S: Space>(alloc: Global, machine: &Machine<S>, path: &Path) -> Result<Path, Refusal>
     ensures { Answers result (device_in machine.now.world.names.map path.now) }
 {
@@ -74,7 +74,7 @@ fn id_at<S: Space>(alloc: Global, machine: &Machine<S>, path: &Path) -> Result<P
     id_in(alloc, machine, path)
 }
 
-#[tactic(auto, using(ar_space::specs::Outcome::answering), unfolding(crate::specs::Finding::id_in))]
+#[tactic(auto, using(ar_space::proofs::Outcomes::answering), unfolding(crate::specs::Finding::id_in))]
 fn id_in<S: Space>(alloc: Global, machine: &Machine<S>, path: &Path) -> Result<Path, Refusal>
     ensures { Answers result (id_in machine.now.world.profile machine.now.world.names.map path.now) }
 {
@@ -127,7 +127,7 @@ fn is_link_id(id: &Datum) -> Result<(), Refusal>
 
 /// The path of a name of four characters one level below another, or `BadName` where the characters are no name
 /// segment.
-#[tactic(auto, using(ar_space::specs::Outcome::answering), unfolding(crate::specs::Children::child_named))]
+#[tactic(auto, using(ar_space::proofs::Outcomes::answering), unfolding(crate::specs::Children::child_named))]
 pub fn child_named(alloc: Global, path: &Path, name: [u8; 4]) -> Result<Path, Refusal>
     ensures { Answers result (child_named path.now name) }
 {

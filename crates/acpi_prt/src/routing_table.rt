@@ -30,7 +30,7 @@ use std::alloc::Global;
 /// EISAID("PNP0C0F") or "PNP0C0F", in the wide profile also a control method that answers one of these, whose own
 /// refusal is handed on; `SourceIndex` where the source index at a link device isn't 0. `Spent` where an
 /// earlier call ran out of memory.
-#[tactic(auto, using(ar_space::specs::Change::changing), unfolding(crate::specs::RoutingTables::routing_table))]
+#[tactic(auto, using(ar_space::proofs::Changes::changing), unfolding(crate::specs::RoutingTables::routing_table))]
 pub fn get_irq_routing_table<S: Space>(
     alloc: Global,
     machine: &mut Machine<S>,
@@ -65,7 +65,7 @@ fn pins_from<S: Space>(
 }
 
 /// The pin of an entry; none of one that was left out.
-#[tactic(auto, using(ar_space::specs::Change::changing, acpi_machine::proofs::Stopping::making, crate::proofs::Rows::rows))]
+#[tactic(auto, using(ar_space::proofs::Changes::changing, acpi_machine::proofs::Stopping::making, crate::proofs::Rows::rows))]
 fn pin_of<S: Space>(
     alloc: Global,
     machine: &mut Machine<S>,
@@ -98,7 +98,7 @@ fn pin_among<S: Space>(
     pin_with(alloc, machine, address, pin, source, index)
 }
 
-#[tactic(auto, using(ar_space::specs::Change::changing, acpi_machine::proofs::Stopping::making), unfolding(crate::specs::RoutingTables::pin_with))]
+#[tactic(auto, using(ar_space::proofs::Changes::changing, acpi_machine::proofs::Stopping::making), unfolding(crate::specs::RoutingTables::pin_with))]
 fn pin_with<S: Space>(
     alloc: Global,
     machine: &mut Machine<S>,
@@ -126,7 +126,7 @@ fn pin_with<S: Space>(
 }
 
 /// Where a source leads to with an index.
-#[tactic(auto, using(ar_space::specs::Change::changing, acpi_machine::proofs::Stopping::making))]
+#[tactic(auto, using(ar_space::proofs::Changes::changing, acpi_machine::proofs::Stopping::making))]
 fn route_of<S: Space>(
     alloc: Global,
     machine: &mut Machine<S>,
@@ -147,7 +147,7 @@ fn route_of<S: Space>(
     }
 }
 
-#[tactic(auto, using(ar_space::specs::Change::changing), unfolding(crate::specs::RoutingTables::linked))]
+#[tactic(auto, using(ar_space::proofs::Changes::changing), unfolding(crate::specs::RoutingTables::linked))]
 fn linked<S: Space>(
     alloc: Global,
     machine: &mut Machine<S>,

@@ -1,7 +1,8 @@
 -- One item more of a _PRS.
 use Rattle.std.proofs.Common.{◌≡◌, ℕ, List, [], ◌∷◌, Option, Some, Ok, Err, sym, ap, ◌∙◌}
 use Rattle.std.specs.Prelude.{IsErr, IsErrAnd, ok_or}
-use Rattle.ar_space.specs.Outcome.{Outcome, Answers, ◌>>=◌, answers_ok, answers_err, answers_itself}
+use Rattle.ar_space.specs.Outcome.{Outcome, Answers, ◌>>=◌}
+use Rattle.ar_space.proofs.Outcomes.{answers_ok, answers_err, answers_itself}
 use Rattle.ar_space.specs.declared.refusal.Refusal.{Refusal}
 use Rattle.ar_space.specs.declared.refusal.Refusal.TheVariants.{Resource}
 use Rattle.ar_space.specs.declared.refusal.ResourceFault.TheVariants as fault

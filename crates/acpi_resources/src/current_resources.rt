@@ -14,7 +14,7 @@ use std::collections::BTreeSet;
 /// Other descriptors are passed over. Items are tested one by one, and the first with a fault decides: `NoEnd` an item
 /// that ends past the bytes, or bytes that end where an item should begin; `Descriptor` an Extended Interrupt
 /// descriptor too short for its count. `OutOfMemory` where memory runs out.
-#[tactic(auto, using(ar_space::specs::Outcome::answering))]
+#[tactic(auto, using(ar_space::proofs::Outcomes::answering))]
 pub fn current(alloc: Global, bytes: &[u8]) -> Result<InterruptNumbers, Refusal>
     ensures { Answers result (current_of bytes.now) }
 {

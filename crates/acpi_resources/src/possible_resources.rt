@@ -50,7 +50,7 @@ pub fn possible_as(alloc: Global, exclusives: Exclusives, bytes: &[u8]) -> Resul
 }
 
 /// The offer of an interrupt descriptor, after what was found before it.
-#[tactic(auto, using(ar_space::specs::Outcome::answering), unfolding(crate::specs::Offers::the_offer))]
+#[tactic(auto, using(ar_space::proofs::Outcomes::answering), unfolding(crate::specs::Offers::the_offer))]
 fn only_offer(
     alloc: Global,
     exclusives: Exclusives,
@@ -66,7 +66,7 @@ fn only_offer(
 }
 
 /// The offer of one interrupt descriptor.
-#[tactic(auto, using(ar_space::specs::Outcome::answering), unfolding(crate::specs::Offers::offer_of))]
+#[tactic(auto, using(ar_space::proofs::Outcomes::answering), unfolding(crate::specs::Offers::offer_of))]
 fn offer_of_one(
     alloc: Global,
     exclusives: Exclusives,

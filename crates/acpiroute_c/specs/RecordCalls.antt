@@ -1,5 +1,5 @@
 -- Calls over a record: the settings, and how what there is to say stands in the caller's places.
-use Rattle.std.specs.Prelude.{◌≡◌, ◌⊎◌, ℕ, ◌==◌, nat_lt, Bool, true, false, List, All, map, Option, Some, None, Ok, Err, if◌then◌else◌}
+use Rattle.std.specs.Prelude.{◌≡◌, ◌⊎◌, ℕ, ◌==◌, nat_lt, Bool, true, false, List, [], All, map, Option, Some, None, Ok, Err, if◌then◌else◌}
 use Rattle.ar_space.specs.Outcome.{Outcome, Answers}
 use Rattle.ar_tables.specs.declared.mode.Mode.{Mode}
 use Rattle.ar_tables.specs.declared.mode.Mode.TheVariants.{Pic, Apic}
@@ -37,12 +37,12 @@ flag_of n = if n == 0 then Some false else (if n == 1 then Some true else None)
 abbrev pub steps_of : ℕ → Option ℕ
 steps_of n = if n == 0 then None else (if nat_lt 1000000000 n then None else Some n)
 
-abbrev settings_with : Option (Profile × Mode) → Option ℕ → Option Bool → Option Settings
-settings_with (Some mode) (Some steps) (Some dry) = Some (record { profile = mode.0; mode = mode.1; steps = steps; dry = dry })
-settings_with _ _ _ = None
+abbrev settings_with : Option (Profile × Mode) → Option ℕ → Option Bool → Option Bool → Option Settings
+settings_with (Some mode) (Some steps) (Some dry) (Some kernel) = Some (record { profile = mode.0; mode = mode.1; steps = steps; dry = dry; kernel = kernel })
+settings_with _ _ _ _ = None
 
 abbrev pub settings_of : CallSettings → Option Settings
-settings_of s = settings_with (mode_of s.mode) (steps_of s.steps) (flag_of s.dry)
+settings_of s = settings_with (mode_of s.mode) (steps_of s.steps) (flag_of s.dry) (flag_of s.kernel)
 
 -- a number of the settings or of an entry means nothing
 abbrev pub IsMalformed : CallSettings → List CallAccess → Type 0
@@ -62,7 +62,7 @@ pub record IsRunOf (s : CallSettings) (accesses : List CallAccess) (run : Settin
 pub record IsToldReply (outcome : Outcome Written) (reply : Reply) : Type 0 where
   pub told : Outcome Written
   pub is_told : IsToldAs outcome told
-  pub is : reply ≡ reply_of told
+  pub is : reply ≡ reply_of [] told
 
 -- what came of the run is written, unless memory runs out for its text, and a refusal handed on
 abbrev pub IsOutcomeOf : {A : Type 0} → (A → Written) → Ending A → Outcome Written → Type 0

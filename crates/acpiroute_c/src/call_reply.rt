@@ -27,7 +27,7 @@ fn sizes_of(said: &Reply) -> CallReply
 }
 
 /// Puts bytes at the start of a buffer.
-fn put_into(bytes: &[u8], buffer: &mut [u8])
+pub(crate) fn put_into(bytes: &[u8], buffer: &mut [u8])
     requires { length bytes.now ≤ length buffer.old }
     ensures { buffer.new ≡ put_into bytes.now buffer.old }
 {

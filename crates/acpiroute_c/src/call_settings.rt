@@ -15,6 +15,8 @@ pub struct CallSettings {
     pub mode: u8,
     /// 1 where no link is to be set, and else 0.
     pub dry: u8,
+    /// 1 where the report is to have the lines for a kernel, and else 0.
+    pub kernel: u8,
 }
 
 /// The profile and the interrupt controllers.
@@ -57,10 +59,12 @@ pub(crate) fn settings_of(settings: &CallSettings) -> Option<Settings>
     let (profile, mode) = mode_of(settings.mode)?;
     let steps = steps_of(settings.steps)?;
     let dry = flag_of(settings.dry)?;
+    let kernel = flag_of(settings.kernel)?;
     Some(Settings {
         profile,
         mode,
         steps,
         dry,
+        kernel,
     })
 }

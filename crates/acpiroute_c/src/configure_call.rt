@@ -18,7 +18,7 @@ use route_report::Report;
 use std::alloc::{AllocError, Global};
 
 /// How a run over these entries ends.
-fn ending_over(
+pub(crate) fn ending_over(
     alloc: Global,
     settings: &Settings,
     avoid: &[u32],

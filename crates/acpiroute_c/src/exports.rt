@@ -3,14 +3,17 @@ ghost use Rattle.std.specs.Prelude.{codes};
 ghost use Rattle.acpiroute_c.specs.Calls.{IsCall};
 ghost use Rattle.acpiroute_c.specs.Configuring.{IsConfigureCall};
 ghost use Rattle.acpiroute_c.specs.Evaluating.{IsEvaluateCall};
+ghost use Rattle.acpiroute_c.specs.PinCalls.{IsPinsCall};
 ghost use Rattle.acpiroute_c.specs.declared.table_source.TableSource.TheVariants as source;
 
 use crate::call::call;
 use crate::call_access::{CallAccess, CallWanted};
+use crate::call_pin::{CallPin, PinsReply};
 use crate::call_reply::CallReply;
 use crate::call_settings::CallSettings;
 use crate::configure_call::configure_call;
 use crate::evaluate_call::{Asked, evaluate_call};
+use crate::pins_call::pins_call;
 use crate::table_source::TableSource;
 use recorded_route::{TablePart, TablesInMemory};
 use std::alloc::Global;
@@ -225,6 +228,69 @@ pub extern "C" fn acpiroute_evaluate_tables(
         TableSource::Memory(TablesInMemory { rsdp, parts, osi }),
         accesses,
         text,
+        line,
+        reply,
+        wanted,
+    )
+}
+
+/// `acpiroute_configure`, of whose report the pins are given and no text.
+#[unsafe(no_mangle)]
+pub extern "C" fn acpiroute_configure_pins(
+    alloc: Global,
+    settings: &CallSettings,
+    avoid: &[u32],
+    machine: &[u8],
+    accesses: &[CallAccess],
+    pins: &mut [CallPin],
+    line: &mut [u8],
+    reply: &mut PinsReply,
+    wanted: &mut CallWanted,
+) -> u32
+    ensures { IsPinsCall settings.now avoid.now (source.Text machine.entry) accesses.now result
+        (record { filled = record { pins = pins.old; line = line.old; reply = reply.old }; wanted = wanted.old })
+        (record { filled = record { pins = pins.new; line = line.new; reply = reply.new }; wanted = wanted.new }) }
+{
+    pins_call(
+        alloc,
+        settings,
+        avoid,
+        TableSource::Text(machine),
+        accesses,
+        pins,
+        line,
+        reply,
+        wanted,
+    )
+}
+
+/// `acpiroute_configure_pins` over the tables as they stand in memory.
+#[unsafe(no_mangle)]
+pub extern "C" fn acpiroute_configure_tables_pins(
+    alloc: Global,
+    settings: &CallSettings,
+    avoid: &[u32],
+    rsdp: u64,
+    parts: &[TablePart<'_>],
+    osi: &[u8],
+    accesses: &[CallAccess],
+    pins: &mut [CallPin],
+    line: &mut [u8],
+    reply: &mut PinsReply,
+    wanted: &mut CallWanted,
+) -> u32
+    ensures { IsPinsCall settings.now avoid.now (source.Memory
+        (record { rsdp = rsdp; parts = parts.entry; osi = osi.entry })) accesses.now result
+        (record { filled = record { pins = pins.old; line = line.old; reply = reply.old }; wanted = wanted.old })
+        (record { filled = record { pins = pins.new; line = line.new; reply = reply.new }; wanted = wanted.new }) }
+{
+    pins_call(
+        alloc,
+        settings,
+        avoid,
+        TableSource::Memory(TablesInMemory { rsdp, parts, osi }),
+        accesses,
+        pins,
         line,
         reply,
         wanted,

@@ -22,7 +22,7 @@ pub(crate) fn reply_to(alloc: Global, outcome: Result<Answer, Refusal>) -> Resul
 {
     let mut output = Growing::new(alloc);
     let mut errors = Growing::new(alloc);
-    let status = deliver_outcome(alloc, outcome, &mut output, &mut errors);
+    let status = deliver_outcome(alloc, b"", outcome, &mut output, &mut errors);
     if output.is_refused || errors.is_refused {
         return Err(AllocError);
     }

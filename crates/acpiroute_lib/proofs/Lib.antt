@@ -6,6 +6,9 @@ pub mod Machines
 pub mod NameLines
 pub mod One
 pub mod Packages
+pub mod PassedTold
+pub mod Phases
 pub mod Putting
 pub mod Routes
+pub mod Staged
 pub mod Telling

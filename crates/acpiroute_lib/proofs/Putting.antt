@@ -7,26 +7,12 @@ use Rattle.aml_path.specs.declared.segment.Seg.{Seg}
 use Rattle.route_report.specs.Lines.{spaced}
 use Rattle.route_report.specs.Reports.{ReportedAfter}
 use Rattle.route_report.specs.declared.report.SetLine.{SetLine}
-use Rattle.acpiroute_lib.specs.Explaining.{set_text, set_texts, after_text, after_texts}
+use Rattle.acpiroute_lib.specs.LinkTexts.{set_text, set_texts, after_text, after_texts}
 use Rattle.acpiroute_lib.specs.MissingLines.{byte_text, line_end, lines_behind}
 
 -- what is put first, and what is left
 step : (text one rest next whole : List ℕ) → whole ≡ text ++ (one ++ rest) → next ≡ text ++ one → whole ≡ next ++ rest
 step text one rest next whole so put = so ∙ (sym (append_assoc text one rest) ∙ ap (λ t. t ++ rest) (sym put))
-
--- two texts behind one
-pub two_put : (t0 t1 t2 a b : List ℕ) → t1 ≡ t0 ++ a → t2 ≡ t1 ++ b → t2 ≡ t0 ++ (a ++ b)
-two_put t0 t1 t2 a b first next = next ∙ (ap (λ t. t ++ b) first ∙ append_assoc t0 a b)
-
--- three, and so on
-pub three_put : (t0 t1 t2 t3 a b c : List ℕ) → t1 ≡ t0 ++ a → t2 ≡ t1 ++ b → t3 ≡ t2 ++ c → t3 ≡ t0 ++ (a ++ (b ++ c))
-three_put t0 t1 t2 t3 a b c first second third = two_put t0 t1 t3 a (b ++ c) first (two_put t1 t2 t3 b c second third)
-
-pub four_put : (t0 t1 t2 t3 t4 a b c d : List ℕ) → t1 ≡ t0 ++ a → t2 ≡ t1 ++ b → t3 ≡ t2 ++ c → t4 ≡ t3 ++ d → t4 ≡ t0 ++ (a ++ (b ++ (c ++ d)))
-four_put t0 t1 t2 t3 t4 a b c d first second third fourth = two_put t0 t1 t4 a (b ++ (c ++ d)) first (three_put t1 t2 t3 t4 b c d second third fourth)
-
-pub five_put : (t0 t1 t2 t3 t4 t5 a b c d e : List ℕ) → t1 ≡ t0 ++ a → t2 ≡ t1 ++ b → t3 ≡ t2 ++ c → t4 ≡ t3 ++ d → t5 ≡ t4 ++ e → t5 ≡ t0 ++ (a ++ (b ++ (c ++ (d ++ e))))
-five_put t0 t1 t2 t3 t4 t5 a b c d e first second third fourth fifth = two_put t0 t1 t5 a (b ++ (c ++ (d ++ e))) first (four_put t1 t2 t3 t4 t5 b c d e second third fourth fifth)
 
 module _ {X : Type 0} (all : List X → List ℕ) (one : X → List ℕ) (first : (x : X) (xs : List X) → all (x ∷ xs) ≡ one x ++ all xs) where
   pub put_more : (xs : List X) (i : ℕ) (x : X) (text next whole : List ℕ) → i < length xs → x ≡ get_or xs i x → whole ≡ text ++ all (drop i xs) → next ≡ text ++ one x

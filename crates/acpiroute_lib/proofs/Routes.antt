@@ -1,9 +1,8 @@
 -- The answer of `route`, from the machine and its report.
-use Rattle.std.proofs.Common.{◌≡◌, ◌≢◌, ◌∙◌, ◌<◌, ap, sym, subst, refl, true, arith, inl, inr}
+use Rattle.std.proofs.Common.{◌≡◌, ◌≢◌, ◌∙◌, ap, sym, subst, refl, true, arith, inl, inr}
 use Rattle.std.specs.Prelude.{◌⊎◌, ℕ, List, Ok, Err, IfOk, IsErr, IsErrAnd}
 use Rattle.ar_space.specs.declared.refusal.Refusal.{Refusal}
 use Rattle.ar_space.specs.declared.refusal.Refusal.TheVariants.{OutOfMemory}
-use Rattle.ar_space.specs.Bytes.{Bytes, byte_accesses}
 use Rattle.ar_space.specs.Outcome.{Outcome, Answers, NotMemory, ◌>>=◌}
 use Rattle.acpi_machine.specs.MachineStates.{MachineState, sci_of}
 use Rattle.acpi_configure.specs.Options.{RunOptions}
@@ -20,7 +19,7 @@ use Rattle.route_report.specs.Readable.{IsReadable, claim_of_report}
 use Rattle.route_report.specs.Reading.{claim_of_text}
 use Rattle.route_report.specs.Reports.{RoutingReport}
 use Rattle.acpiroute_words.specs.CheckCommand.{Verdict, IsVerdictOn, IsCheckAnswer, check_answer, verdict_answer}
-use Rattle.acpiroute_lib.specs.Machines.{machine_of_text_in}
+use Rattle.acpiroute_lib.specs.Machines.{Registers, register_accesses, machine_of_text_in}
 use Rattle.acpiroute_lib.specs.RouteCommand.{printed, IsRouted, IsRouteAnswer}
 use Rattle.acpiroute_words.specs.declared.request.Evaluation.{Evaluation}
 use Rattle.acpiroute_words.specs.Written.{Written}
@@ -57,7 +56,7 @@ verdict_yes c text o (Err f) is at v h = absurd (no_flaw c f v.valid v.shared (s
 checked : (c : RoutingClaim) (text : List ℕ) → claim_of_text text ≡ Ok c → Holds c → (r : Outcome Written) → IsCheckAnswer text r → r ≡ Ok (verdict_answer (Ok tt))
 checked c text at v r h = h.2 ∙ verdict_yes c text (claim_of_text text) h.0 at refl v h.1
 
-pub reported : {m after : MachineState Bytes} (o : RunOptions) (report : RoutingReport) (r : Outcome Written) → IsReportFor byte_accesses o m after report → Answers r (Ok (printed report))
+pub reported : {m after : MachineState Registers} (o : RunOptions) (report : RoutingReport) (r : Outcome Written) → IsReportFor register_accesses o m after report → Answers r (Ok (printed report))
     → IfOk r (λ w. IsReadable report → claim_of_text w.text ≡ Ok (claim_of_report report)) → NotMemory r → IsRouted o m r
 reported {after = after} o report (Ok w) is h back ne =
     record {
@@ -70,17 +69,17 @@ reported {after = after} o report (Ok w) is h back ne =
     }
 reported o report (Err e) is h back ne = absurd (cc (h.is ne))
 
-pub not_found : {e : Refusal} {after : MachineState Bytes} (o : RunOptions) (m : MachineState Bytes) (r : Outcome Written) → (e ≢ OutOfMemory → found_by byte_accesses o (sci_of m) m ≡ (Err e, after)) → IsErr r × IsErrAnd r (λ x. x ≡ e)
+pub not_found : {e : Refusal} {after : MachineState Registers} (o : RunOptions) (m : MachineState Registers) (r : Outcome Written) → (e ≢ OutOfMemory → found_by register_accesses o (sci_of m) m ≡ (Err e, after)) → IsErr r × IsErrAnd r (λ x. x ≡ e)
     → NotMemory r → IsRouted o m r
 not_found o m (Ok a) is i ne = absurd (cc i.0)
 not_found o m (Err x) is i ne = ap (λ p. p.0) (is (λ q. ne (i.1 ∙ q))) ∙ ap Err (sym i.1)
 
-pub refused_machine : {e : Refusal} (mode : Mode) (evaluation : Evaluation) (o : RunOptions) (text : List ℕ) (r : Outcome Written) → Answers {A = MachineState Bytes} (Err e) (machine_of_text_in mode evaluation text) → IsErr r × IsErrAnd r (λ x. x ≡ e)
+pub refused_machine : {e : Refusal} (mode : Mode) (evaluation : Evaluation) (o : RunOptions) (text : List ℕ) (r : Outcome Written) → Answers {A = MachineState Registers} (Err e) (machine_of_text_in mode evaluation text) → IsErr r × IsErrAnd r (λ x. x ≡ e)
     → NotMemory r → IsRouteAnswer mode evaluation o text r
 refused_machine mode evaluation o text (Ok a) h i ne = absurd (cc i.0)
 refused_machine mode evaluation o text (Err x) h i ne = rw (h.is (λ q. ne (i.1 ∙ q))) (ap Err i.1)
 
-pub ready_machine : {m : MachineState Bytes} (mode : Mode) (evaluation : Evaluation) (o : RunOptions) (text : List ℕ) (r : Outcome Written) → Answers (Ok m) (machine_of_text_in mode evaluation text) → (NotMemory r → IsRouted o m r)
+pub ready_machine : {m : MachineState Registers} (mode : Mode) (evaluation : Evaluation) (o : RunOptions) (text : List ℕ) (r : Outcome Written) → Answers (Ok m) (machine_of_text_in mode evaluation text) → (NotMemory r → IsRouted o m r)
     → NotMemory r → IsRouteAnswer mode evaluation o text r
 ready_machine mode evaluation o text r h is ne = rw (h.is tt) (is ne)
 

@@ -1,14 +1,15 @@
 -- Why a run ends with status 1.
-use Rattle.std.specs.Prelude.{◌≡◌, ◌⊎◌, ℕ, Bool, true, false, List, Option, Some, Err}
+use Rattle.std.specs.Prelude.{◌≡◌, ◌⊎◌, ℕ, Bool, true, false, List, [], Option, Some, Err}
 use Rattle.ar_space.specs.declared.refusal.Refusal.{Refusal}
 use Rattle.ar_space.specs.declared.refusal.Refusal.TheVariants.{Input, OutOfMemory}
 use Rattle.ar_space.specs.declared.refusal.InputFault.TheVariants.{ReadFault, WriteFault}
 use Rattle.acpiroute_words.specs.declared.request.Request.{Request}
 use Rattle.acpiroute_words.specs.declared.request.Asked.TheVariants.{For}
 use Rattle.acpiroute_words.specs.CommandLine.{asked_of}
-use Rattle.acpiroute_words.specs.ErrorLines.{error_line}
+use Rattle.acpiroute_words.specs.Deliveries.{refusal_told}
 use Rattle.acpiroute_words.specs.Held.{Held, Takes}
 use Rattle.acpiroute_words.specs.Input.{input_of, IsInput}
+use Rattle.acpiroute_lib.specs.Passed.{told_passed}
 use Rattle.acpiroute_lib.specs.Runs.{IsAnswerOver}
 
 -- the refusal that the command of the words answers over the input; where that is too long, the refusal of its length
@@ -23,10 +24,16 @@ IsCause words read_failed true input r = r ≡ Input WriteFault
 IsCause words true false input r = r ≡ Input ReadFault
 IsCause words false false input r = (r ≡ OutOfMemory) ⊎ IsOwnRefusal words input r
 
--- a run tells a refusal for such a cause, by its line on the errors
+-- the lines before that of a refusal: none, or those of what the command of the words passes over
+abbrev pub IsPassed : List (List ℕ) → Bool → List ℕ → List ℕ → Type 0
+IsPassed words read_failed input passed = (passed ≡ []) ⊎ ((q : Request) × (asked_of words ≡ Some (For q)) × (passed ≡ told_passed q read_failed input))
+
+-- a run tells a refusal for such a cause, by its line on the errors, the last there
 pub record TellsCause (words : List (List ℕ)) (left : Option (List ℕ)) (read_failed write_failed : Bool) (errors errors2 : Held) : Type 0 where
   pub input : List ℕ
   pub is_input : IsInput left input
   pub refusal : Refusal
   pub is_cause : IsCause words read_failed write_failed input refusal
-  pub line : Takes errors errors2 (error_line refusal)
+  pub passed : List ℕ
+  pub is_passed : IsPassed words read_failed input passed
+  pub line : Takes errors errors2 (refusal_told passed refusal)

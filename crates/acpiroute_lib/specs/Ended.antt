@@ -1,5 +1,5 @@
 -- A run over any register space: what refuses it, or its report.
-use Rattle.std.specs.Prelude.{◌≡◌, ◌≢◌, ℕ, Bool, List, Option, Some, None, map, Ok, Err}
+use Rattle.std.specs.Prelude.{◌≡◌, ◌≢◌, ℕ, List, Option, Some, None, map, Ok, Err}
 use Rattle.ar_space.specs.Accesses.{Accesses}
 use Rattle.ar_space.specs.Change.{Change, settle, ◌>>=◌, ◌>>◌}
 use Rattle.ar_space.specs.Outcome.{Outcome, seen}

@@ -1,7 +1,6 @@
 -- What `eval` answers.
 use Rattle.std.specs.Prelude.{ℕ, List, ◌++◌, map, Ok, codes}
 use Rattle.ar_space.specs.Outcome.{Outcome, ◌>>=◌}
-use Rattle.ar_space.specs.Bytes.{Bytes, byte_accesses}
 use Rattle.aml_path.specs.declared.segment.Seg.{Seg}
 use Rattle.aml_path.specs.Text.{path_of_text}
 use Rattle.aml_meaning.specs.Given as given
@@ -12,7 +11,7 @@ use Rattle.acpiroute_words.specs.declared.arguments.Argument.{Argument}
 use Rattle.acpiroute_words.specs.declared.arguments.Argument.TheVariants as argument
 use Rattle.acpiroute_words.specs.declared.request.Evaluation.{Evaluation}
 use Rattle.acpiroute_words.specs.declared.completion.Completion.TheVariants.{Done}
-use Rattle.acpiroute_lib.specs.Machines.{machine_of_text_in}
+use Rattle.acpiroute_lib.specs.Machines.{Registers, register_accesses, machine_of_text_in}
 use Rattle.acpiroute_lib.specs.ValueText.{value_text}
 use Rattle.acpiroute_words.specs.Written.{Written}
 
@@ -23,15 +22,15 @@ given_argument (argument.Text bytes) = given.Text bytes
 given_argument (argument.Bytes bytes) = given.Bytes bytes
 
 -- what the object at a path of a machine answers to arguments
-unfoldable pub value_at : MachineState Bytes → List Seg → List given.Given → Outcome given.Given
-value_at m path arguments = (evaluated_object byte_accesses path arguments m).0
+unfoldable pub value_at : MachineState Registers → List Seg → List given.Given → Outcome given.Given
+value_at m path arguments = (evaluated_object register_accesses path arguments m).0
 
 -- a value on a line of its own
 abbrev pub value_written : given.Given → Written
 value_written value = record { text = value_text value ++ codes "\n"; completion = Done }
 
 -- the value of the object whose path this text is, where these are the arguments
-unfoldable pub evaluated_text : MachineState Bytes → List ℕ → List Argument → Outcome Written
+unfoldable pub evaluated_text : MachineState Registers → List ℕ → List Argument → Outcome Written
 evaluated_text m path arguments = do
   p ← path_of_text path
   value ← value_at m p (map given_argument arguments)

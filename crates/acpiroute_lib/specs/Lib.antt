@@ -5,9 +5,11 @@ pub mod ValueText
 pub mod EvalCommand
 pub mod RouteCommand
 pub mod Ended
-pub mod Explaining
+pub mod LinkTexts
 pub mod MissingLines
+pub mod WhyStages
 pub mod WhyCommand
 pub mod Commands
 pub mod Runs
 pub mod Causes
+pub mod Passed

@@ -2,7 +2,7 @@
 use Rattle.std.specs.Prelude.{ℕ, ◌+◌, ◌%◌, ◌==◌, ◌&&◌, not, Bool, false, List, [], ◌∷◌, ◌++◌, Option, Some, None, codes, if◌then◌else◌}
 use Rattle.ar_space.specs.declared.space.Place.{Place}
 use Rattle.ar_space.specs.declared.space.Place.TheVariants.{Memory, Io, Pci}
-use Rattle.acpiroute_lib.specs.Explaining.{place_words}
+use Rattle.acpi_explain.specs.Explaining.{place_words}
 
 -- a place that follows the one before, and begins no 16 bytes
 abbrev pub is_next : ℕ → ℕ → Bool

@@ -1,17 +1,16 @@
 -- What `names` answers.
 use Rattle.std.specs.Prelude.{ℕ, List, Ok}
 use Rattle.ar_space.specs.Outcome.{Outcome, ◌>>=◌}
-use Rattle.ar_space.specs.Bytes.{Bytes}
 use Rattle.acpi_machine.specs.Kinds.{kinds_walked}
 use Rattle.acpi_machine.specs.MachineStates.{MachineState}
 use Rattle.acpiroute_words.specs.declared.request.Evaluation.{Evaluation}
 use Rattle.acpiroute_words.specs.declared.completion.Completion.TheVariants.{Done}
-use Rattle.acpiroute_lib.specs.Machines.{machine_of_text}
+use Rattle.acpiroute_lib.specs.Machines.{Registers, machine_of_text}
 use Rattle.acpiroute_lib.specs.NameLines.{name_lines}
 use Rattle.acpiroute_words.specs.Written.{Written}
 
 -- all names of a machine but the root, in path order
-abbrev pub names_of_machine : MachineState Bytes → Written
+abbrev pub names_of_machine : MachineState Registers → Written
 names_of_machine m = record { text = name_lines (kinds_walked m.world.names.map); completion = Done }
 
 -- what `names` answers over a machine text, with its tables evaluated like this: nothing is initialized

@@ -2,7 +2,6 @@
 use Rattle.std.specs.Prelude.{◌≡◌, ℕ, List, Bool, true, false, Ok, Err, if◌then◌else◌}
 use Rattle.std.specs.List.{list_any}
 use Rattle.ar_space.specs.Outcome.{Outcome}
-use Rattle.ar_space.specs.Bytes.{Bytes, byte_accesses}
 use Rattle.acpi_machine.specs.MachineStates.{MachineState, sci_of}
 use Rattle.acpi_configure.specs.Options.{RunOptions}
 use Rattle.acpi_configure.specs.ForKernels.{IsReportFor}
@@ -19,7 +18,7 @@ use Rattle.acpiroute_words.specs.CheckCommand.{verdict_answer, IsCheckAnswer}
 use Rattle.acpiroute_words.specs.declared.request.Evaluation.{Evaluation}
 use Rattle.acpiroute_words.specs.declared.completion.Completion.{Completion}
 use Rattle.acpiroute_words.specs.declared.completion.Completion.TheVariants.{Done, SettingRefused}
-use Rattle.acpiroute_lib.specs.Machines.{machine_of_text_in}
+use Rattle.acpiroute_lib.specs.Machines.{Registers, register_accesses, machine_of_text_in}
 use Rattle.acpiroute_words.specs.Written.{Written}
 
 -- whether setting a link was refused
@@ -37,21 +36,21 @@ printed report = record { text = text_of_report report; completion = completion_
 
 -- The text of the report of a machine, where these are the options; `after` is the machine that setting the links leaves, its register
 -- space among it. What the text claims is what the report claims, the answer to the machine's problem, and `check` says yes to it.
-pub record IsReportOf (o : RunOptions) (m : MachineState Bytes) (w : Written) : Type 0 where
+pub record IsReportOf (o : RunOptions) (m : MachineState Registers) (w : Written) : Type 0 where
   pub report : RoutingReport
-  pub after : MachineState Bytes
-  pub is_report : IsReportFor byte_accesses o m after report
+  pub after : MachineState Registers
+  pub is_report : IsReportFor register_accesses o m after report
   pub is_text : w ≡ printed report
   pub is_read_back : claim_of_text w.text ≡ Ok (claim_of_report report)
   pub is_checked : (r : Outcome Written) → IsCheckAnswer w.text r → r ≡ Ok (verdict_answer (Ok tt))
 
 -- the report, or the refusal of what it has to find
-abbrev pub IsRouted : RunOptions → MachineState Bytes → Outcome Written → Type 0
+abbrev pub IsRouted : RunOptions → MachineState Registers → Outcome Written → Type 0
 IsRouted o m (Ok w) = IsReportOf o m w
-IsRouted o m (Err e) = (found_by byte_accesses o (sci_of m) m).0 ≡ Err e
+IsRouted o m (Err e) = (found_by register_accesses o (sci_of m) m).0 ≡ Err e
 
 -- a machine that is refused has no report
-abbrev pub IsRoutedOn : RunOptions → Outcome (MachineState Bytes) → Outcome Written → Type 0
+abbrev pub IsRoutedOn : RunOptions → Outcome (MachineState Registers) → Outcome Written → Type 0
 IsRoutedOn o (Ok m) r = IsRouted o m r
 IsRoutedOn o (Err e) r = r ≡ Err e
 

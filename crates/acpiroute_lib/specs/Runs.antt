@@ -14,6 +14,7 @@ use Rattle.acpiroute_words.specs.Held.{Held}
 use Rattle.acpiroute_words.specs.Input.{input_of, IsInput}
 use Rattle.acpiroute_words.specs.Written.{Written}
 use Rattle.acpiroute_lib.specs.Commands.{IsAnswer}
+use Rattle.acpiroute_lib.specs.Passed.{told_passed}
 
 -- the answer over an input that is short enough, and else its refusal
 abbrev pub IsAnswerOver : Request → Outcome (List ℕ) → Outcome Written → Type 0
@@ -63,7 +64,7 @@ pub record Worked (words : List (List ℕ)) (read_failed : Bool) (input : List �
   pub asked : asked_of words ≡ Some (For request)
   pub outcome : Outcome Written
   pub comes : ComesTo request read_failed input outcome
-  pub is : r ≡ reply_of outcome
+  pub is : r ≡ reply_of (told_passed request read_failed input) outcome
 
 -- what a run over these words has to say
 abbrev pub IsReply : List (List ℕ) → Bool → List ℕ → Reply → Type 0
@@ -84,7 +85,7 @@ pub record Served (q : Request) (left : Option (List ℕ)) (read_failed : Bool) 
   pub is_input : IsInput left input
   pub outcome : Outcome Written
   pub comes : ComesTo q read_failed input outcome
-  pub delivered : Delivered (reply_of outcome) status output output2 errors errors2
+  pub delivered : Delivered (reply_of (told_passed q read_failed input) outcome) status output output2 errors errors2
 
 -- what a fault of the words leaves
 pub record Shown (fault : ErrorKind) (status : ℕ) (output output2 errors errors2 : Held) : Type 0 where

@@ -9,9 +9,13 @@ use Rattle.ar_tables.specs.declared.tables.Tables.{Tables}
 use Rattle.ar_tables.specs.FindTables.{tables_of}
 use Rattle.machine_text.specs.MachineText.{machine_text}
 use Rattle.machine_text.specs.declared.machine_lines.MachineText.{MachineText}
+use Rattle.acpi_explain.specs.Explaining.{IsExplanation}
 use Rattle.acpi_explain.specs.Told.{shown_access}
+use Rattle.acpi_explain.specs.declared.explanation.Explanation.{Explanation}
 use Rattle.acpi_explain.specs.declared.stage.Stage.{Stage}
+use Rattle.acpi_explain.specs.declared.told.Phase.{Phase}
 use Rattle.watched_space.specs.Filling.{Filled, filled}
+use Rattle.watched_space.specs.Metering.{Meter, metered}
 use Rattle.watched_space.specs.MissingPlaces.{no_missing, missing_places}
 use Rattle.watched_space.specs.Watching.{Watch, watched}
 use Rattle.watched_space.specs.declared.last_access.Accessed.{Accessed}
@@ -20,9 +24,12 @@ use Rattle.acpiroute_words.specs.Written.{Written}
 use Rattle.acpiroute_words.specs.declared.completion.Completion.TheVariants.{Done}
 use Rattle.acpi_machine.specs.MachineStates.{MachineState}
 use Rattle.acpiroute_lib.specs.Ended.{IsMachineEnd, IsEnd}
-use Rattle.acpiroute_lib.specs.Explaining.{refused_text, done_text}
+use Rattle.acpiroute_lib.specs.LinkTexts.{done_text}
+use Rattle.acpiroute_lib.specs.Machines.{Registers, register_accesses, registers_of}
 use Rattle.acpiroute_lib.specs.MissingLines.{missing_lines}
+use Rattle.acpiroute_lib.specs.WhyStages.{machine_phase, run_phase, IsPhase, IsStageOf, IsStageIn}
 use Rattle.acpiroute_words.specs.declared.request.Asking.{Asking}
+use Rattle.acpiroute_words.specs.declared.request.Evaluation.{Evaluation}
 use Rattle.acpiroute_lib.specs.declared.run_end.RunEnd.{RunEnd}
 use Rattle.acpiroute_lib.specs.declared.run_end.RunEnd.TheVariants as end
 
@@ -31,58 +38,71 @@ told text = record { text = text; completion = Done }
 
 -- ---- what ended a run
 
+-- the registers of a run, to which no access is made yet
+abbrev pub first_watch : Evaluation → Bytes → Watch Registers
+first_watch evaluation space = record { inner = registers_of evaluation space; last = None }
+
 -- a machine whose tables are loaded, and the last access once it was asked
-pub record IsWatchedMachine (q : Asking) (m : MachineState (Watch Bytes)) (ended : RunEnd) (last : Option Accessed) : Type 0 where
-  pub after : MachineState (Watch Bytes)
-  pub is_end : IsMachineEnd (watched byte_accesses) q ended m after
+pub record IsWatchedMachine (q : Asking) (m : MachineState (Watch Registers)) (ended : RunEnd) (last : Option Accessed) : Type 0 where
+  pub after : MachineState (Watch Registers)
+  pub is_end : IsMachineEnd (watched register_accesses) q ended m after
+  pub is_phase : IsPhase (machine_phase (watched register_accesses) q m) ended
   pub is_last : after.world.space.last ≡ last
 
 -- A run over the bytes of a machine text, and its last access. It is the run that the request asks for: the space that keeps the last
 -- access does what the bytes do.
 pub record IsWatched (q : Asking) (tables : Outcome Tables) (osi : List (List ℕ)) (space : Bytes) (ended : RunEnd) (last : Option Accessed) : Type 0 where
-  pub left : Watch Bytes
-  pub is_end : IsEnd (watched byte_accesses) q ended tables osi (record { inner = space; last = None }) left
+  pub left : Watch Registers
+  pub is_end : IsEnd (watched register_accesses) q ended tables osi (first_watch q.evaluation space) left
+  pub is_phase : IsPhase (run_phase (watched register_accesses) q tables osi (first_watch q.evaluation space)) ended
   pub is_last : left.last ≡ last
 
--- The refusal of the run, in its lines. Which table or object is told, which terms were being evaluated and how many steps they took, the
--- name of the refusal and the help are not said here: the first is found by a second run, the second comes from the evaluator's own frames,
--- and the others stand in a table.
-pub record IsRefusalTold (e : Refusal) (access : Option Accessed) (w : Written) : Type 0 where
-  pub name : List ℕ
+-- the stage at which the run over a machine text is refused, if it is refused in this phase
+abbrev pub IsStageFound : Asking → Option Phase → List ℕ → Option Stage → Type 0
+IsStageFound q phase text stage = (said : MachineText) → machine_text text ≡ Ok said
+    → IsStageIn (watched register_accesses) phase q (tables_of said.space.memory said.rsdp) said.osi (first_watch q.evaluation said.space) stage
+
+-- The text of an explanation of the refusal of the run, with a stage of which this holds, where so many steps might be taken.
+pub record IsRefusalTold (steps : ℕ) (IsIt : Option Stage → Type 0) (e : Refusal) (access : Option Accessed) (w : Written) : Type 0 where
   pub stage : Option Stage
-  pub places : List ℕ
-  pub steps : List ℕ
-  pub help : List ℕ
-  pub is : w ≡ told (refused_text e name stage places access steps help)
+  pub is_stage : IsIt stage
+  pub explanation : Explanation
+  pub is_explanation : IsExplanation e stage access steps explanation
+  pub is : w ≡ told explanation.text.items
 
--- the lines of how a run ended; want of memory is told in none
-abbrev pub IsExplained : RunEnd → Option Accessed → Written → Type 0
-IsExplained (end.Refused phase e) last w = (e ≢ OutOfMemory) × IsRefusalTold e (shown_access e last) w
-IsExplained (end.Done report) last w = w ≡ told (done_text report)
+-- the lines of how a run ended, with a stage of which this holds; want of memory is told in none
+abbrev pub IsExplained : ℕ → (Option Phase → Refusal → Option Stage → Type 0) → RunEnd → Option Accessed → Written → Type 0
+IsExplained steps IsIt (end.Refused phase e) last w = (e ≢ OutOfMemory) × IsRefusalTold steps (IsIt phase e) e (shown_access e last) w
+IsExplained steps IsIt (end.Done report) last w = w ≡ told (done_text report)
 
+-- what is told where the run is refused: the stage of just this run, at which it is refused so
 pub record IsWhy (q : Asking) (said : MachineText) (w : Written) : Type 0 where
   pub ended : RunEnd
   pub last : Option Accessed
   pub is_run : IsWatched q (tables_of said.space.memory said.rsdp) said.osi said.space ended last
-  pub is_explained : IsExplained ended last w
+  pub is_explained : IsExplained q.evaluation.steps (λ phase e. IsStageOf (watched register_accesses) q (tables_of said.space.memory said.rsdp) said.osi (first_watch q.evaluation said.space) e) ended last w
 
 -- ---- which registers are missing
 
+-- the bytes of a machine text, none of which is missing yet; accesses are bounded as in the run without 0 in place of missing ones
+abbrev pub first_filled : Evaluation → Bytes → Meter (Filled Bytes)
+first_filled evaluation space = record { inner = record { inner = space; missing = no_missing }; left = evaluation.accesses }
+
 -- a machine whose tables are loaded, and the places that are missing once it was asked
-pub record IsFilledMachine (q : Asking) (m : MachineState (Filled Bytes)) (ended : RunEnd) (places : List Place) : Type 0 where
-  pub after : MachineState (Filled Bytes)
-  pub is_end : IsMachineEnd (filled byte_accesses) q ended m after
-  pub are_places : missing_places after.world.space.missing ≡ places
+pub record IsFilledMachine (q : Asking) (m : MachineState (Meter (Filled Bytes))) (ended : RunEnd) (places : List Place) : Type 0 where
+  pub after : MachineState (Meter (Filled Bytes))
+  pub is_end : IsMachineEnd (metered (filled byte_accesses)) q ended m after
+  pub are_places : missing_places after.world.space.inner.missing ≡ places
 
 -- a run with 0 in place of each missing byte, from a register space that knows these to be missing, and the places of those that are then
-pub record IsFilledFrom (q : Asking) (tables : Outcome Tables) (osi : List (List ℕ)) (before : Filled Bytes) (ended : RunEnd) (places : List Place) : Type 0 where
-  pub left : Filled Bytes
-  pub is_end : IsEnd (filled byte_accesses) q ended tables osi before left
-  pub are_places : missing_places left.missing ≡ places
+pub record IsFilledFrom (q : Asking) (tables : Outcome Tables) (osi : List (List ℕ)) (before : Meter (Filled Bytes)) (ended : RunEnd) (places : List Place) : Type 0 where
+  pub left : Meter (Filled Bytes)
+  pub is_end : IsEnd (metered (filled byte_accesses)) q ended tables osi before left
+  pub are_places : missing_places left.inner.missing ≡ places
 
 -- such a run over the bytes of a machine text
 abbrev pub IsFilled : Asking → Outcome Tables → List (List ℕ) → Bytes → RunEnd → List Place → Type 0
-IsFilled q tables osi space ended places = IsFilledFrom q tables osi (record { inner = space; missing = no_missing }) ended places
+IsFilled q tables osi space ended places = IsFilledFrom q tables osi (first_filled q.evaluation space) ended places
 
 -- the lines of all missing bytes, and how the run ended
 abbrev pub IsListed : RunEnd → List Place → Written → Type 0

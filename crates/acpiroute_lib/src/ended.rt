@@ -1,6 +1,10 @@
 //! How the run of a machine ends whose tables are loaded.
-ghost use Rattle.std.specs.Prelude.{◌≡◌, map};
+ghost use Rattle.std.specs.Prelude.{◌≡◌, map, Some, None};
 ghost use Rattle.aml_meaning.specs.Given.{given_of};
+ghost use Rattle.aml_path.specs.Text.{path_of_text};
+ghost use Rattle.acpi_machine.specs.Calls.{initialized};
+ghost use Rattle.acpi_explain.specs.declared.told.Phase.TheVariants.{Running};
+ghost use Rattle.acpiroute_lib.specs.WhyStages.{IsPhase, named_phase, started_phase, machine_phase};
 ghost use Rattle.acpiroute_lib.specs.Ended.{options_of, IsMachineEnd, IsRouted, IsEvaluated, IsEvaluatedAt};
 ghost use Rattle.acpiroute_lib.specs.Ended.{IsUnnamed};
 
@@ -36,7 +40,8 @@ fn route_machine<S: Space>(
     options: &Options<'_>,
     machine: &mut Machine<S>,
 ) -> RunEnd
-    ensures { IsRouted S.accesses mode options.now result machine.old machine.new }
+    ensures run { IsRouted S.accesses mode options.now result machine.old machine.new }
+    ensures phase { IsPhase (started_phase (Some Running) (initialized S.accesses mode machine.old).0) result }
 {
     match route_end(alloc, mode, options, machine) {
         End::Initializing(refusal) => RunEnd::Refused(Some(Phase::Initializing), refusal),
@@ -53,7 +58,8 @@ fn evaluate_path<S: Space>(
     arguments: Vec<Datum>,
     machine: &mut Machine<S>,
 ) -> RunEnd
-    ensures { IsEvaluatedAt S.accesses mode path.now (map given_of arguments.items) result machine.old machine.new }
+    ensures run { IsEvaluatedAt S.accesses mode path.now (map given_of arguments.items) result machine.old machine.new }
+    ensures phase { IsPhase (started_phase (Some Running) (initialized S.accesses mode machine.old).0) result }
 {
     match eval_end(alloc, mode, path, arguments, machine) {
         End::Initializing(refusal) => RunEnd::Refused(Some(Phase::Initializing), refusal),
@@ -69,7 +75,8 @@ fn refuse_path<S: Space>(
     refusal: Refusal,
     machine: &mut Machine<S>,
 ) -> RunEnd
-    ensures { IsUnnamed S.accesses mode refusal result machine.old machine.new }
+    ensures run { IsUnnamed S.accesses mode refusal result machine.old machine.new }
+    ensures phase { IsPhase (started_phase None (initialized S.accesses mode machine.old).0) result }
 {
     match machine.initialize(alloc, mode) {
         Ok(()) => RunEnd::Refused(None, refusal),
@@ -85,7 +92,9 @@ fn evaluate_machine<S: Space>(
     arguments: &[Argument],
     machine: &mut Machine<S>,
 ) -> RunEnd
-    ensures { IsEvaluated S.accesses mode path.now arguments.now result machine.old machine.new }
+    ensures run { IsEvaluated S.accesses mode path.now arguments.now result machine.old machine.new }
+    ensures phase { IsPhase (started_phase (named_phase (path_of_text path.now))
+        (initialized S.accesses mode machine.old).0) result }
 {
     match Path::from_text(alloc, path.as_bytes()) {
         Ok(path) => match data(alloc, arguments) {
@@ -103,7 +112,8 @@ pub(crate) fn machine_end<S: Space>(
     asking: &Asking,
     machine: &mut Machine<S>,
 ) -> RunEnd
-    ensures { IsMachineEnd S.accesses asking.now result machine.old machine.new }
+    ensures run { IsMachineEnd S.accesses asking.now result machine.old machine.new }
+    ensures phase { IsPhase (machine_phase S.accesses asking.now machine.old) result }
 {
     match &asking.question {
         Question::Route { avoid, flags } => {

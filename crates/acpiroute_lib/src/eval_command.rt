@@ -1,17 +1,19 @@
 //! `eval`: loads and initializes a machine, evaluates an object, and writes its value.
-ghost use Rattle.std.specs.Prelude.{◌≡◌, IfOk, Ok, map};
-ghost use Rattle.ar_space.specs.Outcome.{Answers, seen};
+ghost use Rattle.std.specs.Prelude.{◌≡◌, ◌++◌, IfOk, Ok, map};
+ghost use Rattle.ar_space.specs.Outcome.{Answers, NotMemory, seen};
+ghost use Rattle.acpiroute_words.specs.PassedLines.{passed_lines};
+ghost use Rattle.acpiroute_lib.specs.Passed.{run_passed};
 ghost use Rattle.aml_meaning.specs.Given as given;
 ghost use Rattle.acpiroute_lib.specs.EvalCommand.{given_argument, value_at, value_written, evaluated_text, eval_answer};
 
-use crate::machine::machine_of_text_in;
+use crate::machine::{Registers, machine_of_text_in};
 use crate::value_text::value_line;
 use acpi_machine::Machine;
 use acpiroute_words::{Answer, Argument, ArgumentBytes, Arguments, Completion, Evaluation};
 use aml_meaning::Datum;
 use aml_objects::Octets;
 use aml_path::Path;
-use ar_space::{PathText, Refusal, Sparse};
+use ar_space::{PathText, Refusal};
 use route_report::Mode;
 use std::alloc::{AllocError, Global};
 
@@ -48,7 +50,7 @@ pub(crate) fn data(alloc: Global, arguments: &[Argument]) -> Result<Vec<Datum>, 
 #[tactic(auto, using(crate::proofs::Evaluated::change_answers), unfolding(crate::specs::EvalCommand::value_at))]
 fn value_at(
     alloc: Global,
-    machine: &mut Machine<Sparse>,
+    machine: &mut Machine<Registers>,
     path: &Path,
     arguments: Vec<Datum>,
 ) -> Result<Datum, Refusal>
@@ -69,10 +71,10 @@ pub fn value_answer(alloc: Global, value: &Datum) -> Result<Answer, Refusal>
 }
 
 /// The value of the object whose path a text is.
-#[tactic(auto, using(ar_space::specs::Outcome::answering), unfolding(crate::specs::EvalCommand::evaluated_text))]
+#[tactic(auto, using(ar_space::proofs::Outcomes::answering), unfolding(crate::specs::EvalCommand::evaluated_text))]
 fn evaluated_text(
     alloc: Global,
-    machine: &mut Machine<Sparse>,
+    machine: &mut Machine<Registers>,
     path: &str,
     arguments: &[Argument],
 ) -> Result<Answer, Refusal>
@@ -87,18 +89,22 @@ fn evaluated_text(
 /// What `eval` answers over a machine text, in a mode, its AML evaluated like this: the value of the object whose
 /// path a text is, called with these arguments. Refused are the machine text, its tables, their loading,
 /// initializing, then the path's text, and then the evaluation.
-#[tactic(auto, using(ar_space::specs::Outcome::answering), unfolding(crate::specs::EvalCommand::eval_answer))]
+#[tactic(auto, using(ar_space::proofs::Outcomes::answering), unfolding(crate::specs::EvalCommand::eval_answer))]
 pub(crate) fn eval_answer(
     alloc: Global,
     mode: Mode,
     evaluation: Evaluation,
-    path: &PathText,
-    arguments: &Arguments,
+    called: (&PathText, &Arguments),
     text: Vec<u8>,
+    told: &mut Vec<u8>,
 ) -> Result<Answer, Refusal>
-    ensures { Answers result (eval_answer mode evaluation path.now arguments.now text.items) }
+    ensures answer { Answers result (eval_answer mode evaluation called.entry.0.now
+        called.entry.1.now text.items) }
+    ensures told { NotMemory result → told.new.items ≡ told.old.items ++
+        passed_lines (run_passed mode evaluation text.items) }
 {
-    let mut machine = machine_of_text_in(alloc, mode, evaluation, text)?;
+    let mut machine = machine_of_text_in(alloc, mode, evaluation, text, told)?;
+    let (path, arguments) = called;
     let value = evaluated_text(alloc, &mut machine, path.as_str(), arguments.as_slice());
     // (by a call: what a scope drops at its end is dropped part by part, and long to prove)
     drop(machine);

@@ -10,8 +10,8 @@ ghost use Rattle.acpiroute_lib.specs.Causes.{TellsCause};
 ghost use Rattle.acpiroute_lib.specs.RouteCommand.{IsRouteAnswer};
 ghost use Rattle.acpiroute_lib.specs.Runs.{Ran};
 
+use crate::machine::Registers;
 use acpi_configure::laws::a_machine_has_one_report_with_options;
-use ar_space::Sparse;
 
 /// `route` has one answer over a machine text: one report, and so one text, or one refusal. Where links are to share
 /// interrupts as little as they can, it isn't said which of several such assignments the report has.
@@ -20,7 +20,7 @@ pub fn route_has_one_answer()
         (one other : Outcome Written) → options.spread ≡ false → IsRouteAnswer mode evaluation options text one →
         IsRouteAnswer mode evaluation options text other → one ≡ other }
 {
-    a_machine_has_one_report_with_options::<Sparse>();
+    a_machine_has_one_report_with_options::<Registers>();
 }
 
 /// A run whose status is 1 tells a refusal by its line on the errors: `refused 142` where a write to the output

@@ -5,7 +5,6 @@
 mod commands;
 mod ended;
 mod eval_command;
-mod explaining;
 pub mod laws;
 mod link_texts;
 mod machine;
@@ -18,7 +17,6 @@ mod refused_stage;
 mod route_command;
 mod run_end;
 mod shown;
-mod trace_lines;
 mod value_text;
 mod why_command;
 

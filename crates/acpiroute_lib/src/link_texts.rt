@@ -3,9 +3,9 @@ ghost use Rattle.std.specs.Prelude.{◌≡◌, ◌++◌, IfOk, OnOk, codes, deci
 ghost use Rattle.route_report.specs.Lines.{spaced};
 ghost use Rattle.route_report.specs.Printing.{number_words, now_words};
 ghost use Rattle.route_report.specs.Reports.{Now};
-ghost use Rattle.acpiroute_lib.specs.Explaining.{link_words, refused_setting, set_text, set_texts, is_given};
-ghost use Rattle.acpiroute_lib.specs.Explaining.{other_text, unread_text, after_text, after_texts};
-ghost use Rattle.acpiroute_lib.specs.Explaining.{link_texts, done_text};
+ghost use Rattle.acpiroute_lib.specs.LinkTexts.{link_words, refused_setting, set_text, set_texts, is_given};
+ghost use Rattle.acpiroute_lib.specs.LinkTexts.{other_text, unread_text, after_text, after_texts};
+ghost use Rattle.acpiroute_lib.specs.LinkTexts.{link_texts, done_text};
 
 use acpiroute_words::{put_number, put_path};
 use aml_path::Path;

@@ -1,16 +1,25 @@
 //! The machine that a machine text describes.
-ghost use Rattle.std.specs.Prelude.{◌≡◌, IfOk, map};
-ghost use Rattle.ar_space.specs.Outcome.{Answers};
+ghost use Rattle.std.specs.Prelude.{◌≡◌, ◌++◌, IfOk, OnOk, OnErr, map};
+ghost use Rattle.ar_space.specs.Change.{Does};
+ghost use Rattle.ar_space.specs.Outcome.{Answers, NotMemory};
 ghost use Rattle.machine_text.specs.MachineText.{machine_text};
-ghost use Rattle.acpiroute_lib.specs.Machines.{machine_with, machine_of_text, initialized_machine, machine_of_text_in};
+ghost use Rattle.acpi_machine.specs.Calls.{initialized};
+ghost use Rattle.acpiroute_words.specs.PassedLines.{passed_lines};
+ghost use Rattle.acpiroute_lib.specs.Passed.{tables_passed, loading_passed, run_passed};
+ghost use Rattle.acpiroute_lib.specs.Machines.{register_accesses, registers_of, machine_with, machine_of_text};
+ghost use Rattle.acpiroute_lib.specs.Machines.{initialized_machine, machine_of_text_in};
 
-use acpi_machine::{Machine, Mode, load_tables_as};
-use acpiroute_words::Evaluation;
+use acpi_machine::{Machine, Mode, load_tables_traced};
+use acpiroute_words::{Evaluation, put_passed_lines};
 use aml_objects::Octets;
 use ar_space::{Refusal, Sparse};
 use ar_tables::{Tables, find_tables};
 use machine_text::{MachineText, read_machine};
 use std::alloc::{AllocError, Global};
+use watched_space::Metered;
+
+/// The register space of a run: the bytes of a machine text, to which accesses may be bounded.
+pub(crate) type Registers = Metered<Sparse>;
 
 /// Texts that `_OSI` is to know.
 pub(crate) fn octets(alloc: Global, texts: Vec<Vec<u8>>) -> Result<Vec<Octets>, AllocError>
@@ -23,18 +32,29 @@ pub(crate) fn octets(alloc: Global, texts: Vec<Vec<u8>>) -> Result<Vec<Octets>, 
     Ok(list)
 }
 
+/// The register space of a run that is evaluated like this.
+pub(crate) fn registers_of(evaluation: Evaluation, space: Sparse) -> Registers
+    ensures { result ≡ registers_of evaluation space }
+{
+    Metered::new(space, evaluation.accesses)
+}
+
 /// A machine of these tables over a register space.
 #[tactic(auto, unfolding(crate::specs::Machines::machine_with))]
 fn machine_with(
     alloc: Global,
     evaluation: Evaluation,
     tables: Tables,
-    space: Sparse,
+    space: Registers,
     osi: Vec<Octets>,
-) -> Result<Machine<Sparse>, Refusal>
-    ensures { Answers result (machine_with evaluation tables space osi.items) }
+    told: &mut Vec<u8>,
+) -> Result<Machine<Registers>, Refusal>
+    ensures answer { Answers result (machine_with evaluation tables space osi.items) }
+    ensures ready { OnOk result (told.new.items ≡ told.old.items) }
+    ensures told { OnErr result (NotMemory result → told.new.items ≡ told.old.items ++
+        passed_lines (tables_passed evaluation tables space osi.items)) }
 {
-    match load_tables_as(
+    match load_tables_traced(
         alloc,
         evaluation.profile,
         tables,
@@ -43,7 +63,12 @@ fn machine_with(
         osi,
     ) {
         Ok(machine) => Ok(machine),
-        Err((refusal, _)) => Err(refusal),
+        Err((refusal, space, trace, passed)) => {
+            drop(space);
+            drop(trace);
+            put_passed_lines(alloc, told, &passed)?;
+            Err(refusal)
+        }
     }
 }
 
@@ -55,31 +80,55 @@ fn machine_said(alloc: Global, text: Vec<u8>) -> Result<MachineText, Refusal>
 }
 
 /// The machine of a machine text, with its tables loaded, and evaluated like this. The text's own refusal comes first,
-/// then that of the tables, then that of loading them.
-#[tactic(auto, using(ar_space::specs::Outcome::answering), unfolding(crate::specs::Machines::machine_of_text))]
+/// then that of the tables, then that of loading them, which tells what was passed over before.
+#[tactic(auto, using(ar_space::proofs::Outcomes::answering), unfolding(crate::specs::Machines::machine_of_text))]
 pub(crate) fn machine_of_text(
     alloc: Global,
     evaluation: Evaluation,
     text: Vec<u8>,
-) -> Result<Machine<Sparse>, Refusal>
-    ensures { Answers result (machine_of_text evaluation text.items) }
+    told: &mut Vec<u8>,
+) -> Result<Machine<Registers>, Refusal>
+    ensures answer { Answers result (machine_of_text evaluation text.items) }
+    ensures ready { OnOk result (told.new.items ≡ told.old.items) }
+    ensures told { OnErr result (NotMemory result → told.new.items ≡ told.old.items ++
+        passed_lines (loading_passed evaluation text.items)) }
 {
     let said = machine_said(alloc, text)?;
     let tables = find_tables(alloc, said.space.memory(), said.rsdp)?;
     let osi = octets(alloc, said.osi.into_vec())?;
-    machine_with(alloc, evaluation, tables, said.space, osi)
+    let space = registers_of(evaluation, said.space);
+    machine_with(alloc, evaluation, tables, space, osi, told)
+}
+
+/// Initializes a machine, and tells what was passed over.
+fn initialize(
+    alloc: Global,
+    mode: Mode,
+    machine: &mut Machine<Registers>,
+    told: &mut Vec<u8>,
+) -> Result<(), Refusal>
+    ensures done { Does result machine.new (initialized register_accesses mode) machine.old }
+    ensures told { NotMemory result → told.new.items ≡ told.old.items ++
+        passed_lines (initialized register_accesses mode machine.old).1.world.passed }
+{
+    let outcome = machine.initialize(alloc, mode);
+    put_passed_lines(alloc, told, machine.passed_over())?;
+    outcome
 }
 
 #[tactic(auto, using(crate::proofs::Machines::initializing))]
 fn initialized_machine(
     alloc: Global,
     mode: Mode,
-    machine: Machine<Sparse>,
-) -> Result<Machine<Sparse>, Refusal>
-    ensures { Answers result (initialized_machine mode machine) }
+    machine: Machine<Registers>,
+    told: &mut Vec<u8>,
+) -> Result<Machine<Registers>, Refusal>
+    ensures answer { Answers result (initialized_machine mode machine) }
+    ensures told { NotMemory result → told.new.items ≡ told.old.items ++
+        passed_lines (initialized register_accesses mode machine).1.world.passed }
 {
     let mut machine = machine;
-    match machine.initialize(alloc, mode) {
+    match initialize(alloc, mode, &mut machine, told) {
         Ok(()) => Ok(machine),
         Err(refusal) => {
             // (by a call: what a scope drops at its end is dropped part by part, and long to prove)
@@ -90,16 +139,19 @@ fn initialized_machine(
 }
 
 /// The machine of a machine text, initialized in a mode. A refusal of initializing comes after those of
-/// `machine_of_text`.
-#[tactic(auto, using(ar_space::specs::Outcome::answering), unfolding(crate::specs::Machines::machine_of_text_in))]
+/// `machine_of_text`. What was passed over is told.
+#[tactic(auto, using(ar_space::proofs::Outcomes::answering), unfolding(crate::specs::Machines::machine_of_text_in))]
 pub(crate) fn machine_of_text_in(
     alloc: Global,
     mode: Mode,
     evaluation: Evaluation,
     text: Vec<u8>,
-) -> Result<Machine<Sparse>, Refusal>
-    ensures { Answers result (machine_of_text_in mode evaluation text.items) }
+    told: &mut Vec<u8>,
+) -> Result<Machine<Registers>, Refusal>
+    ensures answer { Answers result (machine_of_text_in mode evaluation text.items) }
+    ensures told { NotMemory result → told.new.items ≡ told.old.items ++
+        passed_lines (run_passed mode evaluation text.items) }
 {
-    let machine = machine_of_text(alloc, evaluation, text)?;
-    initialized_machine(alloc, mode, machine)
+    let machine = machine_of_text(alloc, evaluation, text, told)?;
+    initialized_machine(alloc, mode, machine, told)
 }

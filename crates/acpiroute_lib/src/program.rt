@@ -30,8 +30,9 @@ fn serve<R: Source, W: Sink, E: Sink>(
 {
     match read_input(alloc, reader) {
         Ok(input) => {
-            let outcome = answer_to(alloc, request, input);
-            deliver_outcome(alloc, outcome, writer, errors)
+            let mut told = Vec::new(alloc);
+            let outcome = answer_to(alloc, request, input, &mut told);
+            deliver_outcome(alloc, told.as_slice(), outcome, writer, errors)
         }
         Err(stop) => deliver(b"", stop.line(), 1, writer, errors),
     }
@@ -98,21 +99,21 @@ fn decline<W: Sink, E: Sink>(writer: &mut W, errors: &mut E) -> u8
 /// The commands:
 ///
 /// - `check`: reads a report, and writes `yes`, or `no` and the number of its flaw.
-/// - `eval [--mode apic|pic] [--steps N] [--profile core|wide] PATH [ARGUMENT..]`: reads a machine text, loads its
-/// tables, initializes the machine in the mode, by default `apic`, evaluates the object at the path with these
-/// arguments, at most seven, each an integer below 2^64 in decimal digits, `s:` and the bytes of a string, or `b:`
-/// and those of a buffer in hexadecimal digits, and writes its value with a line feed: `integer N` in decimal digits;
-/// `string H` and `buffer H`, the bytes in upper-case hexadecimal digits, `-` where there is none; `package C ( V..
-/// )`, the count of its elements and the elements, each behind a blank; `name P`, the path of what holds no data;
+/// - `eval [--mode apic|pic] [--steps N] [--profile core|wide] [--accesses M] PATH [ARGUMENT..]`: reads a machine text,
+/// loads its tables, initializes the machine in the mode, by default `apic`, evaluates the object at the path with
+/// these arguments, at most seven, each an integer below 2^64 in decimal digits, `s:` and the bytes of a string, or
+/// `b:` and those of a buffer in hexadecimal digits, and writes its value with a line feed: `integer N` in decimal
+/// digits; `string H` and `buffer H`, the bytes in upper-case hexadecimal digits, `-` where there is none; `package C (
+/// V.. )`, the count of its elements and the elements, each behind a blank; `name P`, the path of what holds no data;
 /// `reference`; `none`, no value.
-/// - `names [--steps N] [--profile core|wide]`: reads a machine text, loads its tables, and writes the names of the
-/// namespace, one a line in path order: the path, a blank, and the kind of what stands there, with a method how many
-/// arguments it takes, with an alias its target.
-/// - `route [--dry] [--mode apic|pic] [--steps N] [--profile core|wide] [--avoid LIST]`: reads a machine text, loads
-/// its tables, initializes the machine in the mode, by default `apic`, chooses an interrupt for each link device,
-/// none of those in the list, sets them, and writes the report of this; with `--dry` no link device is set. The list
-/// is 1 to 255 numbers below 2^32 in decimal digits, separated by commas; for any other text, where nothing else is
-/// wrong with the words, the errors get the line `bad --avoid`.
+/// - `names [--steps N] [--profile core|wide] [--accesses M]`: reads a machine text, loads its tables, and writes the
+/// names of the namespace, one a line in path order: the path, a blank, and the kind of what stands there, with a
+/// method how many arguments it takes, with an alias its target.
+/// - `route [--dry] [--mode apic|pic] [--steps N] [--profile core|wide] [--accesses M] [--avoid LIST]`: reads a machine
+/// text, loads its tables, initializes the machine in the mode, by default `apic`, chooses an interrupt for each link
+/// device, none of those in the list, sets them, and writes the report of this; with `--dry` no link device is set. The
+/// list is 1 to 255 numbers below 2^32 in decimal digits, separated by commas; for any other text, where nothing else
+/// is wrong with the words, the errors get the line `bad --avoid`.
 /// - `why [options of route]`: makes the run of `route` over a machine text, and writes what ended it, a line each:
 /// `refused R` with its detail and the name of the refusal; `while` and what was done then; `in`, a control method and
 /// the offset, the opcode and the name of a term that was being evaluated, the outermost first; `name`, the name that
@@ -124,16 +125,21 @@ fn decline<W: Sink, E: Sink>(writer: &mut W, errors: &mut E) -> u8
 /// - `why --registers [options of route]`: makes the run with 0 in place of each byte that the machine text lacks, and
 /// writes the lines of these bytes, and behind them a line that begins with `#` and tells how the run ended.
 ///
-/// N is the budget of steps for each table and each evaluation, a number from 1 to 1,000,000,000 in decimal digits,
-/// by default 1,000,000. The profile says how much of AML is evaluated, by default `core`. Refusals come in this
-/// order: of the machine text, of the tables, of loading, of initializing, of the path's text, of evaluating or
-/// routing.
+/// N is the budget of steps for each table and each evaluation, a number from 1 to 1,000,000,000 in decimal digits, by
+/// default 1,000,000. M is how many accesses of registers the run makes, a number below 2^64 in decimal digits: each
+/// further one is refused as 2, and by default none is. The profile says how much of AML is evaluated, by default
+/// `core`. Refusals come in this order: of the machine text, of the tables, of loading, of initializing, of the path's
+/// text, of evaluating or routing.
 ///
 /// The result is the exit status: 0 where all went well, 1 for a refusal, 2 for a faulty command line, 3 where
 /// setting a link was refused, which the report tells, 4 where `check` says no. A faulty command line is found before
 /// any input is read, and `--help` is written to the output with 0.
 ///
-/// A refusal writes nothing to the output and one line to the errors: `refused R` with its number, and behind it ` at
+/// `route`, `eval` and `names` write a line to the errors for each refusal that loading and initializing passed over, of
+/// which the first 64 are kept: `passed R P`, with what the line of a refusal has behind its number, and the path of the
+/// scope, or of what was called. Where there were more, `passed N more` follows.
+///
+/// A refusal writes nothing to the output and a last line to the errors: `refused R` with its number, and behind it ` at
 /// N`, an offset, for a fault of AML's terms, ` op XXXX` for a term that isn't evaluated, ` tag N` for a descriptor
 /// that isn't taken, ` line N` for a line of a report or of a machine text, ` P` for the path of a link that offers
 /// nothing or whose whole offer is avoided. An input of more than 16,777,216 bytes is refused as 143, any error of

@@ -1,38 +1,60 @@
-//! What was done when a run was refused: it is found by a second run.
+//! What was done when a run was refused: it is found by a second run over the same register space.
+ghost use Rattle.std.specs.Prelude.{◌≡◌, ◌≢◌, false, IfOk, Some, None, Ok, Err};
+ghost use Rattle.acpiroute_lib.specs.Machines.{register_accesses};
+ghost use Rattle.ar_space.specs.declared.refusal.Refusal.{Refusal};
+ghost use Rattle.ar_space.specs.declared.refusal.Refusal.TheVariants.{OutOfMemory};
+ghost use Rattle.ar_tables.specs.FindTables.{tables_of};
+ghost use Rattle.aml_path.specs.Text.{path_of_text};
+ghost use Rattle.acpi_machine.specs.Calls.{initialized};
+ghost use Rattle.acpi_machine.specs.MachineStates.{MachineState};
+ghost use Rattle.acpi_explain.specs.Stages.{IsStage};
+ghost use Rattle.acpi_explain.specs.declared.stage.Stage.{Stage};
+ghost use Rattle.acpi_explain.specs.declared.told.Phase.TheVariants.{Loading, Initializing, Running};
+ghost use Rattle.acpiroute_words.specs.declared.request.Flags.{Flags};
+ghost use Rattle.acpiroute_words.specs.declared.request.Question.TheVariants.{Route};
+ghost use Rattle.watched_space.specs.Watching.{watched};
+ghost use Rattle.acpiroute_lib.specs.WhyCommand.{IsStageFound, first_watch};
+ghost use Rattle.acpiroute_lib.specs.WhyStages.{IsNamedStage, IsCallingStage, IsStageIn};
 
-use crate::machine::{machine_of_text, machine_of_text_in, octets};
+use crate::machine::octets;
+use crate::shown::first_watch;
 use acpi_explain::{Phase, Stage, refused_call, refused_object, refused_table};
-use acpi_machine::Machine;
+use acpi_machine::{Machine, load_tables_as};
 use acpiroute_words::{Asking, Question};
+use aml_objects::Octets;
 use aml_path::Path;
-use ar_space::{Refusal, RoutingFault, Sparse};
+use ar_space::{Refusal, Space};
 use ar_tables::{Tables, find_tables};
 use machine_text::{MachineText, read_machine};
 use std::alloc::{AllocError, Global};
 
-/// The value, if there is one; only want of memory is handed on.
-fn or_memory<A: Drop>(outcome: Result<A, Refusal>) -> Result<Option<A>, AllocError> {
-    match outcome {
-        Ok(value) => Ok(Some(value)),
-        Err(Refusal::OutOfMemory) => Err(AllocError),
-        Err(_) => Ok(None),
+/// No stage where the second run is refused otherwise; only want of memory is handed on.
+fn no_stage(refusal: Refusal) -> Result<Option<Stage>, AllocError>
+    ensures other { IfOk result (λ stage. refusal ≢ OutOfMemory) }
+    ensures none { IfOk result (λ stage. stage ≡ None) }
+{
+    match refusal {
+        Refusal::OutOfMemory => Err(AllocError),
+        _ => Ok(None),
     }
 }
 
-/// Loads tables until one is refused.
-fn table_in(
+/// The table that is refused.
+fn table_stage<S: Space + Drop>(
     alloc: Global,
     asking: &Asking,
     tables: &Tables,
-    said: MachineText,
-) -> Result<Option<Stage>, AllocError> {
-    let osi = octets(alloc, said.osi.into_vec())?;
+    osi: Vec<Octets>,
+    space: S,
+) -> Result<Option<Stage>, AllocError>
+    ensures { IfOk result (IsStageIn S.accesses (Some Loading) asking.now (Ok tables.now) osi.items space) }
+{
     let evaluation = asking.evaluation;
     let found = refused_table(
         alloc,
         evaluation.profile,
         tables,
-        said.space,
+        space,
         evaluation.steps,
         osi,
     )?;
@@ -42,93 +64,196 @@ fn table_in(
     }
 }
 
-fn loading_stage(alloc: Global, asking: &Asking, text: &[u8]) -> Result<Option<Stage>, AllocError> {
-    let Some(said) = or_memory(read_machine(alloc, text))? else {
-        return Ok(None);
-    };
-    match or_memory(find_tables(alloc, said.space.memory(), said.rsdp))? {
-        Some(tables) => table_in(alloc, asking, &tables, said),
-        None => Ok(None),
-    }
-}
-
-fn initializing_stage(
+/// The call of initializing that is refused, of a machine whose tables are loaded.
+fn call_of<S: Space + Drop>(
     alloc: Global,
     asking: &Asking,
-    text: &[u8],
-) -> Result<Option<Stage>, AllocError> {
-    let text = Vec::from_slice(alloc, text)?;
-    let Some(mut machine) = or_memory(machine_of_text(alloc, asking.evaluation, text))? else {
-        return Ok(None);
-    };
+    machine: Machine<S>,
+) -> Result<Option<Stage>, AllocError>
+    ensures { IfOk result (λ stage. (e : Refusal) (after : MachineState S) → machine.spent ≡ false →
+        initialized S.accesses asking.now.mode machine ≡ (Err e, after) →
+        IsCallingStage S.accesses asking.now machine e stage) }
+{
+    let mut machine = machine;
     let found = refused_call(alloc, asking.mode, &mut machine);
     // (by a call: what a scope drops at its end is dropped part by part, and long to prove)
     drop(machine);
-    match found? {
+    let call = found?;
+    match call {
         Some(path) => Ok(Some(Stage::Calling(path))),
         None => Ok(None),
     }
 }
 
-fn ready_machine(
+/// The call of initializing that is refused.
+fn call_stage<S: Space + Drop>(
     alloc: Global,
     asking: &Asking,
-    text: &[u8],
-) -> Result<Option<Machine<Sparse>>, AllocError> {
-    let text = Vec::from_slice(alloc, text)?;
-    or_memory(machine_of_text_in(alloc, asking.mode, asking.evaluation, text))
+    tables: Tables,
+    osi: Vec<Octets>,
+    space: S,
+) -> Result<Option<Stage>, AllocError>
+    ensures { IfOk result (IsStageIn S.accesses (Some Initializing) asking.now (Ok tables) osi.items space) }
+{
+    let evaluation = asking.evaluation;
+    match load_tables_as(
+        alloc,
+        evaluation.profile,
+        tables,
+        space,
+        evaluation.steps,
+        osi,
+    ) {
+        Ok(machine) => call_of(alloc, asking, machine),
+        Err((refusal, space)) => {
+            drop(space);
+            no_stage(refusal)
+        }
+    }
 }
 
-fn routing_stage(
+/// The routing table or the object of a link that is refused, of a machine whose tables are loaded.
+fn object_of<S: Space + Drop>(
     alloc: Global,
     asking: &Asking,
     avoid: &[u32],
-    text: &[u8],
-) -> Result<Option<Stage>, AllocError> {
-    let Some(mut machine) = ready_machine(alloc, asking, text)? else {
-        return Ok(None);
-    };
-    let stage = refused_object(alloc, &mut machine, avoid);
-    // (by a call: what a scope drops at its end is dropped part by part, and long to prove)
-    drop(machine);
-    Ok(Some(stage?))
+    machine: Machine<S>,
+) -> Result<Option<Stage>, AllocError>
+    ensures { IfOk result (λ stage. (ready : MachineState S) →
+        initialized S.accesses asking.now.mode machine ≡ (Ok tt, ready) →
+        (s : Stage) × ((stage ≡ Some s) × IsStage S.accesses avoid.now ready s)) }
+{
+    let mut machine = machine;
+    match machine.initialize(alloc, asking.mode) {
+        Ok(()) => {
+            let found = refused_object(alloc, &mut machine, avoid);
+            // (by a call: what a scope drops at its end is dropped part by part, and long to prove)
+            drop(machine);
+            let stage = found?;
+            Ok(Some(stage))
+        }
+        Err(refusal) => {
+            drop(machine);
+            no_stage(refusal)
+        }
+    }
+}
+
+/// The routing table or the object of a link that is refused, where the machine is to be routed and these interrupts are
+/// avoided.
+fn object_stage<S: Space + Drop>(
+    alloc: Global,
+    asking: &Asking,
+    avoid: &[u32],
+    tables: Tables,
+    osi: Vec<Octets>,
+    space: S,
+) -> Result<Option<Stage>, AllocError>
+    ensures { IfOk result (λ stage. (flags : Flags) →
+        asking.now.question ≡ Route avoid.now flags →
+        IsStageIn S.accesses (Some Running) asking.now (Ok tables) osi.items space stage) }
+{
+    let evaluation = asking.evaluation;
+    match load_tables_as(
+        alloc,
+        evaluation.profile,
+        tables,
+        space,
+        evaluation.steps,
+        osi,
+    ) {
+        Ok(machine) => object_of(alloc, asking, avoid, machine),
+        Err((refusal, space)) => {
+            drop(space);
+            no_stage(refusal)
+        }
+    }
 }
 
 /// The object that is evaluated.
-fn evaluated_stage(alloc: Global, path: &str) -> Result<Option<Stage>, AllocError> {
-    match or_memory(Path::from_text(alloc, path.as_bytes()))? {
-        Some(path) => Ok(Some(Stage::Reading(path))),
-        None => Ok(None),
+fn named_stage(alloc: Global, path: &str) -> Result<Option<Stage>, AllocError>
+    ensures { IfOk result (IsNamedStage (path_of_text path.now)) }
+{
+    match Path::from_text(alloc, path.as_bytes()) {
+        Ok(path) => Ok(Some(Stage::Reading(path))),
+        Err(refusal) => no_stage(refusal),
     }
 }
 
-/// Whether a refusal of routing is one of what was found, and not of one object. A second run would not stop there.
-fn is_of_gathering(refusal: &Refusal) -> bool {
-    match refusal {
-        Refusal::Routing(RoutingFault::NoOffer(_)) => false,
-        Refusal::Routing(_) => true,
-        _ => false,
+/// What was asked of the machine once it was initialized.
+fn asked_stage<S: Space + Drop>(
+    alloc: Global,
+    asking: &Asking,
+    tables: Tables,
+    osi: Vec<Octets>,
+    space: S,
+) -> Result<Option<Stage>, AllocError>
+    ensures { IfOk result (IsStageIn S.accesses (Some Running) asking.now (Ok tables) osi.items space) }
+{
+    match &asking.question {
+        Question::Route { avoid, .. } => {
+            object_stage(alloc, asking, avoid.as_slice(), tables, osi, space)
+        }
+        Question::Eval { path, .. } => named_stage(alloc, path.as_str()),
     }
 }
 
-/// What was done when a run over a machine text was refused that had come so far, by this refusal.
+/// What was done when a run over tables was refused in this phase.
+fn stage_in<S: Space + Drop>(
+    alloc: Global,
+    asking: &Asking,
+    phase: Phase,
+    tables: Tables,
+    osi: Vec<Octets>,
+    space: S,
+) -> Result<Option<Stage>, AllocError>
+    ensures { IfOk result (IsStageIn S.accesses (Some phase) asking.now (Ok tables) osi.items space) }
+{
+    match phase {
+        Phase::Loading => table_stage(alloc, asking, &tables, osi, space),
+        Phase::Initializing => call_stage(alloc, asking, tables, osi, space),
+        Phase::Running => asked_stage(alloc, asking, tables, osi, space),
+    }
+}
+
+/// What was done when the run over what a machine text says was refused in this phase.
+fn stage_said(
+    alloc: Global,
+    asking: &Asking,
+    phase: Phase,
+    said: MachineText,
+) -> Result<Option<Stage>, AllocError>
+    ensures { IfOk result (IsStageIn (watched register_accesses) (Some phase) asking.now
+        (tables_of said.space.memory said.rsdp) said.osi (first_watch asking.now.evaluation said.space)) }
+{
+    let osi = octets(alloc, said.osi.into_vec())?;
+    match find_tables(alloc, said.space.memory(), said.rsdp) {
+        Ok(tables) => stage_in(
+            alloc,
+            asking,
+            phase,
+            tables,
+            osi,
+            first_watch(asking.evaluation, said.space),
+        ),
+        Err(refusal) => no_stage(refusal),
+    }
+}
+
+/// What was done when the run over a machine text was refused in this phase.
 pub(crate) fn stage_when_refused(
     alloc: Global,
     asking: &Asking,
     phase: Option<Phase>,
-    refusal: &Refusal,
     text: &[u8],
-) -> Result<Option<Stage>, AllocError> {
+) -> Result<Option<Stage>, AllocError>
+    ensures { IfOk result (IsStageFound asking.now phase text.now) }
+{
     match phase {
         None => Ok(None),
-        Some(Phase::Loading) => loading_stage(alloc, asking, text),
-        Some(Phase::Initializing) => initializing_stage(alloc, asking, text),
-        Some(Phase::Running) => match &asking.question {
-            Question::Route { .. } if is_of_gathering(refusal) => Ok(Some(Stage::Gathering)),
-            Question::Route { avoid, .. } => {
-                routing_stage(alloc, asking, avoid.as_slice(), text)
-            }
-            Question::Eval { path, .. } => evaluated_stage(alloc, path.as_str()),
+        Some(phase) => match read_machine(alloc, text) {
+            Ok(said) => stage_said(alloc, asking, phase, said),
+            Err(refusal) => no_stage(refusal),
         },
     }
 }

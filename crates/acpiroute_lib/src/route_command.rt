@@ -1,16 +1,18 @@
 //! `route`: loads and initializes a machine, routes its interrupts, sets its links, and writes the report.
-ghost use Rattle.std.specs.Prelude.{◌≡◌, Ok, IfOk};
+ghost use Rattle.std.specs.Prelude.{◌≡◌, ◌++◌, Ok, IfOk};
 ghost use Rattle.std.specs.List.{list_any};
 ghost use Rattle.ar_space.specs.Outcome.{Answers, NotMemory};
 ghost use Rattle.route_report.specs.Readable.{IsReadable, claim_of_report};
 ghost use Rattle.route_report.specs.Reading.{claim_of_text};
+ghost use Rattle.acpiroute_words.specs.PassedLines.{passed_lines};
+ghost use Rattle.acpiroute_lib.specs.Passed.{run_passed};
 ghost use Rattle.acpiroute_lib.specs.RouteCommand.{is_refused, completion_of, printed, IsRouted, IsRouteAnswer};
 
-use crate::machine::machine_of_text_in;
+use crate::machine::{Registers, machine_of_text_in};
 use acpi_configure::{Options, configure_with};
 use acpi_machine::Machine;
 use acpiroute_words::{Answer, Completion, Evaluation};
-use ar_space::{Refusal, Sparse};
+use ar_space::Refusal;
 use route_report::{Mode, Report, SetLine, SetOutcome, print};
 use std::alloc::Global;
 
@@ -57,7 +59,7 @@ pub fn report_answer(alloc: Global, report: &Report) -> Result<Answer, Refusal>
 #[tactic(auto, using(crate::proofs::Routes::routing))]
 fn routed(
     alloc: Global,
-    machine: &mut Machine<Sparse>,
+    machine: &mut Machine<Registers>,
     options: &Options<'_>,
 ) -> Result<Answer, Refusal>
     ensures { NotMemory result → IsRouted options.now machine.old result }
@@ -75,10 +77,13 @@ pub(crate) fn route_answer(
     evaluation: Evaluation,
     options: &Options<'_>,
     text: Vec<u8>,
+    told: &mut Vec<u8>,
 ) -> Result<Answer, Refusal>
-    ensures { NotMemory result → IsRouteAnswer mode evaluation options.now text.items result }
+    ensures answer { NotMemory result → IsRouteAnswer mode evaluation options.now text.items result }
+    ensures told { NotMemory result → told.new.items ≡ told.old.items ++
+        passed_lines (run_passed mode evaluation text.items) }
 {
-    let mut machine = machine_of_text_in(alloc, mode, evaluation, text)?;
+    let mut machine = machine_of_text_in(alloc, mode, evaluation, text, told)?;
     let report = routed(alloc, &mut machine, options);
     // (by a call: what a scope drops at its end is dropped part by part, and long to prove)
     drop(machine);

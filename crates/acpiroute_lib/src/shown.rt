@@ -2,22 +2,22 @@
 ghost use Rattle.std.specs.Prelude.{◌≡◌, IfOk, IfErr, Ok};
 ghost use Rattle.ar_space.specs.declared.refusal.Refusal.TheVariants.{OutOfMemory};
 ghost use Rattle.ar_tables.specs.FindTables.{tables_of};
-ghost use Rattle.acpiroute_lib.specs.WhyCommand.{IsWatchedMachine, IsWatched};
+ghost use Rattle.acpiroute_lib.specs.WhyCommand.{first_watch, IsWatchedMachine, IsWatched};
 ghost use Rattle.acpiroute_lib.specs.WhyCommand.{IsFilledMachine, IsFilledFrom, IsFilled};
 
 use crate::ended::machine_end;
-use crate::machine::octets;
+use crate::machine::{Registers, octets, registers_of};
 use crate::run_end::RunEnd;
 use acpi_explain::Phase;
 use acpi_machine::{Machine, load_tables_as, load_tables_traced};
-use acpiroute_words::Asking;
+use acpiroute_words::{Asking, Evaluation};
 use aml_meaning::Trace;
 use aml_objects::Octets;
 use ar_space::{Place, Refusal, Sparse};
 use ar_tables::{Tables, find_tables};
 use machine_text::MachineText;
 use std::alloc::{AllocError, Global};
-use watched_space::{Accessed, LastAccess, MissingBytes, ZeroFilled};
+use watched_space::{Accessed, LastAccess, Metered, MissingBytes, ZeroFilled};
 
 /// How a run ended, its last access, and where it was refused.
 pub(crate) type Watched = (RunEnd, Option<Accessed>, Trace);
@@ -25,12 +25,35 @@ pub(crate) type Watched = (RunEnd, Option<Accessed>, Trace);
 /// How a run ended with 0 in place of each missing byte, and the places of these.
 pub(crate) type Filled = (RunEnd, Vec<Place>);
 
-fn watched_machine(alloc: Global, asking: &Asking, machine: Machine<LastAccess<Sparse>>) -> Watched
+/// The registers of a run that is evaluated like this, to which no access is made yet.
+pub(crate) fn first_watch(evaluation: Evaluation, space: Sparse) -> LastAccess<Registers>
+    ensures { result ≡ first_watch evaluation space }
+{
+    LastAccess::new(registers_of(evaluation, space))
+}
+
+/// The bytes of a machine text, of which these are known to be missing.
+fn first_filled(
+    evaluation: Evaluation,
+    space: Sparse,
+    missing: MissingBytes,
+) -> Metered<ZeroFilled<Sparse>>
+    ensures { result ≡ record { inner = record { inner = space; missing = missing }; left = evaluation.accesses } }
+{
+    Metered::new(ZeroFilled::new(space, missing), evaluation.accesses)
+}
+
+fn watched_machine(
+    alloc: Global,
+    asking: &Asking,
+    machine: Machine<LastAccess<Registers>>,
+) -> Watched
     ensures { IsWatchedMachine asking.now machine result.0 result.1 }
 {
     let mut machine = machine;
     let end = machine_end(alloc, asking, &mut machine);
-    let (space, trace) = machine.into_parts();
+    let (space, trace, passed) = machine.into_parts();
+    drop(passed);
     let last = space.last();
     // (by a call: what a scope drops at its end is dropped part by part, and long to prove)
     drop(space);
@@ -51,16 +74,19 @@ fn watched_tables(
         alloc,
         evaluation.profile,
         tables,
-        LastAccess::new(space),
+        first_watch(evaluation, space),
         evaluation.steps,
         osi,
     ) {
         Ok(machine) => watched_machine(alloc, asking, machine),
-        Err((refusal, space, trace)) => (
-            RunEnd::Refused(Some(Phase::Loading), refusal),
-            space.last(),
-            trace,
-        ),
+        Err((refusal, space, trace, passed)) => {
+            drop(passed);
+            (
+                RunEnd::Refused(Some(Phase::Loading), refusal),
+                space.last(),
+                trace,
+            )
+        }
     }
 }
 
@@ -83,14 +109,14 @@ pub(crate) fn watched_run(
 fn filled_machine(
     alloc: Global,
     asking: &Asking,
-    machine: Machine<ZeroFilled<Sparse>>,
+    machine: Machine<Metered<ZeroFilled<Sparse>>>,
 ) -> Result<Filled, Refusal>
     ensures memory { IfErr result (λ refusal. refusal ≡ OutOfMemory) }
     ensures run { IfOk result (λ f. IsFilledMachine asking.now machine f.0 f.1.items) }
 {
     let mut machine = machine;
     let end = machine_end(alloc, asking, &mut machine);
-    let places = machine.space().missing().places(alloc);
+    let places = machine.space().inner().missing().places(alloc);
     // (by a call: what a scope drops at its end is dropped part by part, and long to prove)
     drop(machine);
     Ok((end, places?))
@@ -101,7 +127,7 @@ fn filled_tables(
     asking: &Asking,
     tables: Tables,
     osi: Vec<Octets>,
-    space: ZeroFilled<Sparse>,
+    space: Metered<ZeroFilled<Sparse>>,
 ) -> Result<Filled, Refusal>
     ensures memory { IfErr result (λ refusal. refusal ≡ OutOfMemory) }
     ensures run { IfOk result (λ f. IsFilledFrom asking.now (Ok tables) osi.items space f.0 f.1.items) }
@@ -117,7 +143,7 @@ fn filled_tables(
     ) {
         Ok(machine) => filled_machine(alloc, asking, machine),
         Err((refusal, space)) => {
-            let places = space.missing().places(alloc)?;
+            let places = space.inner().missing().places(alloc)?;
             Ok((RunEnd::Refused(Some(Phase::Loading), refusal), places))
         }
     }
@@ -137,7 +163,7 @@ pub(crate) fn filled_run(
     let missing = MissingBytes::new(alloc)?;
     match find_tables(alloc, said.space.memory(), said.rsdp) {
         Ok(tables) => {
-            let space = ZeroFilled::new(said.space, missing);
+            let space = first_filled(asking.evaluation, said.space, missing);
             filled_tables(alloc, asking, tables, osi, space)
         }
         Err(refusal) => Ok((RunEnd::Refused(None, refusal), Vec::new(alloc))),

@@ -1,20 +1,19 @@
 //! `why`: makes the run of `route` or `eval`, and tells what ended it.
-ghost use Rattle.std.specs.Prelude.{◌≡◌, ◌++◌, IfOk, IfErr, OnOk, codes};
+ghost use Rattle.std.specs.Prelude.{◌≡◌, ◌++◌, IfOk, IfErr, OnOk, Ok, codes};
 ghost use Rattle.ar_space.specs.Outcome.{NotMemory};
 ghost use Rattle.ar_space.specs.declared.refusal.Refusal.TheVariants.{OutOfMemory};
-ghost use Rattle.acpi_explain.specs.Told.{shown_access};
+ghost use Rattle.machine_text.specs.MachineText.{machine_text};
 ghost use Rattle.acpiroute_words.specs.ErrorLines.{error_line};
-ghost use Rattle.acpiroute_lib.specs.WhyCommand.{told, IsRefusalTold, IsExplained, IsListed, IsWhy, IsRegisters};
+ghost use Rattle.acpiroute_lib.specs.WhyCommand.{told, IsStageFound, IsExplained, IsListed};
+ghost use Rattle.acpiroute_lib.specs.WhyCommand.{IsWhy, IsRegisters};
 ghost use Rattle.acpiroute_lib.specs.WhyCommand.{IsWhyAnswer, IsRegistersAnswer};
 
-use crate::explaining::refused_text;
 use crate::link_texts::done_text;
 use crate::place_words::missing_lines;
 use crate::refused_stage::stage_when_refused;
 use crate::run_end::RunEnd;
 use crate::shown::{filled_run, watched_run};
-use crate::trace_lines::{TraceText, trace_text};
-use acpi_explain::{Stage, help_for, shown_access};
+use acpi_explain::Explanation;
 use acpiroute_words::{Answer, Asking, Completion, write_error_line};
 use aml_meaning::Trace;
 use ar_space::{Place, Refusal};
@@ -31,22 +30,8 @@ fn told(text: Vec<u8>) -> Answer
     }
 }
 
-/// The refusal of a run, in its lines.
-fn refusal_answer(
-    alloc: Global,
-    refusal: &Refusal,
-    stage: &Option<Stage>,
-    last: Option<Accessed>,
-    traced: &TraceText,
-) -> Result<Answer, AllocError>
-    ensures { IfOk result (IsRefusalTold refusal.now (shown_access refusal.now last)) }
-{
-    let help = help_for(refusal.number());
-    let access = shown_access(refusal, last);
-    Ok(told(refused_text(alloc, refusal, &help, stage, traced, access)?))
-}
-
 /// The lines of how a run over a machine text ended. Want of memory is told in none.
+#[tactic(auto, using(crate::proofs::Telling::telling))]
 fn explained(
     alloc: Global,
     asking: &Asking,
@@ -56,14 +41,15 @@ fn explained(
     text: &[u8],
 ) -> Result<Answer, Refusal>
     ensures memory { IfErr result (λ refusal. refusal ≡ OutOfMemory) }
-    ensures lines { IfOk result (IsExplained end last) }
+    ensures lines { IfOk result (IsExplained asking.now.evaluation.steps
+        (λ phase e. IsStageFound asking.now phase text.now) end last) }
 {
     match end {
         RunEnd::Refused(_, Refusal::OutOfMemory) => Err(Refusal::OutOfMemory),
         RunEnd::Refused(phase, refusal) => {
-            let stage = stage_when_refused(alloc, asking, phase, &refusal, text)?;
-            let traced = trace_text(alloc, trace, &stage, asking.evaluation.steps)?;
-            Ok(refusal_answer(alloc, &refusal, &stage, last, &traced)?)
+            let stage = stage_when_refused(alloc, asking, phase, text)?;
+            let why = Explanation::new(alloc, refusal, stage, last, trace, asking.evaluation)?;
+            Ok(told(why.text))
         }
         RunEnd::Done(report) => Ok(told(done_text(alloc, &report)?)),
     }
@@ -73,7 +59,7 @@ fn explained(
 #[tactic(auto, using(crate::proofs::Telling::telling))]
 fn why(alloc: Global, asking: &Asking, said: MachineText, text: &[u8]) -> Result<Answer, Refusal>
     ensures memory { IfErr result (λ refusal. refusal ≡ OutOfMemory) }
-    ensures lines { IfOk result (IsWhy asking.now said) }
+    ensures lines { IfOk result (λ w. machine_text text.now ≡ Ok said → IsWhy asking.now said w) }
 {
     let (end, last, trace) = watched_run(alloc, asking, said)?;
     let answer = explained(alloc, asking, end, last, &trace, text);

@@ -3,12 +3,11 @@ use Rattle.std.proofs.Common.{◌≡◌, ℕ, true, List, [], refl, subst, inl, 
 use Rattle.std.specs.Prelude.{codes, Ok, Err}
 use Rattle.std.specs.Fmt.{digits}
 use Rattle.acpiroute_words.specs.Held.{Held, Takes}
-use Rattle.acpiroute_words.specs.Deliveries.{Reply, Delivered, Told}
+use Rattle.acpiroute_words.specs.Deliveries.{Reply, refusal_told, Delivered, Told}
 use Rattle.ar_space.specs.Outcome.{Outcome}
 use Rattle.ar_space.specs.declared.refusal.Refusal.{Refusal}
 use Rattle.ar_space.specs.declared.refusal.Refusal.TheVariants.{OutOfMemory}
 use Rattle.acpiroute_words.specs.Written.{Written, status_of}
-use Rattle.acpiroute_words.specs.ErrorLines.{error_line}
 
 -- a write to the output failed
 pub not_all : (r : Reply) (output output2 errors errors2 : Held) → output2.has_failed ≡ true → Takes output output2 r.text → Takes errors errors2 (codes "refused 142\n")
@@ -17,24 +16,24 @@ unfolding digits
 not_all r output output2 errors errors2 failed text line = record { text = text; line = rw failed line; status_is = rw failed refl }
 
 -- an answer
-pub told_answer : (outcome : Outcome Written) (answer : Written) (text : List ℕ) (own status : ℕ) (output output2 errors errors2 : Held) → outcome ≡ Ok answer → text ≡ answer.text → own ≡ status_of answer.completion
-    → Delivered (record { text = text; line = []; status = own }) status output output2 errors errors2 → Told outcome status output output2 errors errors2
-told_answer outcome answer text own status output output2 errors errors2 is same same_status d =
+pub told_answer : (passed : List ℕ) (outcome : Outcome Written) (answer : Written) (text : List ℕ) (own status : ℕ) (output output2 errors errors2 : Held) → outcome ≡ Ok answer → text ≡ answer.text → own ≡ status_of answer.completion
+    → Delivered (record { text = text; line = passed; status = own }) status output output2 errors errors2 → Told passed outcome status output output2 errors errors2
+told_answer passed outcome answer text own status output output2 errors errors2 is same same_status d =
     record {
       told = Ok answer;
       is_told = rw is refl;
-      delivered = subst (λ n. Delivered (record { text = answer.text; line = []; status = n }) status output output2 errors errors2) same_status
-          (subst (λ x. Delivered (record { text = x; line = []; status = own }) status output output2 errors errors2) same d);
+      delivered = subst (λ n. Delivered (record { text = answer.text; line = passed; status = n }) status output output2 errors errors2) same_status
+          (subst (λ x. Delivered (record { text = x; line = passed; status = own }) status output output2 errors errors2) same d);
     }
 
--- a refusal, with its line
-pub told_refusal : (outcome : Outcome Written) (r : Refusal) (line : List ℕ) (status : ℕ) (output output2 errors errors2 : Held) → outcome ≡ Err r → line ≡ error_line r
-    → Delivered (record { text = []; line = line; status = 1 }) status output output2 errors errors2 → Told outcome status output output2 errors errors2
-told_refusal outcome r line status output output2 errors errors2 is same d =
+-- a refusal, with its line behind what was passed over
+pub told_refusal : (passed : List ℕ) (outcome : Outcome Written) (r : Refusal) (line : List ℕ) (status : ℕ) (output output2 errors errors2 : Held) → outcome ≡ Err r → line ≡ refusal_told passed r
+    → Delivered (record { text = []; line = line; status = 1 }) status output output2 errors errors2 → Told passed outcome status output output2 errors errors2
+told_refusal passed outcome r line status output output2 errors errors2 is same d =
     record { told = Err r; is_told = rw is (inl refl); delivered = subst (λ x. Delivered (record { text = []; line = x; status = 1 }) status output output2 errors errors2) same d }
 
 -- no memory for its line
-pub told_memory : (outcome : Outcome Written) (r : Refusal) (status : ℕ) (output output2 errors errors2 : Held) → outcome ≡ Err r
-    → Delivered (record { text = []; line = codes "refused 99\n"; status = 1 }) status output output2 errors errors2 → Told outcome status output output2 errors errors2
+pub told_memory : (passed : List ℕ) (outcome : Outcome Written) (r : Refusal) (status : ℕ) (output output2 errors errors2 : Held) → outcome ≡ Err r
+    → Delivered (record { text = []; line = codes "refused 99\n"; status = 1 }) status output output2 errors errors2 → Told passed outcome status output output2 errors errors2
 unfolding digits
-told_memory outcome r status output output2 errors errors2 is d = record { told = Err OutOfMemory; is_told = rw is (inr refl); delivered = d }
+told_memory passed outcome r status output output2 errors errors2 is d = record { told = Err OutOfMemory; is_told = rw is (inr refl); delivered = d }

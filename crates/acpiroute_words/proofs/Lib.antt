@@ -9,4 +9,5 @@ pub mod Getters
 pub mod Inputs
 pub mod Numbers
 pub mod Outputs
+pub mod PassedPut
 pub mod Stops

@@ -7,7 +7,7 @@ use Rattle.clap.specs.declared.builder.action.ArgAction.TheVariants.{SetTrue}
 use Rattle.clap.specs.declared.error.kind.ErrorKind.TheVariants as kind
 use Rattle.ar_tables.specs.declared.mode.Mode.{Mode}
 use Rattle.aml_meaning.specs.declared.profile.Profile.{Profile}
-use Rattle.acpiroute_words.specs.Values.{◌>>=◌, interrupts_named, mode_named, profile_named, arguments_named, steps_named, is_true}
+use Rattle.acpiroute_words.specs.Values.{◌>>=◌, interrupts_named, mode_named, profile_named, arguments_named, steps_named, accesses_named, is_true}
 use Rattle.acpiroute_words.specs.declared.arguments.Argument.{Argument}
 use Rattle.acpiroute_words.specs.declared.request.Request.TheVariants as request
 use Rattle.acpiroute_words.specs.declared.request.Question.TheVariants as question
@@ -36,6 +36,9 @@ steps_rule = value_rule (codes "steps")
 abbrev pub profile_rule : Rule
 profile_rule = value_rule (codes "profile")
 
+abbrev pub accesses_rule : Rule
+accesses_rule = value_rule (codes "accesses")
+
 abbrev pub dry_rule : Rule
 dry_rule = flag_rule (codes "dry")
 
@@ -55,11 +58,15 @@ kernel_rule = flag_rule (codes "kernel")
 abbrev pub first_route_app : App
 first_route_app = with_rule (with_rule (with_rule (with_rule (new_app (codes "route")) mode_rule) steps_rule) dry_rule) avoid_rule
 
+-- `route`, without the options that say how much of AML is evaluated and how many accesses are made
+abbrev pub second_route_app : App
+second_route_app = with_rule (with_rule (with_rule first_route_app spare_rule) spread_rule) kernel_rule
+
 abbrev pub route_app : App
-route_app = with_rule (with_rule (with_rule (with_rule first_route_app spare_rule) spread_rule) kernel_rule) profile_rule
+route_app = with_rule (with_rule second_route_app profile_rule) accesses_rule
 
 abbrev pub names_app : App
-names_app = with_rule (with_rule (new_app (codes "names")) steps_rule) profile_rule
+names_app = with_rule (with_rule (with_rule (new_app (codes "names")) steps_rule) profile_rule) accesses_rule
 
 -- a path, and then at most seven arguments
 abbrev pub path_rule : Rule
@@ -70,7 +77,7 @@ arguments_rule = record (new_rule (codes "arguments")) { value_names = 1; range 
 
 -- `eval`, without its path and its arguments
 abbrev pub first_eval_app : App
-first_eval_app = with_rule (with_rule (with_rule (new_app (codes "eval")) mode_rule) steps_rule) profile_rule
+first_eval_app = with_rule (with_rule (with_rule (with_rule (new_app (codes "eval")) mode_rule) steps_rule) profile_rule) accesses_rule
 
 abbrev pub eval_app : App
 eval_app = with_rule (with_rule first_eval_app path_rule) arguments_rule
@@ -93,10 +100,13 @@ abbrev pub first_why_app : App
 first_why_app = with_rule (with_rule (with_rule (with_rule (new_app (codes "why")) mode_rule) steps_rule) dry_rule) avoid_rule
 
 abbrev pub second_why_app : App
-second_why_app = with_rule (with_rule (with_rule (with_rule first_why_app spare_rule) spread_rule) kernel_rule) profile_rule
+second_why_app = with_rule (with_rule (with_rule first_why_app spare_rule) spread_rule) kernel_rule
+
+abbrev pub third_why_app : App
+third_why_app = with_rule (with_rule second_why_app profile_rule) accesses_rule
 
 abbrev pub why_app : App
-why_app = with_rule (with_rule (with_rule (with_rule second_why_app registers_rule) question_rule) question_path_rule) arguments_rule
+why_app = with_rule (with_rule (with_rule (with_rule third_why_app registers_rule) question_rule) question_path_rule) arguments_rule
 
 -- `acpiroute`, which wants a command, and has a version
 abbrev pub bare_app : App
@@ -116,15 +126,19 @@ steps_of rows = steps_named (first_of (codes "steps") rows)
 abbrev pub profile_of : List Row → Option Profile
 profile_of rows = profile_named (first_of (codes "profile") rows)
 
-unfoldable pub evaluation_by : Option Profile → Option ℕ → Option Evaluation
-evaluation_by maybe_profile maybe_steps = do
+abbrev pub accesses_of : List Row → Option (Option ℕ)
+accesses_of rows = accesses_named (first_of (codes "accesses") rows)
+
+unfoldable pub evaluation_by : Option Profile → Option ℕ → Option (Option ℕ) → Option Evaluation
+evaluation_by maybe_profile maybe_steps maybe_accesses = do
   profile ← maybe_profile
   steps ← maybe_steps
-  Some (record { profile = profile; steps = steps })
+  accesses ← maybe_accesses
+  Some (record { profile = profile; steps = steps; accesses = accesses })
 
 -- how AML is evaluated
 abbrev pub evaluation_of : List Row → Option Evaluation
-evaluation_of rows = evaluation_by (profile_of rows) (steps_of rows)
+evaluation_of rows = evaluation_by (profile_of rows) (steps_of rows) (accesses_of rows)
 
 abbrev pub path_of : List Row → Option Text
 path_of rows = first_of (codes "path") rows

@@ -9,3 +9,4 @@ pub mod Input
 pub mod Written
 pub mod CheckCommand
 pub mod Deliveries
+pub mod PassedLines

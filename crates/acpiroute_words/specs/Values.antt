@@ -49,6 +49,11 @@ steps_named (Some t) = do
   n ← number t
   within_steps n
 
+-- a bound of accesses, and none where none is given
+abbrev pub accesses_named : Option Text → Option (Option ℕ)
+accesses_named None = Some None
+accesses_named (Some t) = option_map Some (number t)
+
 -- the bytes of pairs of hexadecimal digits
 abbrev pub decoded : {E : Type 0} → Result (List ℕ) E → Option (List ℕ)
 decoded (Ok bytes) = Some bytes

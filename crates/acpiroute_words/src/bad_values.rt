@@ -4,7 +4,7 @@ ghost use Rattle.std.specs.Prelude.{◌≡◌, IfOk};
 ghost use Rattle.clap.specs.Words.{kind_of};
 
 use crate::command_line::{eval_command, names_command, route_command};
-use crate::values::{argument, mode_named, profile_named, steps_named};
+use crate::values::{accesses_named, argument, mode_named, profile_named, steps_named};
 use crate::why_words::why_command;
 use clap::error::ErrorKind;
 use clap::{ArgMatches, Command, Error};
@@ -56,6 +56,18 @@ fn bad_profile<'a>(matches: &ArgMatches<'a>) -> Option<BadValue<'a>> {
     })
 }
 
+fn bad_accesses<'a>(matches: &ArgMatches<'a>) -> Option<BadValue<'a>> {
+    let value = matches.get_str("accesses")?;
+    if accesses_named(Some(value)).is_some() {
+        return None;
+    }
+    Some(BadValue {
+        value,
+        option: "--accesses <N>",
+        takes: "a number below 2^64",
+    })
+}
+
 fn bad_argument<'a>(
     alloc: Global,
     matches: &ArgMatches<'a>,
@@ -79,7 +91,7 @@ fn bad_argument<'a>(
 fn bad_question<'a>(matches: &ArgMatches<'a>) -> Option<BadValue<'a>> {
     let value = matches.get_str("question")?;
     let takes = if value != "eval" {
-        "eval"
+        "only eval may stand here"
     } else if matches.get_str("path").is_none() {
         "a path has to stand behind it"
     } else {
@@ -100,6 +112,7 @@ fn first_bad<'a>(
     match bad_mode(matches)
         .or_else(|| bad_steps(matches))
         .or_else(|| bad_profile(matches))
+        .or_else(|| bad_accesses(matches))
     {
         Some(bad) => Ok(Some(bad)),
         None => match bad_argument(alloc, matches)? {

@@ -2,11 +2,11 @@
 ghost use Rattle.std.specs.Prelude.{◌≡◌, IfOk, IfErr, Some, map, option_map, false, codes};
 ghost use Rattle.clap.specs.Words.{app_of, new_app, rows_of, rule_of, found_of, subcommand_rows_of, FailsBy};
 ghost use Rattle.clap.specs.declared.builder.command.Command.TheViews.{out-Command as fields_of};
-ghost use Rattle.acpiroute_words.specs.CommandLine.{app, bare_app, first_route_app, route_app, names_app};
-ghost use Rattle.acpiroute_words.specs.CommandLine.{first_eval_app, eval_app, check_app, mode_rule, steps_rule};
-ghost use Rattle.acpiroute_words.specs.CommandLine.{profile_rule, dry_rule, avoid_rule, spare_rule, spread_rule};
+ghost use Rattle.acpiroute_words.specs.CommandLine.{app, bare_app, first_route_app, second_route_app, route_app};
+ghost use Rattle.acpiroute_words.specs.CommandLine.{names_app, first_eval_app, eval_app, check_app, mode_rule, steps_rule};
+ghost use Rattle.acpiroute_words.specs.CommandLine.{profile_rule, accesses_rule, dry_rule, avoid_rule};
+ghost use Rattle.acpiroute_words.specs.CommandLine.{spare_rule, spread_rule, path_rule, arguments_rule, evaluation_by, evaluation_of};
 ghost use Rattle.acpiroute_words.specs.CommandLine.{kernel_rule, flags_of};
-ghost use Rattle.acpiroute_words.specs.CommandLine.{path_rule, arguments_rule, evaluation_by, evaluation_of};
 ghost use Rattle.acpiroute_words.specs.CommandLine.{route_with, route_by, route_of, names_of, eval_of, eval_with};
 ghost use Rattle.acpiroute_words.specs.CommandLine.{parsed_command, parsed_subcommand, clap_faults, command_of};
 ghost use Rattle.acpiroute_words.specs.CommandLine.{faults_of, asked_of};
@@ -17,7 +17,8 @@ use crate::help_texts;
 use crate::interrupts::Interrupts;
 use crate::request::{Asked, Evaluation, Flags, Request};
 use crate::values::{
-    arguments_named, interrupts_named, is_true, mode_named, profile_named, steps_named,
+    accesses_named, arguments_named, interrupts_named, is_true, mode_named, profile_named,
+    steps_named,
 };
 use crate::why_words::{why_command, why_of};
 use aml_meaning::Profile;
@@ -52,6 +53,18 @@ pub(crate) fn profile_arg<'a>(alloc: Global) -> Arg<'a>
         .long("profile")
         .value_name("PROFILE")
         .help("How much of AML is evaluated: core or wide, by default core")
+}
+
+pub(crate) fn accesses_arg<'a>(alloc: Global) -> Arg<'a>
+    ensures rule { rule_of result ≡ accesses_rule }
+    ensures local { result.global ≡ false }
+{
+    Arg::new(alloc, "accesses")
+        .long("accesses")
+        .value_name("N")
+        .help(
+            "How many accesses of registers are made, each further one refused as 2; by default all",
+        )
 }
 
 pub(crate) fn dry_arg<'a>(alloc: Global) -> Arg<'a>
@@ -152,15 +165,24 @@ fn first_route_command<'a>(alloc: Global) -> Result<Command<'a>, AllocError>
         .arg(avoid_arg(alloc))
 }
 
-pub(crate) fn route_command<'a>(alloc: Global) -> Result<Command<'a>, AllocError>
-    ensures app { IfOk result (λ c. app_of c ≡ route_app) }
+/// `route`, without the options that say how much of AML is evaluated and how many accesses are made.
+fn second_route_command<'a>(alloc: Global) -> Result<Command<'a>, AllocError>
+    ensures app { IfOk result (λ c. app_of c ≡ second_route_app) }
     ensures local { IfOk result (λ c. (fields_of c).has_globals ≡ false) }
 {
     first_route_command(alloc)?
         .arg(spare_arg(alloc))?
         .arg(spread_arg(alloc))?
-        .arg(kernel_arg(alloc))?
-        .arg(profile_arg(alloc))
+        .arg(kernel_arg(alloc))
+}
+
+pub(crate) fn route_command<'a>(alloc: Global) -> Result<Command<'a>, AllocError>
+    ensures app { IfOk result (λ c. app_of c ≡ route_app) }
+    ensures local { IfOk result (λ c. (fields_of c).has_globals ≡ false) }
+{
+    second_route_command(alloc)?
+        .arg(profile_arg(alloc))?
+        .arg(accesses_arg(alloc))
 }
 
 pub(crate) fn names_command<'a>(alloc: Global) -> Result<Command<'a>, AllocError>
@@ -171,7 +193,8 @@ pub(crate) fn names_command<'a>(alloc: Global) -> Result<Command<'a>, AllocError
         .about("Read a machine text from the standard input, and write the names of its namespace")
         .after_help(help_texts::NAMES)
         .arg(steps_arg(alloc))?
-        .arg(profile_arg(alloc))
+        .arg(profile_arg(alloc))?
+        .arg(accesses_arg(alloc))
 }
 
 /// `eval`, without its options.
@@ -194,7 +217,8 @@ fn first_eval_command<'a>(alloc: Global) -> Result<Command<'a>, AllocError>
     bare_eval_command(alloc)
         .arg(mode_arg(alloc))?
         .arg(steps_arg(alloc))?
-        .arg(profile_arg(alloc))
+        .arg(profile_arg(alloc))?
+        .arg(accesses_arg(alloc))
 }
 
 pub(crate) fn eval_command<'a>(alloc: Global) -> Result<Command<'a>, AllocError>
@@ -247,14 +271,23 @@ fn matches<'a>(alloc: Global, words: &'a [&'a str]) -> Result<ArgMatches<'a>, Er
     command(alloc)?.try_get_matches_from(words)
 }
 
-/// How AML is evaluated, where its profile and its steps are said.
+/// How AML is evaluated, where its profile, its steps and a bound of accesses are said.
 #[tactic(auto, unfolding(crate::specs::CommandLine::evaluation_by))]
-fn evaluation_by(profile: Option<Profile>, steps: Option<u64>) -> Option<Evaluation>
-    ensures { result ≡ evaluation_by profile steps }
+fn evaluation_by(
+    profile: Option<Profile>,
+    steps: Option<u64>,
+    accesses: Option<Option<u64>>,
+) -> Option<Evaluation>
+    ensures { result ≡ evaluation_by profile steps accesses }
 {
     let profile = profile?;
     let steps = steps?;
-    Some(Evaluation { profile, steps })
+    let accesses = accesses?;
+    Some(Evaluation {
+        profile,
+        steps,
+        accesses,
+    })
 }
 
 /// How the options say that AML is evaluated.
@@ -264,7 +297,8 @@ fn evaluation_of(matches: &ArgMatches<'_>) -> Option<Evaluation>
 {
     let profile = profile_named(matches.get_str("profile"));
     let steps = steps_named(matches.get_str("steps"));
-    evaluation_by(profile, steps)
+    let accesses = accesses_named(matches.get_str("accesses"));
+    evaluation_by(profile, steps, accesses)
 }
 
 /// What the options of `route` say.

@@ -1,6 +1,6 @@
 //! Out of the program: a text to the output and a line to the errors.
 ghost use Rattle.std.specs.Prelude.{◌≡◌, false, is_err, IfOk};
-ghost use Rattle.acpiroute_words.specs.Deliveries.{Delivered, Told};
+ghost use Rattle.acpiroute_words.specs.Deliveries.{Delivered, Told, refusal_told};
 ghost use Rattle.acpiroute_words.specs.ErrorLines.{error_line};
 ghost use Rattle.acpiroute_words.specs.Held.{Takes};
 
@@ -57,27 +57,43 @@ pub(crate) fn line_of(alloc: Global, refusal: &Refusal) -> Result<Vec<u8>, Alloc
     }
 }
 
-/// Delivers an answer, or the line of a refusal and nothing else. The line is made whole before its first byte goes
-/// out; where memory runs out for it, the line is that of `OutOfMemory`.
+/// The line of a refusal, behind these lines; alone where memory ran out.
+fn line_behind(alloc: Global, passed: &[u8], refusal: &Refusal) -> Result<Vec<u8>, AllocError>
+    ensures { IfOk result (λ v. v.items ≡ refusal_told passed.now refusal.now) }
+{
+    let line = line_of(alloc, refusal)?;
+    if matches!(refusal, Refusal::OutOfMemory) {
+        return Ok(line);
+    }
+    let mut lines = Vec::from_slice(alloc, passed)?;
+    lines.extend_from_slice(line.as_slice())?;
+    Ok(lines)
+}
+
+/// Delivers an answer, and what was passed over, in its lines; or the line of a refusal behind these and nothing else. The
+/// lines are made whole before their first byte goes out; where memory runs out for them, the line is that of
+/// `OutOfMemory`.
 pub fn deliver_outcome<W: Sink, E: Sink>(
     alloc: Global,
+    passed: &[u8],
     outcome: Result<Answer, Refusal>,
     writer: &mut W,
     errors: &mut E,
 ) -> u8
     requires output { (W.held writer.old).has_failed ≡ false }
     requires errors { (E.held errors.old).has_failed ≡ false }
-    ensures { Told outcome result (W.held writer.old) (W.held writer.new) (E.held errors.old) (E.held errors.new) }
+    ensures { Told passed.now outcome result (W.held writer.old) (W.held writer.new)
+        (E.held errors.old) (E.held errors.new) }
 {
     match outcome {
         Ok(answer) => deliver(
             answer.text.as_slice(),
-            b"",
+            passed,
             answer.completion.status(),
             writer,
             errors,
         ),
-        Err(refusal) => match line_of(alloc, &refusal) {
+        Err(refusal) => match line_behind(alloc, passed, &refusal) {
             Ok(line) => deliver(b"", line.as_slice(), 1, writer, errors),
             Err(_) => deliver(b"", b"refused 99\n", 1, writer, errors),
         },

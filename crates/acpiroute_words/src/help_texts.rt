@@ -28,6 +28,8 @@ Behind the number stands where or what: 'at N' an offset, 'op XXXX' an opcode, '
 pub(crate) const ROUTE: &str = "\
 The machine text is read from the standard input: acpiroute route < machine.txt
 
+--steps bounds the terms that an evaluation begins, and --accesses the accesses of registers in the whole run: one term may make many.
+
 The numbers of --avoid are separated by commas, without blanks: --avoid 3,4,7. Any other text is told by the line 'bad --avoid'. With the \
 8259 controllers, --mode pic, devices of the ISA bus may use interrupts that links offer, and only those of the System Control Interrupt \
 and of wired pins are counted: --avoid 1,3,4,6,7,12,14,15 leaves those of keyboard, serial ports, floppy disk, parallel port, mouse and \
@@ -51,7 +53,8 @@ none', that there is none.
 The core profile, the default, refuses some terms of AML by number 73, Match among them, which many boards need; a link device that offers \
 interrupts for itself alone by number 101; one whose _HID is a control method by number 113; and PCI configuration registers behind a \
 bridge by number 78. With --profile wide these terms are evaluated, such offers are taken as shared ones, the method is called, and the \
-registers are reached.
+registers are reached. A faulty declaration of a table, or a refused _INI, is passed over, and told by a line 'passed R P' on the errors: \
+its number and its scope.
 
 Exit status: 0 for a report, 1 for a refusal, 2 for a faulty command line, 3 where setting a link was refused, which the report tells. \
 'acpiroute --help' lists the refusals.";
@@ -77,7 +80,8 @@ refusals.";
 pub(crate) const NAMES: &str = "\
 The machine text is read from the standard input: acpiroute names < machine.txt
 
-With --profile wide more terms of AML are evaluated while the tables are loaded than in the core profile.
+With --profile wide more terms of AML are evaluated while the tables are loaded than in the core profile, and faulty declarations are \
+passed over, each told by a line 'passed R P' on the errors.
 
 Exit status: 0 for the names, 1 for a refusal, 2 for a faulty command line. 'acpiroute --help' lists the refusals.";
 
@@ -87,7 +91,8 @@ The machine text is read from the standard input: acpiroute eval '\\_SB_.PCI0._P
 Write the path between single quotes, for the shell, and as 'acpiroute names' prints it: capitals, and four characters for each name. \
 tools/show_value.py shows the value so that people can read it.
 
-With --profile wide more terms of AML are evaluated than in the core profile, which refuses them by number 73.
+With --profile wide more terms of AML are evaluated than in the core profile, which refuses them by number 73, and faulty declarations \
+are passed over, each told by a line 'passed R P' on the errors.
 
 Exit status: 0 for the value, 1 for a refusal, 2 for a faulty command line. 'acpiroute --help' lists the refusals.";
 

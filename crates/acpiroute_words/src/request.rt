@@ -13,6 +13,9 @@ pub struct Evaluation {
     pub profile: Profile,
     /// The budget of steps for each table and each evaluation, from 1 to 1,000,000,000.
     pub steps: u64,
+    /// How many accesses of registers are made in all, each further one being refused as `Device`; all of them where this
+    /// is none.
+    pub accesses: Option<u64>,
 }
 
 /// The options of `route` that have no value.

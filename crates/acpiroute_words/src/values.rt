@@ -5,7 +5,7 @@ ghost use Rattle.acpiroute_words.specs.declared.arguments.Argument.TheVariants a
 ghost use Rattle.acpiroute_words.specs.Values.{number, number_from, with_digit, argument, arguments, arguments_named};
 ghost use Rattle.acpiroute_words.specs.Values.{bytes_of_digits, interrupt, interrupts, few_interrupts};
 ghost use Rattle.acpiroute_words.specs.Values.{interrupts_listed, interrupts_named, mode_named, profile_named};
-ghost use Rattle.acpiroute_words.specs.Values.{steps_named, within_steps, is_true};
+ghost use Rattle.acpiroute_words.specs.Values.{steps_named, within_steps, accesses_named, is_true};
 
 use crate::arguments::{Argument, ArgumentBytes, Arguments};
 use crate::interrupts::Interrupts;
@@ -254,6 +254,16 @@ pub(crate) fn steps_named(text: Option<&str>) -> Option<u64>
     match text {
         None => Some(1_000_000),
         Some(text) => within_steps(number(text)?),
+    }
+}
+
+/// A bound of accesses, below 2^64; none where none is given.
+pub(crate) fn accesses_named(text: Option<&str>) -> Option<Option<u64>>
+    ensures { result ≡ accesses_named (option_map (λ s. s.now) text.entry) }
+{
+    match text {
+        None => Some(None),
+        Some(text) => Some(Some(number(text)?)),
     }
 }
 

@@ -3,12 +3,13 @@ ghost use Rattle.std.specs.Prelude.{◌≡◌, IfOk, false, codes, None, Some};
 ghost use Rattle.clap.specs.Words.{app_of, new_app, rows_of, rule_of, found_of};
 ghost use Rattle.clap.specs.declared.builder.command.Command.TheViews.{out-Command as fields_of};
 ghost use Rattle.acpiroute_words.specs.CommandLine.{registers_rule, question_rule, question_path_rule};
-ghost use Rattle.acpiroute_words.specs.CommandLine.{first_why_app, second_why_app, why_app, told_of, why_with};
-ghost use Rattle.acpiroute_words.specs.CommandLine.{why_evaluated, has_route_options, why_asked, why_of};
+ghost use Rattle.acpiroute_words.specs.CommandLine.{first_why_app, second_why_app, third_why_app, why_app};
+ghost use Rattle.acpiroute_words.specs.CommandLine.{told_of, why_with, why_evaluated, has_route_options};
+ghost use Rattle.acpiroute_words.specs.CommandLine.{why_asked, why_of};
 
 use crate::command_line::{
-    arguments_arg, avoid_arg, dry_arg, eval_of, kernel_arg, mode_arg, profile_arg, route_of,
-    spare_arg, spread_arg, steps_arg,
+    accesses_arg, arguments_arg, avoid_arg, dry_arg, eval_of, kernel_arg, mode_arg, profile_arg,
+    route_of, spare_arg, spread_arg, steps_arg,
 };
 use crate::help_texts;
 use crate::request::{Asked, Asking, Question, Request};
@@ -66,7 +67,7 @@ fn first_why_command<'a>(alloc: Global) -> Result<Command<'a>, AllocError>
         .arg(avoid_arg(alloc))
 }
 
-/// `why`, with the options of `route` alone.
+/// `why`, without the options that say how AML is evaluated beyond its steps.
 fn second_why_command<'a>(alloc: Global) -> Result<Command<'a>, AllocError>
     ensures app { IfOk result (λ c. app_of c ≡ second_why_app) }
     ensures local { IfOk result (λ c. (fields_of c).has_globals ≡ false) }
@@ -74,15 +75,24 @@ fn second_why_command<'a>(alloc: Global) -> Result<Command<'a>, AllocError>
     first_why_command(alloc)?
         .arg(spare_arg(alloc))?
         .arg(spread_arg(alloc))?
-        .arg(kernel_arg(alloc))?
-        .arg(profile_arg(alloc))
+        .arg(kernel_arg(alloc))
+}
+
+/// `why`, with the options of `route` alone.
+fn third_why_command<'a>(alloc: Global) -> Result<Command<'a>, AllocError>
+    ensures app { IfOk result (λ c. app_of c ≡ third_why_app) }
+    ensures local { IfOk result (λ c. (fields_of c).has_globals ≡ false) }
+{
+    second_why_command(alloc)?
+        .arg(profile_arg(alloc))?
+        .arg(accesses_arg(alloc))
 }
 
 pub(crate) fn why_command<'a>(alloc: Global) -> Result<Command<'a>, AllocError>
     ensures app { IfOk result (λ c. app_of c ≡ why_app) }
     ensures local { IfOk result (λ c. (fields_of c).has_globals ≡ false) }
 {
-    second_why_command(alloc)?
+    third_why_command(alloc)?
         .arg(registers_arg(alloc))?
         .arg(question_arg(alloc))?
         .arg(question_path_arg(alloc))?

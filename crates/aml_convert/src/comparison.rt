@@ -17,7 +17,7 @@ use std::cmp::Ordering;
 /// The second is converted to the first's type, and refused as that conversion is. Integers are compared as numbers,
 /// strings and buffers byte by byte, where one that another begins with comes before it. A first value of another
 /// type is refused as `WrongType`.
-#[tactic(auto, using(ar_space::specs::Outcome::answering), unfolding(crate::specs::Conversions::compared))]
+#[tactic(auto, using(ar_space::proofs::Outcomes::answering), unfolding(crate::specs::Conversions::compared))]
 pub fn compare(
     alloc: Global,
     width: IntegerWidth,

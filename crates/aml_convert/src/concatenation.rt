@@ -21,7 +21,7 @@ const END_TAG: [u8; 2] = [0x79, 0x00];
 ///
 /// Two integers are joined as buffers. A first value of another type is refused as `WrongType`, and a second as its
 /// conversion is.
-#[tactic(auto, using(ar_space::specs::Outcome::answering), unfolding(crate::specs::Concatenation::concatenated))]
+#[tactic(auto, using(ar_space::proofs::Outcomes::answering), unfolding(crate::specs::Concatenation::concatenated))]
 pub fn concat(
     alloc: Global,
     width: IntegerWidth,
@@ -39,7 +39,7 @@ pub fn concat(
     }
 }
 
-#[tactic(auto, using(ar_space::specs::Outcome::answering), unfolding(crate::specs::Concatenation::concatenated))]
+#[tactic(auto, using(ar_space::proofs::Outcomes::answering), unfolding(crate::specs::Concatenation::concatenated))]
 fn concat_integers(
     alloc: Global,
     width: IntegerWidth,
@@ -54,7 +54,7 @@ fn concat_integers(
     Ok(Formed::Buffer(appended(alloc, &front, &back)?))
 }
 
-#[tactic(auto, using(ar_space::specs::Outcome::answering), unfolding(crate::specs::Concatenation::concatenated))]
+#[tactic(auto, using(ar_space::proofs::Outcomes::answering), unfolding(crate::specs::Concatenation::concatenated))]
 fn concat_strings(
     alloc: Global,
     width: IntegerWidth,
@@ -67,7 +67,7 @@ fn concat_strings(
     Ok(Formed::String(appended(alloc, first, second.as_slice())?))
 }
 
-#[tactic(auto, using(ar_space::specs::Outcome::answering), unfolding(crate::specs::Concatenation::concatenated))]
+#[tactic(auto, using(ar_space::proofs::Outcomes::answering), unfolding(crate::specs::Concatenation::concatenated))]
 fn concat_buffers(
     alloc: Global,
     width: IntegerWidth,
@@ -84,7 +84,7 @@ fn concat_buffers(
 ///
 /// An empty buffer counts as an end tag alone. Values that aren't both buffers are refused as `WrongType`, and then a
 /// buffer without a whole end tag among the items that it begins with as `NoEnd`.
-#[tactic(auto, using(ar_space::specs::Outcome::answering), unfolding(crate::specs::Concatenation::resources_joined))]
+#[tactic(auto, using(ar_space::proofs::Outcomes::answering), unfolding(crate::specs::Concatenation::resources_joined))]
 pub fn concat_resources(
     alloc: Global,
     first: Content<'_>,

@@ -54,7 +54,7 @@ pub fn to_hexadecimal_string(
 /// 19.6.143).
 ///
 /// The source is refused as its conversion to a buffer is, and then the count as its conversion to an integer.
-#[tactic(auto, using(ar_space::specs::Outcome::answering), unfolding(crate::specs::Strings::string_of))]
+#[tactic(auto, using(ar_space::proofs::Outcomes::answering), unfolding(crate::specs::Strings::string_of))]
 pub fn to_string(
     alloc: Global,
     width: IntegerWidth,
@@ -73,7 +73,7 @@ pub fn to_string(
 /// Of a string it is a string. Another value is converted to a buffer, refused as that conversion is, and gives a
 /// buffer. Then the place and the count are refused as their conversions to integers are. At the end and past it
 /// there is nothing.
-#[tactic(auto, using(ar_space::specs::Outcome::answering), unfolding(crate::specs::Strings::middle_of))]
+#[tactic(auto, using(ar_space::proofs::Outcomes::answering), unfolding(crate::specs::Strings::middle_of))]
 pub fn middle(
     alloc: Global,
     width: IntegerWidth,
@@ -95,7 +95,7 @@ pub fn middle(
     }
 }
 
-#[tactic(auto, using(ar_space::specs::Outcome::answering), unfolding(crate::specs::Strings::part_of))]
+#[tactic(auto, using(ar_space::proofs::Outcomes::answering), unfolding(crate::specs::Strings::part_of))]
 fn part_of(
     alloc: Global,
     width: IntegerWidth,

@@ -4,7 +4,8 @@ use Rattle.std.proofs.Common.{◌∙◌, ap, sym, arith}
 use Rattle.std.proofs.lemmas.Bool.Decides.{nat_tests}
 use Rattle.ar_space.specs.declared.refusal.Refusal.{Refusal}
 use Rattle.ar_space.specs.Outcome.{Outcome, NotMemory, Answers}
-use Rattle.ar_space.specs.Change.{Change, Does, give, settle, ◌>>=◌, does_ok, settle_ok, does_give}
+use Rattle.ar_space.specs.Change.{Change, Does, give, settle, ◌>>=◌}
+use Rattle.ar_space.proofs.Changes.{does_ok, settle_ok, does_give}
 use Rattle.aml_objects.specs.declared.object.Object.{Object}
 use Rattle.aml_objects.specs.declared.object.Object.TheVariants as object
 use Rattle.aml_objects.specs.declared.entry.BufferField.{BufferField}

@@ -6,7 +6,8 @@ use Rattle.ar_space.specs.declared.space.Width.{Width}
 use Rattle.ar_space.specs.declared.space.Width.TheVariants.{W8, W16, W32, W64}
 use Rattle.ar_space.specs.Accesses.{bit_count}
 use Rattle.ar_space.specs.Outcome.{Outcome, seen}
-use Rattle.ar_space.specs.Change.{Change, Does, Same, give, go_on, ◌>>=◌, does_same, does_give, does_err, same_ok}
+use Rattle.ar_space.specs.Change.{Change, Does, Same, give, go_on, ◌>>=◌}
+use Rattle.ar_space.proofs.Changes.{does_same, does_give, does_err, same_ok}
 use Rattle.aml_objects.specs.declared.entry.FieldUnit.{FieldUnit}
 use Rattle.aml_fields.specs.declared.field_units.Unit.{Unit as Access}
 use Rattle.aml_fields.specs.Bits.{bits_from, bits_of, bytes_within, byte_count, extended, packed, put}

@@ -56,6 +56,12 @@ module _ {S : Type 0} (accesses : Accesses S) where
   unfoldable pub write_access : Place → Width → ℕ → Change S (Unit {0})
   write_access p w value s = (faulted (accesses.writes s p w value).0, (accesses.writes s p w value).1)
 
+  -- one unit is written with a number
+  unfoldable pub write_whole : Region → Width → ℕ → ℕ → Change S (Unit {0})
+  write_whole r w offset value = do
+    p ← settle (unit_place r w offset)
+    write_access p w value
+
   -- one unit is written: as a whole, or merged with what it holds, ones or zeros
   unfoldable pub write_unit : Region → FieldUnit → List ℕ → Access → Change S (Unit {0})
   write_unit r f source u = do

@@ -2,7 +2,8 @@
 ghost use Rattle.std.specs.Prelude.{◌≡◌, ◌+◌, ◌≤◌, ◌<◌, ◌^◌};
 ghost use Rattle.ar_space.specs.Outcome.{NotMemory, seen};
 ghost use Rattle.ar_space.specs.Change.{Does};
-ghost use Rattle.aml_fields.specs.Regions.{read_access, read_unit, write_access, write_unit, write_field, read_field};
+ghost use Rattle.aml_fields.specs.Regions.{read_access, read_unit, write_access, write_whole, write_unit, write_field};
+ghost use Rattle.aml_fields.specs.Regions.{read_field};
 ghost use Rattle.aml_fields.specs.UnitByUnit.{kept, kept_by, write_units, bits_read};
 
 use crate::bits::bytes_for;
@@ -42,9 +43,9 @@ pub(crate) fn write_access<S: Space>(
     }
 }
 
-/// Reads a unit.
-#[tactic(auto, using(ar_space::specs::Change::changing), unfolding(crate::specs::Regions::read_unit))]
-pub(crate) fn read_unit<S: Space>(
+/// Reads a unit. One that doesn't lie within the region is refused as `RegionLimit` before its access.
+#[tactic(auto, using(ar_space::proofs::Changes::changing), unfolding(crate::specs::Regions::read_unit))]
+pub fn read_unit<S: Space>(
     space: &mut S,
     region: Region,
     width: Width,
@@ -55,6 +56,23 @@ pub(crate) fn read_unit<S: Space>(
 {
     let place = region.place(width, unit.offset)?;
     read_access(space, place, width)
+}
+
+/// Writes the unit with an offset from the region's start, with a number. One that doesn't lie within the region is
+/// refused as `RegionLimit` before its access.
+#[tactic(auto, using(ar_space::proofs::Changes::changing), unfolding(crate::specs::Regions::write_whole))]
+pub fn write_whole<S: Space>(
+    space: &mut S,
+    region: Region,
+    width: Width,
+    offset: u64,
+    value: u64,
+) -> Result<(), Refusal>
+    ensures change { Does result space.new (write_whole S.accesses region width offset value) space.old }
+    ensures memory { NotMemory result }
+{
+    let place = region.place(width, offset)?;
+    write_access(space, place, width, value)
 }
 
 /// What a unit holds that a write keeps: it is read where the field isn't all of it and the update rule is Preserve.
@@ -79,7 +97,7 @@ pub(crate) fn kept<S: Space>(
 }
 
 /// Writes a unit.
-#[tactic(auto, using(ar_space::specs::Change::changing), unfolding(crate::specs::Regions::write_unit))]
+#[tactic(auto, using(ar_space::proofs::Changes::changing), unfolding(crate::specs::Regions::write_unit))]
 fn write_unit<S: Space>(
     space: &mut S,
     region: Region,
@@ -131,7 +149,7 @@ pub fn write_field<S: Space>(
 ///
 /// Each unit is one access, lowest first. A unit that doesn't lie within the region is refused as `RegionLimit`
 /// before its access. A fault of the space ends the read.
-#[tactic(auto, using(ar_space::specs::Change::changing), unfolding(crate::specs::UnitByUnit::bits_read))]
+#[tactic(auto, using(ar_space::proofs::Changes::changing), unfolding(crate::specs::UnitByUnit::bits_read))]
 pub fn read_field<S: Space>(
     alloc: Global,
     space: &mut S,

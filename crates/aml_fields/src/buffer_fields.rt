@@ -13,7 +13,7 @@ use std::alloc::Global;
 
 /// A new buffer field of so many bits, from one bit of a buffer on. Refused as `WrongType` where the object is no
 /// buffer, and as `FieldLimit` where the field doesn't lie within it.
-#[tactic(auto, using(ar_space::specs::Change::changing), unfolding(crate::specs::BufferFields::new_buffer_field))]
+#[tactic(auto, using(ar_space::proofs::Changes::changing), unfolding(crate::specs::BufferFields::new_buffer_field))]
 pub fn new_buffer_field(
     heap: &Heap,
     object: u32,
@@ -30,7 +30,7 @@ pub fn new_buffer_field(
 
 /// The bits of a buffer field, lowest first, as bytes. Refused as `WrongType` where its object is no buffer, and as
 /// `DeadReference` where it doesn't lie within it.
-#[tactic(auto, using(ar_space::specs::Change::changing), unfolding(crate::specs::BufferFields::read_buffer_field))]
+#[tactic(auto, using(ar_space::proofs::Changes::changing), unfolding(crate::specs::BufferFields::read_buffer_field))]
 pub fn read_buffer_field(alloc: Global, heap: &Heap, field: BufferField) -> Result<Vec<u8>, Refusal>
     ensures { Does (seen (λ v. v.items) result) heap.now (read_buffer_field field) heap.now }
 {
@@ -41,7 +41,7 @@ pub fn read_buffer_field(alloc: Global, heap: &Heap, field: BufferField) -> Resu
 
 /// Writes a buffer field: the bits of `source`, lowest first, cut or with zeros behind them. The other bits of the
 /// buffer stay. Refused as `read_buffer_field` is, and then nothing changes.
-#[tactic(auto, using(ar_space::specs::Change::changing), unfolding(crate::specs::BufferFields::write_buffer_field))]
+#[tactic(auto, using(ar_space::proofs::Changes::changing), unfolding(crate::specs::BufferFields::write_buffer_field))]
 pub fn write_buffer_field(
     alloc: Global,
     heap: &mut Heap,

@@ -10,7 +10,7 @@ mod one_unit;
 mod region;
 mod unit;
 
-pub use accesses::{read_field, write_field};
+pub use accesses::{read_field, read_unit, write_field, write_whole};
 pub use bits::{bytes_for, copy_bits, get_bits};
 pub use buffer_fields::{new_buffer_field, read_buffer_field, write_buffer_field};
 pub use field_units::{FieldUnits, Unit, units};

@@ -147,7 +147,7 @@ pub fn write_number<S: Space>(
 }
 
 /// Writes bits of a number to a unit.
-#[tactic(auto, using(ar_space::specs::Change::changing), unfolding(crate::specs::Regions::write_unit))]
+#[tactic(auto, using(ar_space::proofs::Changes::changing), unfolding(crate::specs::Regions::write_unit))]
 fn write_in_unit<S: Space>(
     space: &mut S,
     region: Region,

@@ -1,5 +1,5 @@
 -- Accesses of fields of regions, and the parts of addresses that they ask for.
-use Rattle.std.specs.Prelude.{◌≡◌, ◌≢◌, ◌≤◌, ◌<◌, ◌-◌, ℕ, zero, suc, List, [], ◌∷◌, ◌++◌, Ok, Err, IfOk, IsErr, IsErrAnd, refl}
+use Rattle.std.specs.Prelude.{◌≡◌, ◌≢◌, ◌≤◌, ◌<◌, ◌-◌, ℕ, zero, suc, List, [], ◌∷◌, ◌++◌, None, Ok, Err, IfOk, IsErr, IsErrAnd, refl}
 use Rattle.std.proofs.Common.{◌∙◌, ap, sym, arith, sub-one}
 use Rattle.ar_space.specs.Accesses.{Accesses}
 use Rattle.ar_space.specs.Outcome.{Outcome, Answers}
@@ -79,10 +79,10 @@ module _ {S : Type 0} (ac : Accesses S) where
 
   -- the access of a region that was declared
   abbrev declared_access : ℕ → RegionField → Doing → ℕ → ℕ → RegionAccess
-  declared_access calls f d offset length = record { calls = calls; field = f; offset = offset; length = length; doing = d }
+  declared_access calls f d offset length = record { calls = calls; field = f; bank = None; offset = offset; length = length; doing = d }
 
   located_is : (calls : ℕ) (f : RegionField) (d : Doing) (s : State S × ℕ) → (located ac (asking ac (meaning ac) calls) f.region >>= done_in ac d f) s
-      ≡ (lift (region_declared f.region) >>= (λ x. space_at ac (asking ac (meaning ac) calls) (space_numbered x.1.space) x.0 >>= (λ space. space_known ac (declared_access calls f d x.1.offset x.1.length) space))) s
+      ≡ (lift (region_declared f.region) >>= (λ x. space_at ac (asking ac (meaning ac) calls) (space_numbered x.1.space) x.0 >>= (λ space. space_known ac (meaning ac) (declared_access calls f d x.1.offset x.1.length) space))) s
   unfolding located
   located_is calls f d s =
       bind_bind (lift (region_declared f.region)) _ (done_in ac d f) s
@@ -93,7 +93,7 @@ module _ {S : Type 0} (ac : Accesses S) where
   unfolding pci_address device_known bridges_known segment_known bridges_left bus_known function_known
   pci_is a scope s =
       let call = asking ac (meaning ac) a.calls in
-      let k = space_known ac a in
+      let k = space_known ac (meaning ac) a in
       bind_bind (lift (pci_function scope)) _ k s
       ∙ bind_same (lift (pci_function scope)) _ _ s (λ p h. bind_bind (lift (bridges_above p)) _ k h
       ∙ bind_same (lift (bridges_above p)) _ _ h (λ bridges i. bind_bind (inherited ac call segment_group p) _ k i
@@ -131,7 +131,7 @@ module _ {S : Type 0} (ac : Accesses S) where
 
 module _ {S : Type 0} {ac : Accesses S} where
   pub leads_region : {r : Outcome Next} {c : Site} {s s1 : State S × ℕ} (calls : ℕ) (f : RegionField) (d : Doing)
-      → Leads ac (meaning ac) r c s1 (lift (region_declared f.region) >>= (λ x. space_at ac (asking ac (meaning ac) calls) (space_numbered x.1.space) x.0 >>= (λ space. space_known ac (declared_access ac calls f d x.1.offset x.1.length) space))) s
+      → Leads ac (meaning ac) r c s1 (lift (region_declared f.region) >>= (λ x. space_at ac (asking ac (meaning ac) calls) (space_numbered x.1.space) x.0 >>= (λ space. space_known ac (meaning ac) (declared_access ac calls f d x.1.offset x.1.length) space))) s
       → Leads ac (meaning ac) r c s1 (access_done ac (meaning ac) calls (object.Unit f) d) s
   leads_region {s = s} calls f d h = record { is = λ ne. region_is ac calls f d s ∙ located_is ac calls f d s ∙ h.is ne }
 

@@ -38,18 +38,18 @@ pub no_bridges : (l : List (List Seg)) → length l ≡ 0 → l ≡ []
 no_bridges [] h = refl
 no_bridges (q ∷ qs) h = absurd (cc h)
 
-pub falls_bridge : (r : Outcome Next) (calls : ℕ) (l : List (List Seg)) (q : List Seg) (qs : List (List Seg)) → l ≡ q ∷ qs → IfOk r (λ n. next_weight n < bridges_weight calls (length qs) + 2 * part_weight calls + 34) → IfOk r (λ n. next_weight n < bridges_weight calls (length l) + part_weight calls + 14)
-falls_bridge (Ok n) calls l q qs e h = let i = more_bridges calls l q qs e in omega (arith, h, i)
-falls_bridge (Err x) calls l q qs e h = tt
+pub falls_bridge : (r : Outcome Next) (calls k : ℕ) (l : List (List Seg)) (q : List Seg) (qs : List (List Seg)) → l ≡ q ∷ qs → IfOk r (λ n. next_weight n < bridges_weight calls (length qs) + 2 * part_weight calls + 34 + k) → IfOk r (λ n. next_weight n < bridges_weight calls (length l) + part_weight calls + 14 + k)
+falls_bridge (Ok n) calls k l q qs e h = let i = more_bridges calls l q qs e in omega (arith, h, i)
+falls_bridge (Err x) calls k l q qs e h = tt
 
-pub falls_no_bridge : (r : Outcome Next) (calls n : ℕ) → IfOk r (λ n. next_weight n < part_weight calls + 14) → IfOk r (λ m. next_weight m < bridges_weight calls n + part_weight calls + 14)
-falls_no_bridge (Ok n) calls m h = omega (arith, h)
-falls_no_bridge (Err x) calls m h = tt
+pub falls_no_bridge : (r : Outcome Next) (calls k n : ℕ) → IfOk r (λ n. next_weight n < part_weight calls + 14 + k) → IfOk r (λ m. next_weight m < bridges_weight calls n + part_weight calls + 14 + k)
+falls_no_bridge (Ok n) calls k m h = omega (arith, h)
+falls_no_bridge (Err x) calls k m h = tt
 
-pub falls_device : (r : Outcome Next) (calls n : ℕ) → n ≤ 18446744073709551616 → IfOk r (λ m. next_weight m < bridges_weight calls n + 3 * part_weight calls + 40) → IfOk r (λ m. next_weight m < region_weight calls)
+pub falls_device : (r : Outcome Next) (calls k n : ℕ) → n ≤ 18446744073709551616 → IfOk r (λ m. next_weight m < bridges_weight calls n + 3 * part_weight calls + 40 + k) → IfOk r (λ m. next_weight m < region_weight calls + k)
 unfolding bridges_weight
-falls_device (Ok m) calls n few h = let i = mul-le-mul_right (part_weight calls + 20) few in omega (arith, h, i)
-falls_device (Err x) calls n few h = tt
+falls_device (Ok m) calls k n few h = let i = mul-le-mul_right (part_weight calls + 20) few in omega (arith, h, i)
+falls_device (Err x) calls k n few h = tt
 
 module _ {S : Type 0} (ac : Accesses S) where
   next_bridge : (a : RegionAccess) (device q : List Seg) (qs : List (List Seg)) (seg bus : ℕ) (s : State S × ℕ) → bridges_left ac (meaning ac) a device (q ∷ qs) seg bus s ≡ bridge_asked ac (meaning ac) a device q qs seg bus s

@@ -4,7 +4,8 @@ use Rattle.std.proofs.Common.{◌∙◌, ap, sym, subst, arith}
 use Rattle.std.proofs.Math.Nat.{mod-eq_of_lt}
 use Rattle.ar_space.specs.Accesses.{Accesses}
 use Rattle.ar_space.specs.Outcome.{Outcome}
-use Rattle.ar_space.specs.Change.{Change, Does, Same, give, settle, go_on, ◌>>=◌, changing}
+use Rattle.ar_space.specs.Change.{Change, Does, Same, give, settle, go_on, ◌>>=◌}
+use Rattle.ar_space.proofs.Changes.{changing}
 use Rattle.aml_path.specs.declared.segment.Seg.{Seg}
 use Rattle.aml_grammar.specs.Apart.{code_of}
 use Rattle.aml_grammar.specs.Tree.{Tree, Trees, term, no_trees, tree}
@@ -27,7 +28,7 @@ use Rattle.aml_meaning.specs.Tasks.{operand_value, value_at}
 use Rattle.aml_meaning.specs.Meaning.{meaning}
 use Rattle.aml_meaning.specs.DeclarationTerms.{declaring}
 use Rattle.aml_meaning.specs.FieldTerms.{region_rule, sized_field_rule, bits_field_rule, element_laid, elements_laid, is_connection, has_connection}
-use Rattle.aml_frames.specs.declared.activation.Position.{Position}
+use Rattle.aml_frames.specs.declared.position.Position.{Position}
 use Rattle.aml_frames.specs.declared.frames.DeclarationPart.TheVariants as parts
 use Rattle.aml_frames.specs.declared.frames.Frame.TheVariants as frames
 use Rattle.aml_frames.specs.declared.frames.Next.{Next}

@@ -23,7 +23,7 @@ use Rattle.aml_meaning.specs.NewObjects.{within, new_buffer}
 use Rattle.aml_meaning.specs.Tasks.{Task, operand_value}
 use Rattle.aml_meaning.specs.Meaning.{meaning}
 use Rattle.aml_meaning.specs.DataTerms.{buffer_rule, package_rule, var_package_rule, package_of, element_by, named_element, valued_element, elements_in_turn}
-use Rattle.aml_frames.specs.declared.activation.Position.{Position}
+use Rattle.aml_frames.specs.declared.position.Position.{Position}
 use Rattle.aml_frames.specs.declared.frames.Frame.TheVariants as frames
 use Rattle.aml_frames.specs.declared.frames.Next.{Next}
 use Rattle.aml_frames.specs.declared.frames.Next.TheVariants as next

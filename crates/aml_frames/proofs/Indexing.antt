@@ -41,7 +41,7 @@ use Rattle.aml_frames.proofs.Using.{given_one}
 
 -- ---- no unit of a field is cut
 
-all_within : (bits : ℕ) (u : UnitAccess) → u.first + u.count ≤ 64 → u.position + u.count ≤ bits → unit_within bits u ≡ u
+pub all_within : (bits : ℕ) (u : UnitAccess) → u.first + u.count ≤ 64 → u.position + u.count ≤ bits → unit_within bits u ≡ u
 all_within bits u h i =
     let first : min u.first 64 ≡ u.first = omega (arith, h) in
     let place : min u.position bits ≡ u.position = omega (arith, i) in
@@ -71,23 +71,23 @@ put_on done new old p e =
     ∙ ap (λ k. (done ++ new) ++ drop k old) (sym both)
 
 -- no bit of a field that was read
-abbrev no_bits : FieldUnit → List Bool
+abbrev pub no_bits : FieldUnit → List Bool
 no_bits f = bits_of (replicate (byte_count f.bits) 0)
 
 -- bytes that hold the first bits of a field
-record Holds (f : FieldUnit) (bytes : List ℕ) (done : List Bool) : Type 0 where
-  size : length bytes ≡ byte_count f.bits
-  bits : bits_of bytes ≡ put 0 done (no_bits f)
-  is : bytes ≡ bytes_within (byte_count f.bits) (put 0 done (no_bits f))
+pub record Holds (f : FieldUnit) (bytes : List ℕ) (done : List Bool) : Type 0 where
+  pub size : length bytes ≡ byte_count f.bits
+  pub bits : bits_of bytes ≡ put 0 done (no_bits f)
+  pub is : bytes ≡ bytes_within (byte_count f.bits) (put 0 done (no_bits f))
 
-none_held : (f : FieldUnit) → Holds f (replicate (byte_count f.bits) 0) []
+pub none_held : (f : FieldUnit) → Holds f (replicate (byte_count f.bits) 0) []
 none_held f = record {
   size = length-replicate (byte_count f.bits) 0;
   bits = refl;
   is = known_by_bits (replicate (byte_count f.bits) 0) (byte_count f.bits) _ (λ i. small_zeros (byte_count f.bits) i) (length-replicate (byte_count f.bits) 0) refl;
 }
 
-one_more_held : (f : FieldUnit) (bytes : List ℕ) (done : List Bool) (n : ℕ) (u : UnitAccess) (us : List UnitAccess) → f.bits < 4294967296 → Cover f.bit_offset f.bits f.access (length done) (u ∷ us) → Holds f bytes done → Holds f (put_unit bytes u n) (done ++ extended u.count (drop u.first (bits_from n 0 64)))
+pub one_more_held : (f : FieldUnit) (bytes : List ℕ) (done : List Bool) (n : ℕ) (u : UnitAccess) (us : List UnitAccess) → f.bits < 4294967296 → Cover f.bit_offset f.bits f.access (length done) (u ∷ us) → Holds f bytes done → Holds f (put_unit bytes u n) (done ++ extended u.count (drop u.first (bits_from n 0 64)))
 unfolding put_unit
 one_more_held f bytes done n u us few c h =
     let unit = in_unit f.bit_offset f.bits (length done) f.access u us (u ∷ us) refl c in
@@ -105,7 +105,7 @@ one_more_held f bytes done n u us few c h =
       is = same ∙ ap (λ k. bytes_within k bits) size ∙ ap (bytes_within (byte_count f.bits)) both;
     }
 
-all_held : (f : FieldUnit) (bytes : List ℕ) (done : List Bool) → length done ≡ f.bits → Holds f bytes done → bytes ≡ packed (done ++ [])
+pub all_held : (f : FieldUnit) (bytes : List ℕ) (done : List Bool) → length done ≡ f.bits → Holds f bytes done → bytes ≡ packed (done ++ [])
 all_held f bytes done e h =
     let zeros = no_bits f in
     h.is
@@ -206,6 +206,10 @@ many_on n k = let e : suc n ≡ n + 1 = omega arith in ap (λ m. m * k) e ∙ ad
 fewer : (o n d : ℕ) (w : Width) (us : List UnitAccess) → Cover o n w d us → d + length us ≤ n
 fewer o n d w [] c = omega (arith, c)
 fewer o n d w (u ∷ us) c = let h = fewer o n (d + u.count) w us c.2 in let i = c.0.some in omega (arith, h, i)
+
+-- a field has fewer units than bits
+pub fewer_units : (f : FieldUnit) → f.bits < 4294967296 → suc (length (units_of f.bit_offset f.bits f.access)) ≤ 4294967296
+fewer_units f few = let h = fewer f.bit_offset f.bits 0 f.access (units_of f.bit_offset f.bits f.access) (units_cover f.bit_offset f.bits f.access) in omega (arith, h, few)
 
 pub few_units : (f : FieldUnit) → f.bits < 4294967296 → length (units_of f.bit_offset f.bits f.access) ≤ 4294967296
 few_units f few = let h = fewer f.bit_offset f.bits 0 f.access (units_of f.bit_offset f.bits f.access) (units_cover f.bit_offset f.bits f.access) in omega (arith, h, few)

@@ -1,6 +1,8 @@
+pub mod Answering
 pub mod Between
 pub mod Machine
 pub mod OperandShapes
+pub mod PassedItems
 pub mod RuleShapes
 pub mod Stepping
 pub mod Weighing
@@ -18,9 +20,13 @@ pub mod DeclaringFields
 pub mod Forming
 pub mod Addressing
 pub mod Bridging
+pub mod BankUnits
+pub mod BankSteps
+pub mod BankTerms
 pub mod Indexing
 pub mod Knowing
 pub mod Matching
 mod MatchShapes
 pub mod UnitSteps
+pub mod Unwinding
 pub mod WideSteps

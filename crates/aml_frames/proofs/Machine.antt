@@ -1,5 +1,5 @@
 -- Steps of the machine: each keeps what the machine means.
-use Rattle.std.specs.Prelude.{◌≡◌, ℕ, ◌+◌, ◌-◌, ◌<◌, ◌≤◌, Bool, true, false, List, [], ◌∷◌, ◌++◌, length, Ok, Err, IfOk, IsErr, IsErrAnd, refl}
+use Rattle.std.specs.Prelude.{◌≡◌, ℕ, ◌+◌, ◌-◌, ◌<◌, ◌≤◌, Bool, true, false, List, [], ◌∷◌, ◌++◌, length, Ok, Err, OnOk, IfOk, IfErr, IsErr, IsErrAnd, refl}
 use Rattle.std.proofs.Common.{◌∙◌, ap, sym, arith}
 use Rattle.ar_space.specs.Accesses.{Accesses}
 use Rattle.ar_space.specs.declared.refusal.Refusal.{Refusal}
@@ -17,7 +17,9 @@ use Rattle.aml_meaning.specs.declared.flow.Flow.{Flow}
 use Rattle.aml_meaning.specs.declared.flow.Flow.TheVariants as flow
 use Rattle.aml_meaning.specs.State.{State}
 use Rattle.aml_meaning.specs.Run.{Run}
-use Rattle.aml_meaning.specs.Tasks.{Task, goes_on}
+use Rattle.aml_meaning.specs.PassedOver.{is_passable}
+use Rattle.aml_meaning.specs.Passing.{with_passed, item_done, passing}
+use Rattle.aml_meaning.specs.Tasks.{Task, passes_over, goes_on}
 use Rattle.aml_meaning.specs.Invocations.{left, returned_by, leaving}
 use Rattle.aml_frames.specs.declared.frames.Control.{Control}
 use Rattle.aml_frames.specs.declared.frames.Control.TheVariants as control
@@ -28,6 +30,7 @@ use Rattle.aml_frames.specs.declared.frames.Frame.{Frame}
 use Rattle.aml_frames.specs.declared.frames.Frame.TheVariants as frames
 use Rattle.aml_frames.specs.declared.frames.Loop.{Loop}
 use Rattle.aml_frames.specs.declared.frames.Items.{Items}
+use Rattle.aml_frames.specs.declared.frames.ListItem.{ListItem}
 use Rattle.aml_frames.specs.declared.frames.Next.{Next}
 use Rattle.aml_frames.specs.declared.frames.Package.{Package}
 use Rattle.aml_frames.specs.declared.frames.Next.TheVariants as next
@@ -41,13 +44,14 @@ use Rattle.aml_meaning.specs.declared.store_target.StoreTarget.{StoreTarget}
 use Rattle.aml_meaning.specs.declared.term_kind.Count.{Count}
 use Rattle.aml_frames.specs.Uses.{optional, target_ends, target_run, access_run}
 use Rattle.aml_meaning.specs.Meaning.{meaning}
-use Rattle.aml_frames.proofs.Stepping.{leads_goes_on, leads_goes_off, leads_item, leads_no_item, leads_end}
+use Rattle.aml_frames.proofs.PassedItems.{given_ok, never_refused, never_err, never_memory, refused_begun, refused_paid, refused_free, refused_met, access_enough, target_enough, four_enough, most_enough}
+use Rattle.aml_frames.proofs.Stepping.{leads_goes_on, leads_goes_off, leads_item, list_passing, leads_no_item, leads_end}
 use Rattle.aml_frames.proofs.Weighing.{charged_step, falling}
 use Rattle.aml_frames.specs.Places.{Site, behind_term}
 use Rattle.aml_frames.specs.Data.{package_run}
 use Rattle.aml_frames.specs.Follow.{at_position, ends, turn_items, read_access, term_run, items_run, list_run, all_left, body_run, resumed, next_run, next_ends, Leads}
 use Rattle.aml_frames.specs.Weights.{step_weight, charged}
-use Rattle.aml_frames.specs.Stack.{Rest, whole, met, unwinding, at_bottom, then_all, machine, Goes, entry_weight, stack_weight, control_weight}
+use Rattle.aml_frames.specs.Stack.{Rest, whole, frame_met, met, unwinding, at_bottom, then_all, machine, Goes, entry_weight, stack_weight, control_weight}
 
 -- ---- the newest entry meets the outcome first
 
@@ -67,6 +71,7 @@ any_site : {S : Type 0} (ac : Accesses S) (ev : Task → Run S Flow) (e : Refusa
 unfolding unwinding go_on
 any_site ac ev e [] k h c d s = h c d s
 any_site ac ev e (entry.Frame x ∷ xs) k h c d s = any_site ac ev e xs (met ac ev (entry.Frame x) k) (λ c d s. h (ends x c) (ends x d) s) c d s
+any_site ac ev e (entry.Item x ∷ xs) k h c d s = any_site ac ev e xs (met ac ev (entry.Item x) k) (λ c d s. refl) c d s
 any_site ac ev e (entry.Leave caller p ∷ xs) k h c d s = any_site ac ev e xs (met ac ev (entry.Leave caller p) k) (λ c d s. refl) c d s
 
 module _ {S : Type 0} (ac : Accesses S) (ev : Task → Run S Flow) where
@@ -81,6 +86,23 @@ module _ {S : Type 0} (ac : Accesses S) (ev : Task → Run S Flow) where
   at_leave : (m : Run S Flow) (a b : Site) (p : List Seg) (xs : List Entry) (s : State S × ℕ) → then_all ac ev m b (xs ++ entry.Leave a p ∷ []) s ≡ then_all ac ev (leaving p m) a xs s
   unfolding then_all leaving
   at_leave m a b p xs s = rw (unwinding_on ac ev xs (entry.Leave a p) (at_bottom ac ev)) refl
+
+  -- an item that may be passed over: a flow meets it as the list
+  at_item : (f : Flow) (c : Site) (xs : List Entry) (x : ListItem) (s : State S × ℕ) → machine ac ev (control.Flow f) c (xs ++ entry.Item x ∷ []) s ≡ machine ac ev (control.Flow f) c (xs ++ entry.Frame (frames.Items x.behind) ∷ []) s
+  unfolding then_all give
+  at_item f c xs x s = rw (unwinding_on ac ev xs (entry.Item x) (at_bottom ac ev), unwinding_on ac ev xs (entry.Frame (frames.Items x.behind)) (at_bottom ac ev)) refl
+
+  -- what is done first, and then the list behind the item, whose refusal may be passed over
+  item_given : (r : Outcome Flow) (t : State S × ℕ) (xs : List Entry) (x : ListItem) → met ac ev (entry.Item x) (unwinding ac ev xs (at_bottom ac ev)) (behind_term x.list x.behind.levels) r t
+      ≡ frame_met ac ev (frames.Items x.behind) (unwinding ac ev xs (at_bottom ac ev)) (behind_term x.list x.behind.levels) (item_done x.list.scope r t).0 (item_done x.list.scope r t).1
+  unfolding item_done
+  item_given (Ok f) t xs x = refl
+  item_given (Err e) t xs x = refl
+
+  at_item_passing : (m : Run S Flow) (xs : List Entry) (x : ListItem) (s : State S × ℕ) → then_all ac ev m (behind_term x.list x.behind.levels) (xs ++ entry.Item x ∷ []) s
+      ≡ then_all ac ev (passing x.list.scope m >>= resumed ac ev (frames.Items x.behind) (behind_term x.list x.behind.levels)) (at_position (behind_term x.list x.behind.levels) x.behind.outer) xs s
+  unfolding then_all ◌>>=◌ passing
+  at_item_passing m xs x s = rw (unwinding_on ac ev xs (entry.Item x) (at_bottom ac ev)) (item_given (m s).0 (m s).1 xs x)
 
 refused_first : {S : Type 0} (ac : Accesses S) (ev : Task → Run S Flow) (m : Run S Flow) (s s1 : State S × ℕ) (x : Refusal) (c : Site) (xs : List Entry) → m s ≡ stop x s1 → then_all ac ev m c xs s ≡ then_all ac ev (stop x) c xs s1
 unfolding then_all
@@ -164,6 +186,10 @@ module _ {S : Type 0} {ac : Accesses S} {ev : Task → Run S Flow} where
   unfolding then_all give leaving
   goes_leave {s = s} a b p xs f g h i = rw (h, i) (record { is = λ _. at_leave ac ev (give f) b a p xs s })
 
+  pub goes_item : {r : Outcome Control} {d : Site} {ys : List Entry} {s s1 : State S × ℕ} (c : Site) (xs : List Entry) (x : ListItem) (f : Flow) → Goes ac ev r d ys s1 (machine ac ev (control.Flow f) c (xs ++ entry.Frame (frames.Items x.behind) ∷ [])) s
+      → Goes ac ev r d ys s1 (machine ac ev (control.Flow f) c (xs ++ entry.Item x ∷ [])) s
+  goes_item {s = s} c xs x f h = record { is = λ ne. at_item ac ev f c xs x s ∙ h.is ne }
+
 module _ {S : Type 0} {ac : Accesses S} where
   -- ---- an item of a list is done
 
@@ -173,24 +199,14 @@ module _ {S : Type 0} {ac : Accesses S} where
 
 -- ---- the loop
 
-pub falls_popped : (n m : ℕ) (xs ys : List Entry) (y : Entry) (x : Control) (f : Flow) → n < m + (stack_weight ys + entry_weight y + 3) → xs ≡ ys ++ y ∷ [] → x ≡ control.Flow f → n < m + (stack_weight xs + control_weight x)
-falls_popped n m xs ys y x f h e i = rw (e, i, weight_on ys y) h
-
 pub empty_list : (xs : List Entry) → length xs ≡ 0 → xs ≡ []
 empty_list [] h = refl
 empty_list (x ∷ xs) h = absurd (cc h)
 
 module _ {S : Type 0} (ac : Accesses S) (ev : Task → Run S Flow) where
-  pub same_goes : {m : Run S Flow} {s0 s s1 : State S × ℕ} {d : Site} {ys : List Entry} (c : Site) (xs : List Entry) (x y : Control) → Same m s0 (machine ac ev x c xs) s → Goes ac ev (Ok y) d ys s1 (machine ac ev x c xs) s → Same m s0 (machine ac ev y d ys) s1
-  same_goes c xs x y h i = record { is = h.is ∙ i.is tt }
-
   pub does_ended : {m : Run S Flow} {s0 s : State S × ℕ} (c : Site) (xs : List Entry) (f : Flow) (x : Control) → Same m s0 (machine ac ev x c xs) s → x ≡ control.Flow f → xs ≡ [] → Does (Ok f) s m s0
   unfolding then_all unwinding give settle
   does_ended {s = s} c xs f x h i e = record { is = λ _. h.is ∙ ap (λ y. machine ac ev y c xs s) i ∙ ap (λ ys. then_all ac ev (give f) c ys s) e }
-
-  -- a refusal: each call that is being run ends
-  pub does_unwound : {m : Run S Flow} {e : Refusal} {s0 s s1 s2 : State S × ℕ} {d : Site} {ys : List Entry} (c : Site) (xs : List Entry) (x : Control) → Same m s0 (machine ac ev x c xs) s → Goes ac ev (Err e) d ys s1 (machine ac ev x c xs) s → then_all ac ev (stop e) d ys s1 ≡ (Err e, s2) → Does (Err e) s2 m s0
-  does_unwound c xs x h i u = record { is = λ ne. h.is ∙ i.is ne ∙ u }
 
   pub unwound_frame : (e : Refusal) (c : Site) (xs : List Entry) (x : Frame) (s : State S × ℕ) → then_all ac ev (stop e) c (xs ++ entry.Frame x ∷ []) s ≡ then_all ac ev (stop e) c xs s
   unwound_frame e c xs x s = passed ac ev e c xs x s (at_frame ac ev (stop e) c xs x s) ∙ stopped_anywhere ac ev e xs (ends x c) c s
@@ -198,6 +214,23 @@ module _ {S : Type 0} (ac : Accesses S) (ev : Task → Run S Flow) where
   pub unwound_leave : (e : Refusal) (a b : Site) (p : List Seg) (xs : List Entry) (s : State S × ℕ) → then_all ac ev (stop e) a (xs ++ entry.Leave b p ∷ []) s ≡ then_all ac ev (stop e) b xs (left p s.0, s.1)
   unfolding then_all stop leaving
   unwound_leave e a b p xs s = at_leave ac ev (stop e) b a p xs s
+
+  -- an item that isn't passed over
+  refused_by : (e : Refusal) (c : Site) (xs : List Entry) (x : ListItem) (s : State S × ℕ) → is_passable e ≡ false → then_all ac ev (stop e) c (xs ++ entry.Item x ∷ []) s ≡ then_all ac ev (stop e) (at_position (behind_term x.list x.behind.levels) x.behind.outer) xs s
+  unfolding then_all stop item_done go_on
+  refused_by e c xs x s fails = rw (unwinding_on ac ev xs (entry.Item x) (at_bottom ac ev)) (rw fails refl)
+
+  pub unwound_item : (e : Refusal) (c : Site) (xs : List Entry) (x : ListItem) (s : State S × ℕ) → is_passable e ≡ false → then_all ac ev (stop e) c (xs ++ entry.Item x ∷ []) s ≡ then_all ac ev (stop e) c xs s
+  unwound_item e c xs x s fails = refused_by e c xs x s fails ∙ stopped_anywhere ac ev e xs (at_position (behind_term x.list x.behind.levels) x.behind.outer) c s
+
+  -- and one that is
+  pub passed_on : (e : Refusal) (c : Site) (xs : List Entry) (x : ListItem) (s : State S × ℕ) → is_passable e ≡ true
+      → then_all ac ev (stop e) c (xs ++ entry.Item x ∷ []) s ≡ machine ac ev (control.Items x.behind) (behind_term x.list x.behind.levels) xs (with_passed x.list.scope e s.0, s.1)
+  unfolding then_all stop item_done go_on
+  passed_on e c xs x s holds = rw (unwinding_on ac ev xs (entry.Item x) (at_bottom ac ev)) (rw holds refl)
+
+  pub popped_item : (e : Refusal) (c : Site) (xs ys : List Entry) (x : ListItem) (y : Entry) (s : State S × ℕ) → xs ≡ ys ++ y ∷ [] → y ≡ entry.Item x → is_passable e ≡ false → then_all ac ev (stop e) c xs s ≡ then_all ac ev (stop e) c ys s
+  popped_item e c xs ys x y s h i fails = ap (λ zs. then_all ac ev (stop e) c zs s) (h ∙ ap (λ z. ys ++ z ∷ []) i) ∙ unwound_item e c ys x s fails
 
   pub popped_frame : (e : Refusal) (c : Site) (xs ys : List Entry) (x : Frame) (y : Entry) (s : State S × ℕ) → xs ≡ ys ++ y ∷ [] → y ≡ entry.Frame x → then_all ac ev (stop e) c xs s ≡ then_all ac ev (stop e) c ys s
   popped_frame e c xs ys x y s h i = ap (λ zs. then_all ac ev (stop e) c zs s) (h ∙ ap (λ z. ys ++ z ∷ []) i) ∙ unwound_frame e c ys x s
@@ -208,6 +241,17 @@ module _ {S : Type 0} (ac : Accesses S) (ev : Task → Run S Flow) where
   pub unwound_end : (e : Refusal) (c : Site) (xs : List Entry) (s : State S × ℕ) → xs ≡ [] → then_all ac ev (stop e) c xs s ≡ (Err e, s)
   unfolding then_all unwinding stop settle
   unwound_end e c xs s i = rw i refl
+
+never_passed : {S : Type 0} (c b : Site) (flag : Bool) (s : State S × ℕ) → b ≡ c → flag ≡ passes_over b.depth s.0.profile → flag ≡ false → passes_over c.depth s.0.profile ≡ false
+never_passed c b flag s same told fails = ap (λ a. passes_over a.depth s.0.profile) (sym same) ∙ (sym told ∙ fails)
+
+-- an item begins that may be passed over
+item_kept_is : {S : Type 0} (ac : Accesses S) (s : State S × ℕ) (c : Site) (xs : List Entry) (i : Items) (n : ℕ) → passes_over c.depth s.0.profile ≡ true → 0 < i.left → 0 < length c.place.rest → n ≡ i.left - 1
+    → machine ac (meaning ac) (control.Items i) c xs s ≡ machine ac (meaning ac) (control.Term i.levels) c (xs ++ entry.Item (record { list = c; behind = record { left = n; levels = i.levels; outer = i.outer } }) ∷ []) s
+unfolding then_all
+item_kept_is ac s c xs i n holds some more one =
+    let x : ListItem = record { list = c; behind = record { left = n; levels = i.levels; outer = i.outer } } in
+    sym (at_item_passing ac (meaning ac) (term_run ac (meaning ac) c i.levels) xs x s ∙ ap (λ r. unwinding ac (meaning ac) xs (at_bottom ac (meaning ac)) (at_position c i.outer) r.0 r.1) (sym (list_passing ac c i n s holds some more one)))
 
 module _ {S : Type 0} {ac : Accesses S} where
   -- the list goes on
@@ -224,27 +268,34 @@ module _ {S : Type 0} {ac : Accesses S} where
   item_over c d xs i over j = goes_leads (next.Flow flow.Next) d (at_position c i.outer) xs _ (leads_end c d i over) j (goes_flow flow.Next)
 
   -- an item begins, and the items behind it wait
-  item_waits : {s : State S × ℕ} (c : Site) (xs : List Entry) (i : Items) (n : ℕ) → 0 < i.left → 0 < length c.place.rest → n ≡ i.left - 1 → Goes ac (meaning ac) (Ok (control.Term i.levels)) c (xs ++ entry.Frame (frames.Items (record { left = n; levels = i.levels; outer = i.outer })) ∷ []) s (machine ac (meaning ac) (control.Items i) c xs) s
-  item_waits c xs i n some left one =
+  item_waits : {s : State S × ℕ} (c : Site) (xs : List Entry) (i : Items) (n : ℕ) → passes_over c.depth s.0.profile ≡ false → 0 < i.left → 0 < length c.place.rest → n ≡ i.left - 1 → Goes ac (meaning ac) (Ok (control.Term i.levels)) c (xs ++ entry.Frame (frames.Items (record { left = n; levels = i.levels; outer = i.outer })) ∷ []) s (machine ac (meaning ac) (control.Items i) c xs) s
+  item_waits c xs i n fails some left one =
       let x = frames.Items (record { left = n; levels = i.levels; outer = i.outer }) in
-      goes_leads (next.Term i.levels x) c (at_position c i.outer) xs _ (leads_item c i n some left one) refl (goes_term xs _ i.levels x refl)
+      goes_leads (next.Term i.levels x) c (at_position c i.outer) xs _ (leads_item c i n fails some left one) refl (goes_term xs _ i.levels x refl)
+
+  pub item_kept : {s : State S × ℕ} (r : Outcome Control) (c b d : Site) (xs ys : List Entry) (i : Items) (n : ℕ) (flag : Bool) → flag ≡ passes_over b.depth s.0.profile → flag ≡ true → 0 < i.left → 0 < length c.place.rest → n ≡ i.left - 1 → b ≡ c
+      → OnOk r (d ≡ b) → OnOk r (ys ≡ xs ++ entry.Item (record { list = b; behind = record { left = n; levels = i.levels; outer = i.outer } }) ∷ []) → IfOk r (λ x. x ≡ control.Term i.levels) → IfErr r (λ e. e ≡ OutOfMemory)
+      → Goes ac (meaning ac) r d ys s (machine ac (meaning ac) (control.Items i) c xs) s
+  item_kept {s = s} (Ok x) c b d xs ys i n flag told holds some left one same at pushed next memory =
+      rw (next, pushed, at, same) (record { is = λ _. item_kept_is ac s c xs i n (ap (λ a. passes_over a.depth s.0.profile) (sym same) ∙ (sym told ∙ holds)) some left one })
+  item_kept (Err e) c b d xs ys i n flag told holds some left one same at pushed next memory = record { is = λ ne. absurd (ne memory) }
 
   goes_then : {m : Run S Flow} {r : Outcome Control} {d e : Site} {ys zs : List Entry} {s s1 s2 : State S × ℕ} (x : Control) → Goes ac (meaning ac) (Ok x) d ys s1 m s → Goes ac (meaning ac) r e zs s2 (machine ac (meaning ac) x d ys) s1 → Goes ac (meaning ac) r e zs s2 m s
   goes_then x h i = record { is = λ ne. h.is tt ∙ i.is ne }
 
-  pub item_next : {r : Outcome Control} {e : Site} {ys : List Entry} {s s1 s2 : State S × ℕ} (x : Next) (c b d : Site) (xs : List Entry) (i : Items) (n : ℕ) → 0 < i.left → 0 < length c.place.rest → n ≡ i.left - 1 → Leads ac (meaning ac) (Ok x) d s1 (term_run ac (meaning ac) b i.levels) s → b ≡ c → next_ends x d ≡ behind_term b i.levels
+  pub item_next : {r : Outcome Control} {e : Site} {ys : List Entry} {s s1 s2 : State S × ℕ} (x : Next) (c b d : Site) (xs : List Entry) (i : Items) (n : ℕ) (flag : Bool) → flag ≡ passes_over b.depth s.0.profile → flag ≡ false → 0 < i.left → 0 < length c.place.rest → n ≡ i.left - 1 → Leads ac (meaning ac) (Ok x) d s1 (term_run ac (meaning ac) b i.levels) s → b ≡ c → next_ends x d ≡ behind_term b i.levels
       → Goes ac (meaning ac) r e ys s2 (then_all ac (meaning ac) (next_run ac (meaning ac) x d) (next_ends x d) (xs ++ entry.Frame (frames.Items (record { left = n; levels = i.levels; outer = i.outer })) ∷ [])) s1
       → Goes ac (meaning ac) r e ys s2 (machine ac (meaning ac) (control.Items i) c xs) s
-  item_next x c b d xs i n some left one l same ends g =
+  item_next {s = s} x c b d xs i n flag told fails some left one l same ends g =
       let ys = xs ++ entry.Frame (frames.Items (record { left = n; levels = i.levels; outer = i.outer })) ∷ [] in
-      goes_then (control.Term i.levels) (item_waits c xs i n some left one) (goes_leads x d (behind_term c i.levels) ys _ (rw same at l) (rw same at ends) g)
+      goes_then (control.Term i.levels) (item_waits c xs i n (never_passed c b flag s same told fails) some left one) (goes_leads x d (behind_term c i.levels) ys _ (rw same at l) (rw same at ends) g)
 
   -- an item that is refused passes the items behind it
-  pub item_refused : {e : Refusal} {r : Outcome Control} {s s1 : State S × ℕ} (c b d : Site) (xs : List Entry) (i : Items) → 0 < i.left → 0 < length c.place.rest → Leads ac (meaning ac) (Err e) d s1 (term_run ac (meaning ac) b i.levels) s → b ≡ c → IsErr r × IsErrAnd r (λ x. x ≡ e) → Goes ac (meaning ac) r d xs s1 (machine ac (meaning ac) (control.Items i) c xs) s
-  item_refused {r = Ok y} c b d xs i some left l same h = absurd (cc h.0)
-  item_refused {r = Err y} {s1 = s1} c b d xs i some left l same h =
+  pub item_refused : {e : Refusal} {r : Outcome Control} {s s1 : State S × ℕ} (c b d : Site) (xs : List Entry) (i : Items) (flag : Bool) → flag ≡ passes_over b.depth s.0.profile → flag ≡ false → 0 < i.left → 0 < length c.place.rest → Leads ac (meaning ac) (Err e) d s1 (term_run ac (meaning ac) b i.levels) s → b ≡ c → IsErr r × IsErrAnd r (λ x. x ≡ e) → Goes ac (meaning ac) r d xs s1 (machine ac (meaning ac) (control.Items i) c xs) s
+  item_refused {r = Ok y} c b d xs i flag told fails some left l same h = absurd (cc h.0)
+  item_refused {r = Err y} {s = s} {s1 = s1} c b d xs i flag told fails some left l same h =
       let x = frames.Items (record { left = i.left - 1; levels = i.levels; outer = i.outer }) in
-      let g = goes_then {r = Err y} (control.Term i.levels) (item_waits c xs i (i.left - 1) some left refl) (goes_leads_err d (behind_term c i.levels) (xs ++ entry.Frame x ∷ []) _ (rw same at l) h) in
+      let g = goes_then {r = Err y} (control.Term i.levels) (item_waits c xs i (i.left - 1) (never_passed c b flag s same told fails) some left refl) (goes_leads_err d (behind_term c i.levels) (xs ++ entry.Frame x ∷ []) _ (rw same at l) h) in
       record { is = λ ne. g.is ne ∙ unwound_frame ac (meaning ac) y d xs x s1 }
 
 -- an item pays a step, and the items behind it may wait
@@ -257,11 +308,19 @@ pub falls_done : (r : Outcome Control) (a x y : ℕ) → IfOk r (λ c. x + contr
 falls_done (Ok c) a x y h = omega (arith, h)
 falls_done (Err z) a x y h = tt
 
-pub ruleset listing_on = (weight_on, falls_item, falls_done, item_last, item_on, item_none, item_over, item_next, item_refused, goes_memory)
+-- an item that may be passed over begins
+pub falls_kept : (r : Outcome Control) (a levels : ℕ) (xs ys : List Entry) (x : ListItem) → OnOk r (ys ≡ xs ++ entry.Item x ∷ []) → IfOk r (λ c. c ≡ control.Term levels) → IfOk r (λ c. charged a + (stack_weight ys + control_weight c) < charged a + (stack_weight xs + 4))
+falls_kept (Ok c) a levels xs ys x pushed next =
+    let k = ap stack_weight pushed ∙ weight_on xs (entry.Item x) in
+    let none : control_weight c ≡ 0 = ap control_weight next in
+    omega (arith, k, none)
+falls_kept (Err e) a levels xs ys x pushed next = tt
 
-pub ruleset going = (weight_on, goes_flow, goes_items, goes_package, goes_term, goes_turn, goes_scope, goes_body, goes_body_then, goes_target, goes_division, goes_found, goes_read, goes_counted, goes_access_then, goes_flow_then, goes_memory)
+pub ruleset listing_on = (falls_kept, weight_on, falls_item, falls_done, item_last, item_on, item_none, item_over, item_next, item_refused, item_kept, given_ok, never_refused, never_err, never_memory, refused_begun, goes_memory)
 
-pub ruleset taking = (falling, goes_leads, goes_leads_err, goes_frame, goes_leave, goes_memory)
+pub ruleset going = (never_refused, weight_on, goes_flow, goes_items, goes_package, goes_term, goes_turn, goes_scope, goes_body, goes_body_then, goes_target, goes_division, goes_found, goes_read, goes_counted, goes_access_then, goes_flow_then, goes_memory)
+
+pub ruleset taking = (falling, goes_leads, goes_leads_err, goes_frame, goes_item, goes_leave, goes_memory, never_err, never_memory, refused_paid, refused_free, refused_met, access_enough, target_enough, four_enough, most_enough)
 
 -- ---- a call
 

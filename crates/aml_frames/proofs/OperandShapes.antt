@@ -10,7 +10,7 @@ use Rattle.aml_grammar.specs.Grammar.{is_if, is_nothing, kinds_of}
 use Rattle.aml_grammar.specs.Shape.{parts_of}
 use Rattle.aml_grammar.specs.Table.{table}
 use Rattle.aml_grammar.specs.Tree.{term, Part, name, number, bytes, inner, list, no_parts, part}
-use Rattle.aml_marked.specs.Marked.{Place, Below, Walk, to_part, list_part, over, after, gives, inside, an_operand, all_operands, of_row, with_row, a_name, a_target, a_super_name, all_items, all_left, a_text, an_integer, maybe_else}
+use Rattle.aml_marked.specs.Marked.{Place, Below, Walk, to_part, list_part, over, after, gives, inside, an_operand, all_operands, of_row, with_row, a_name, a_target, a_super_name, all_items, fields_left, all_left, a_text, an_integer, maybe_else}
 use Rattle.aml_scan.specs.RowsAt.{row_at}
 use Rattle.aml_scan.specs.declared.row_places.RowPlace.{RowPlace}
 use Rattle.aml_meaning.specs.declared.term_kind.TermKind.{TermKind}
@@ -24,7 +24,7 @@ use Rattle.aml_meaning.specs.declared.term_kind.WideKind.TheVariants as wide
 use Rattle.aml_meaning.specs.declared.store_target.TargetKind.{TargetKind}
 use Rattle.aml_meaning.specs.declared.store_target.TargetKind.TheVariants as target
 use Rattle.aml_meaning.specs.Terms.{kind_of, target_kind}
-use Rattle.aml_frames.specs.Operands.{elements_at, behind_one, behind_two, inside_at, outside_at, items_at, row_kind}
+use Rattle.aml_frames.specs.Operands.{bank_at, elements_at, behind_one, behind_two, inside_at, outside_at, items_at, row_kind}
 use Rattle.aml_frames.specs.Declarations.{datum_at, scope_at, power_resource_at, processor_at}
 use Rattle.aml_frames.specs.RegionTerms.{behind_space, region_at, sized_field_at, bits_field_at}
 
@@ -36,6 +36,7 @@ is_argument kinds.DataObject = true
 is_argument _ = false
 
 abbrev is_name : OperandKind → Bool
+is_name kinds.NameString = true
 is_name kinds.ScopeName = true
 is_name kinds.DeclaredName = true
 is_name _ = false
@@ -84,6 +85,10 @@ is_byte_list _ = false
 abbrev is_element_list : OperandKind → Bool
 is_element_list kinds.PackageElementList = true
 is_element_list _ = false
+
+abbrev is_field_list : OperandKind → Bool
+is_field_list kinds.FieldList = true
+is_field_list _ = false
 
 -- operands behind the opcode, without an Else behind them
 abbrev pub is_plain : Row → Bool
@@ -136,6 +141,7 @@ fits (term.Wide wide.Mid) row = is_plain row and is_argument row.3.0 and is_argu
 fits (term.Wide wide.Match) row = is_plain row and is_argument row.3.0 and is_byte row.3.1 and is_argument row.3.2 and is_byte row.3.3 and is_argument row.3.4 and is_argument row.3.5
 fits (term.Wide (wide.Event k)) row = is_plain row and is_super row.3.0 and is_nothing row.3.1
 fits (term.Wide wide.Wait) row = is_plain row and is_super row.3.0 and is_argument row.3.1 and is_nothing row.3.2
+fits (term.Wide wide.BankField) row = row.2 and opposite (is_if row.0) and is_name row.3.0 and is_name row.3.1 and is_argument row.3.2 and is_byte row.3.3 and is_field_list row.3.4 and is_nothing row.3.5
 fits _ row = true
 
 -- ---- every row has the operands of its kind
@@ -179,6 +185,7 @@ module _ (b : Below) where
 
   name_reads : (k : OperandKind) → is_name k ≡ true → Reads k (to_part name a_name)
   unfolding an_operand
+  name_reads kinds.NameString e = record { some = refl; is = refl }
   name_reads kinds.ScopeName e = record { some = refl; is = refl }
   name_reads kinds.DeclaredName e = record { some = refl; is = refl }
   name_reads _ e = absurd (cc e)
@@ -214,6 +221,11 @@ module _ (b : Below) where
   unfolding an_operand
   element_list_reads kinds.PackageElementList e = record { some = refl; is = refl }
   element_list_reads _ e = absurd (cc e)
+
+  field_list_reads : (k : OperandKind) → is_field_list k ≡ true → Reads k (to_part list_part (fields_left b))
+  unfolding an_operand
+  field_list_reads kinds.FieldList e = record { some = refl; is = refl }
+  field_list_reads _ e = absurd (cc e)
 
   pub byte_reads : (k : OperandKind) → is_byte k ≡ true → Reads k (to_part number (an_integer 1))
   unfolding an_operand
@@ -385,6 +397,11 @@ module _ (b : Below) where
       → with_row b (Some row) p ≡ (term (codes.Opcode row.0) (processor_at b p), outside_at p)
   a_processor row p f = let x = both _ _ f in let u = both _ _ x.1 in let y = both _ _ u.1 in let z = both _ _ y.1 in let v = both _ _ z.1 in let w = both _ _ v.1 in let t = both _ _ w.1 in
       packed_row row p x.0 (not_true _ u.0) ∙ rw (then_five _ _ (inside_at p) (name_reads row.3.0 y.0) (byte_reads row.3.1 z.0) (dword_reads row.3.2 v.0) (byte_reads row.3.3 w.0) (list_reads row.3.4 t.0) t.1) refl
+
+  pub a_bank : (row : Row) (p : Place) → (row.2 and opposite (is_if row.0) and is_name row.3.0 and is_name row.3.1 and is_argument row.3.2 and is_byte row.3.3 and is_field_list row.3.4 and is_nothing row.3.5) ≡ true
+      → with_row b (Some row) p ≡ (term (codes.Opcode row.0) (bank_at b p), outside_at p)
+  a_bank row p f = let x = both _ _ f in let u = both _ _ x.1 in let y = both _ _ u.1 in let z = both _ _ y.1 in let v = both _ _ z.1 in let w = both _ _ v.1 in let t = both _ _ w.1 in
+      packed_row row p x.0 (not_true _ u.0) ∙ rw (then_five _ _ (inside_at p) (name_reads row.3.0 y.0) (name_reads row.3.1 z.0) (argument_reads row.3.2 v.0) (byte_reads row.3.3 w.0) (field_list_reads row.3.4 t.0) t.1) refl
 
   pub a_region : (row : Row) (p : Place) → (is_plain row and is_name row.3.0 and is_byte row.3.1 and is_argument row.3.2 and is_argument row.3.3 and is_nothing row.3.4) ≡ true
       → with_row b (Some row) p ≡ (term (codes.Opcode row.0) (region_at b p), behind_two b (behind_space p))

@@ -37,6 +37,7 @@ use Rattle.aml_meaning.specs.OperatorTerms.{store_rule, copy_rule, two_rule, div
 use Rattle.aml_meaning.specs.StatementTerms.{if_rule, else_rule, while_rule, return_rule, release_rule, notify_rule, pause_rule, fatal_rule, statement_rule}
 use Rattle.aml_meaning.specs.declared.term_kind.WideKind.{WideKind}
 use Rattle.aml_meaning.specs.declared.term_kind.WideKind.TheVariants as wides
+use Rattle.aml_meaning.specs.BankTerms.{bank_list_rule}
 use Rattle.aml_meaning.specs.WideTerms.{in_wide, formed_at, convert_rule, to_string_rule, middle_rule, event_rule, wait_rule, wide_rule}
 use Rattle.aml_meaning.specs.MatchTerms.{match_rule}
 use Rattle.aml_meaning.specs.Evaluation.{kind_rule, code_rule}
@@ -44,7 +45,7 @@ use Rattle.aml_frames.specs.Declarations.{datum_at, scope_at, power_resource_at,
 use Rattle.aml_frames.specs.RegionTerms.{behind_space, region_at, sized_field_at, bits_field_at, region_tree, behind_region}
 use Rattle.aml_frames.specs.Operands.{row_kind, behind_one, behind_two, outside_at, text_at, buffer_at, package_at, var_package_at, operator_parts, behind_operator, statement_parts, behind_statement, wide_parts, behind_wide, operator_tree, statement_tree, wide_tree, data_tree, behind_data}
 use Rattle.aml_frames.proofs.MatchShapes.{a_match}
-use Rattle.aml_frames.proofs.OperandShapes.{stands, no_operand, an_argument, a_super, argument_super, argument_target, two_arguments, arguments_target, arguments_targets, three_arguments_target, super_word, super_target, super_argument, numbers_argument, an_if, an_else_row, a_while, a_string, a_buffer, a_package, a_var_package, a_datum, a_scope, a_power_resource, a_processor, a_region, a_sized_field, a_bits_field, code_stands}
+use Rattle.aml_frames.proofs.OperandShapes.{a_bank, stands, no_operand, an_argument, a_super, argument_super, argument_target, two_arguments, arguments_target, arguments_targets, three_arguments_target, super_word, super_target, super_argument, numbers_argument, an_if, an_else_row, a_while, a_string, a_buffer, a_package, a_var_package, a_datum, a_scope, a_power_resource, a_processor, a_region, a_sized_field, a_bits_field, code_stands}
 
 -- ---- the operands of a term by its kind
 
@@ -93,6 +94,7 @@ wide_shape b wides.Mid o p e = let x = stands (kinds.Wide wides.Mid) o e (λ h. 
 wide_shape b wides.Match o p e = let x = stands (kinds.Wide wides.Match) o e (λ h. absurd (cc h)) in shaped x.0 x.1.0 (a_match b x.0 p x.1.1)
 wide_shape b (wides.Event k) o p e = let x = stands (kinds.Wide (wides.Event k)) o e (λ h. absurd (cc h)) in shaped x.0 x.1.0 (a_super b x.0 p x.1.1)
 wide_shape b wides.Wait o p e = let x = stands (kinds.Wide wides.Wait) o e (λ h. absurd (cc h)) in shaped x.0 x.1.0 (super_argument b x.0 p x.1.1)
+wide_shape b wides.BankField o p e = let x = stands (kinds.Wide wides.BankField) o e (λ h. absurd (cc h)) in shaped x.0 x.1.0 (a_bank b x.0 p x.1.1)
 
 constant_shape : (b : Below) (n : ℕ) (o : RowPlace) (p : Place) → row_kind (row_at o) ≡ kinds.Data (datas.Constant n) → Shape b o p no_parts p
 constant_shape b n o p e = let x = stands (kinds.Data (datas.Constant n)) o e (λ h. absurd (cc h)) in shaped x.0 x.1.0 (no_operand b x.0 p x.1.1)
@@ -226,13 +228,14 @@ module _ {S : Type 0} (accesses : Accesses S) (ev : Task → Run S Flow) (scope 
   same_statement statements.Fatal ps = refl
 
   pub same_wide : (k : WideKind) (ps : Parts) → wide_rule accesses ev k scope depth (term c ps) ≡ wide_rule accesses ev k scope depth (term d ps)
-  unfolding convert_rule to_string_rule middle_rule match_rule event_rule wait_rule formed_at value_at two_values targeted name_target
+  unfolding convert_rule to_string_rule middle_rule match_rule event_rule wait_rule bank_list_rule formed_at value_at two_values targeted name_target
   same_wide (wides.Convert k) ps = refl
   same_wide wides.ToString ps = refl
   same_wide wides.Mid ps = refl
   same_wide wides.Match ps = refl
   same_wide (wides.Event k) ps = refl
   same_wide wides.Wait ps = refl
+  same_wide wides.BankField ps = refl
 
 -- ---- a term whose opcode was read
 

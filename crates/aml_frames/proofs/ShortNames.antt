@@ -5,7 +5,8 @@ use Rattle.std.proofs.lemmas.Bool.{eqb-true}
 use Rattle.ar_space.specs.declared.refusal.Refusal.{Refusal}
 use Rattle.ar_space.specs.Accesses.{Accesses}
 use Rattle.ar_space.specs.Outcome.{Outcome, seen}
-use Rattle.ar_space.specs.Change.{Change, Does, give, settle, go_on, ◌>>=◌, does_ok, does_err, does_give}
+use Rattle.ar_space.specs.Change.{Change, Does, give, settle, go_on, ◌>>=◌}
+use Rattle.ar_space.proofs.Changes.{does_ok, does_err, does_give}
 use Rattle.aml_path.specs.declared.segment.Seg.{Seg}
 use Rattle.aml_path.specs.declared.name.Prefix.TheVariants.{Parents}
 use Rattle.aml_path.specs.Characters.{is_lead_name_char, is_name_char, is_segment}

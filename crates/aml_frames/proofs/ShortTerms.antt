@@ -8,7 +8,8 @@ use Rattle.ar_space.specs.declared.refusal.Refusal.TheVariants as refusal
 use Rattle.ar_space.specs.declared.refusal.EvaluationFault.TheVariants.{OutOfSteps}
 use Rattle.ar_space.specs.Accesses.{Accesses}
 use Rattle.ar_space.specs.Outcome.{Outcome, NotMemory}
-use Rattle.ar_space.specs.Change.{Does, does_ok, does_give, settle, go_on, ◌>>=◌}
+use Rattle.ar_space.specs.Change.{Does, settle, go_on, ◌>>=◌}
+use Rattle.ar_space.proofs.Changes.{does_ok, does_give}
 use Rattle.aml_path.specs.declared.segment.Seg.{Seg}
 use Rattle.aml_grammar.specs.declared.opcode.Opcode.{Opcode}
 use Rattle.aml_grammar.specs.declared.opcode.TermCode.TheVariants as codes

@@ -28,7 +28,8 @@ use Rattle.aml_meaning.specs.Run.{Run, lift, charge}
 use Rattle.aml_meaning.specs.Readings.{value_in, integer_in}
 use Rattle.aml_grammar.specs.declared.kinds.Row.{Row}
 use Rattle.aml_meaning.specs.Terms.{inner_of, else_of, kind_of}
-use Rattle.aml_meaning.specs.Tasks.{Task, operand_value, operand_integer, value_at, in_turn, goes_on, after_item}
+use Rattle.aml_meaning.specs.Passing.{passing}
+use Rattle.aml_meaning.specs.Tasks.{Task, operand_value, operand_integer, value_at, item, in_turn, passes_over, goes_on, after_item}
 use Rattle.aml_grammar.specs.declared.marks.Mark.{Mark}
 use Rattle.aml_meaning.specs.InvocationTerms.{arguments_in_turn}
 use Rattle.aml_meaning.specs.Invocations.{leaving}
@@ -40,7 +41,7 @@ use Rattle.aml_meaning.specs.StatementTerms.{statement_rule, if_rule, else_rule,
 use Rattle.aml_meaning.proofs.Runs.{running, does_lift}
 use Rattle.aml_meaning.proofs.Meanings.{meaning_is}
 use Rattle.aml_meaning.proofs.Loops.{loop_is}
-use Rattle.aml_frames.specs.declared.activation.Position.{Position}
+use Rattle.aml_frames.specs.declared.position.Position.{Position}
 use Rattle.aml_frames.specs.declared.frames.Call.{Call}
 use Rattle.aml_frames.specs.declared.frames.Frame.{Frame}
 use Rattle.aml_frames.specs.declared.frames.Frame.TheVariants as frames
@@ -52,6 +53,7 @@ use Rattle.aml_frames.specs.Places.{Site, at_place, terms, next_term, behind_ter
 use Rattle.aml_frames.specs.Operands.{inside_at, outside_at, behind_one, items_at, row_kind, operator_tree, statement_tree}
 use Rattle.aml_frames.specs.Data.{data_run, behind_data_at}
 use Rattle.aml_frames.specs.Follow.{called, arguments_left, behind_arguments, place_of, branch_at, statement_run, behind_statement_at, behind_operator_at, behind_coded, term_run, items_run, loop_site, loop_list, loop_again, turn_left, resumed, ends, Leads, EndsAt}
+use Rattle.aml_frames.proofs.PassedItems.{refused_item, passed_item, then_same}
 use Rattle.aml_frames.proofs.RuleShapes.{operator_is, statement_is, data_is, behind_operator_is, behind_statement_is, behind_data_is}
 
 -- ---- one after another, and then another: brackets make no difference
@@ -119,6 +121,14 @@ ends_no_argument c k none = ap (λ (x : List Tree × Place). at_place c x.1) (sy
 
 pub ends_in_call : (r : Outcome Next) (c d : Site) (k : Call) → k.left ≡ 0 → EndsAt r d c → EndsAt r d (behind_arguments k c)
 ends_in_call r c d k none h = subst (EndsAt r d) (ends_no_argument c k none) h
+
+-- a list whose items may be passed over
+pub list_passing : {S : Type 0} (ac : Accesses S) (c : Site) (i : Items) (n : ℕ) (s : State S × ℕ) → passes_over c.depth s.0.profile ≡ true → 0 < i.left → 0 < length c.place.rest → n ≡ i.left - 1
+    → items_run ac (meaning ac) i c s ≡ (passing c.scope (term_run ac (meaning ac) c i.levels) >>= resumed ac (meaning ac) (frames.Items (record { left = n; levels = i.levels; outer = i.outer })) (behind_term c i.levels)) s
+unfolding in_turn
+list_passing ac c i n s holds some left e =
+    rw (e, ap (λ (x : List Tree × Place). trees_of x.0) (one_more (terms c i.levels false) i.left c.place some left))
+    (then_same (item (meaning ac) c.scope c.depth (next_term c i.levels)) (passing c.scope (term_run ac (meaning ac) c i.levels)) _ s (passed_item (meaning ac) c.scope c.depth (next_term c i.levels) s holds))
 
 module _ {S : Type 0} {ac : Accesses S} where
   -- ---- what a chain is made of, as for `Does`
@@ -222,9 +232,13 @@ module _ {S : Type 0} {ac : Accesses S} where
 
   -- ---- lists
 
-  pub leads_item : {s : State S × ℕ} (c : Site) (i : Items) (n : ℕ) → 0 < i.left → 0 < length c.place.rest → n ≡ i.left - 1 → Leads ac (meaning ac) (Ok (next.Term i.levels (frames.Items (record { left = n; levels = i.levels; outer = i.outer })))) c s (items_run ac (meaning ac) i c) s
+  pub leads_item : {s : State S × ℕ} (c : Site) (i : Items) (n : ℕ) → passes_over c.depth s.0.profile ≡ false → 0 < i.left → 0 < length c.place.rest → n ≡ i.left - 1 → Leads ac (meaning ac) (Ok (next.Term i.levels (frames.Items (record { left = n; levels = i.levels; outer = i.outer })))) c s (items_run ac (meaning ac) i c) s
   unfolding in_turn
-  leads_item c i n some left e = rw e (record { is = λ _. rw (ap (λ (x : List Tree × Place). trees_of x.0) (one_more (terms c i.levels false) i.left c.place some left)) refl })
+  leads_item {s = s} c i n fails some left e = rw e (record {
+    is = λ _.
+        rw (ap (λ (x : List Tree × Place). trees_of x.0) (one_more (terms c i.levels false) i.left c.place some left))
+        (then_same (item (meaning ac) c.scope c.depth (next_term c i.levels)) (term_run ac (meaning ac) c i.levels) _ s (refused_item (meaning ac) c.scope c.depth (next_term c i.levels) s fails));
+  })
 
   pub leads_no_item : {s : State S × ℕ} (c d : Site) (i : Items) → i.left ≡ 0 → Leads ac (meaning ac) (Ok (next.Flow flow.Next)) d s (items_run ac (meaning ac) i c) s
   unfolding in_turn
@@ -308,6 +322,6 @@ pub ruleset calls = (stepping, leads_argument, leads_no_argument, leads_body, en
 
 pub ruleset elses = (stepping, leads_else, ends_else)
 
-pub ruleset listing = (stepping, leads_item, leads_no_item, leads_end, leads_goes_on, leads_goes_off)
+pub ruleset listing = (stepping, leads_no_item, leads_end, leads_goes_on, leads_goes_off)
 
 pub ruleset looping = (stepping, leads_loop, leads_while, leads_turn, leads_no_turn, leads_again, leads_ended)

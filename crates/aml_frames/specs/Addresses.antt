@@ -1,11 +1,14 @@
 -- Accesses of fields of regions, and the addresses that they ask for (ACPI 6.5, 5.5.2.4, 6.1.1, 6.5.5 and 6.5.6): a region of PCI_Config
 -- lies in the registers of a function, whose segment group, bus and address are asked for in this order, and behind the bus the address
 -- of each bridge above it.
-use Rattle.std.specs.Prelude.{◌≡◌, ℕ, List, [], ◌∷◌, ◌++◌, Ok, Err}
+use Rattle.std.specs.Prelude.{◌≡◌, ℕ, List, [], ◌∷◌, ◌++◌, Option, Some, None, Ok, Err}
 use Rattle.ar_space.specs.Accesses.{Accesses}
 use Rattle.ar_space.specs.Outcome.{Outcome, NotMemory}
 use Rattle.ar_space.specs.Change.{give, stop, settle, ◌>>=◌}
 use Rattle.aml_path.specs.declared.segment.Seg.{Seg}
+use Rattle.aml_objects.specs.declared.entry.Bank.{Bank}
+use Rattle.aml_objects.specs.declared.entry.FieldUnit.{FieldUnit}
+use Rattle.aml_objects.specs.declared.entry.OperationRegion.{OperationRegion}
 use Rattle.aml_fields.specs.declared.region.AddressSpace.{AddressSpace}
 use Rattle.aml_fields.specs.declared.region.Region.{Region}
 use Rattle.aml_fields.specs.Regions.{read_field, write_field}
@@ -18,7 +21,7 @@ use Rattle.aml_meaning.specs.Run.{Run, lift}
 use Rattle.aml_meaning.specs.Tasks.{Task}
 use Rattle.aml_meaning.specs.PciFunctions.{adr, segment_group, base_bus}
 use Rattle.aml_meaning.specs.Bridges.{bridges_above, secondary_bus}
-use Rattle.aml_meaning.specs.Regions.{integer_only, pci_space}
+use Rattle.aml_meaning.specs.Regions.{space_numbered, integer_only, pci_space, region_declared, field_declared}
 use Rattle.aml_meaning.specs.Fields.{inherited, bus_behind_all, pci_address, space_at, field_part}
 use Rattle.aml_meaning.specs.Invocations.{value_of_call}
 use Rattle.aml_meaning.specs.FieldCalls.{method_integer}
@@ -30,8 +33,10 @@ use Rattle.aml_frames.specs.declared.addresses.Waited.{Waited}
 use Rattle.aml_frames.specs.declared.addresses.Waited.TheVariants as waits
 use Rattle.aml_frames.specs.declared.addresses.PciAccess.{PciAccess}
 use Rattle.aml_frames.specs.declared.addresses.RegionAccess.{RegionAccess}
+use Rattle.aml_frames.specs.declared.banked.Selector.{Selector}
 use Rattle.aml_frames.specs.declared.uses.Doing.{Doing}
 use Rattle.aml_frames.specs.declared.uses.Doing.TheVariants as doing
+use Rattle.aml_frames.specs.Banked.{field_at, units_done}
 use Rattle.aml_frames.specs.Uses.{asking, read_as}
 
 module _ {S : Type 0} (accesses : Accesses S) where
@@ -44,16 +49,21 @@ module _ {S : Type 0} (accesses : Accesses S) where
     done ← lift (on_space (write_field accesses x f.unit bytes))
     give flow.Next
 
+module _ {S : Type 0} (accesses : Accesses S) (ev : Task → Run S Flow) where
+  -- what is done with a field of a region that was found, or of a bank of it
+  abbrev pub located_done : Option Selector → RegionAccess → Region → Run S Flow
+  located_done None a x = done_in accesses a.doing a.field x
+  located_done (Some bank) a x = units_done accesses ev (field_at a.calls bank x a.field.unit) a.doing
+
   -- the address space of the region is known
   abbrev pub space_known : RegionAccess → AddressSpace → Run S Flow
-  space_known a space = done_in a.doing a.field (record { space = space; offset = a.offset; length = a.length })
+  space_known a space = located_done a.bank a (record { space = space; offset = a.offset; length = a.length })
 
-module _ {S : Type 0} (accesses : Accesses S) (ev : Task → Run S Flow) where
   -- an access, with the device in whose registers its region lies
   unfoldable pub function_known : RegionAccess → ℕ → ℕ → ℕ → Run S Flow
   function_known a seg bus address = do
     space ← settle (pci_space seg bus address)
-    space_known accesses a space
+    space_known a space
 
   unfoldable pub bus_known : RegionAccess → List Seg → ℕ → ℕ → Run S Flow
   bus_known a device seg bus = do
@@ -97,12 +107,22 @@ module _ {S : Type 0} (accesses : Accesses S) (ev : Task → Run S Flow) where
   abbrev pub space_run : RegionAccess → RegionSpace → List Seg → Run S Flow
   space_run a kind scope = do
     space ← space_at accesses (asking accesses ev a.calls) kind scope
-    space_known accesses a space
+    space_known a space
 
   abbrev pub pci_run : RegionAccess → List Seg → Run S Flow
   pci_run a scope = do
     space ← pci_address accesses (asking accesses ev a.calls) scope
-    space_known accesses a space
+    space_known a space
+
+  -- a field of a bank of the region with the number of a declaration
+  abbrev pub bank_access : ℕ → ℕ → Selector → FieldUnit → Doing → OperationRegion → RegionAccess
+  bank_access calls n bank f d r = record { calls = calls; field = record { region = n; unit = f }; bank = Some bank; offset = r.offset; length = r.length; doing = d }
+
+  abbrev pub banked_done : ℕ → ℕ → Bank → FieldUnit → Doing → Run S Flow
+  banked_done calls n b f d = do
+    bank ← lift (field_declared b.field)
+    r ← lift (region_declared n)
+    space_run (bank_access calls n (record { field = bank; value = b.value }) f d r.1) (space_numbered r.1.space) r.0
 
   -- the part of the address that was asked for is known
   abbrev pub part_by : AddressPart → RegionAccess → List Seg → List (List Seg) → ℕ → Run S Flow

@@ -16,7 +16,7 @@ use Rattle.aml_meaning.specs.Run.{Run, lift, charge}
 use Rattle.aml_meaning.specs.NewObjects.{new_package}
 use Rattle.aml_meaning.specs.Tasks.{Task}
 use Rattle.aml_meaning.specs.DataTerms.{data_rule, string_rule, buffer_rule, package_rule, var_package_rule, elements_in_turn, package_of}
-use Rattle.aml_frames.specs.declared.activation.Position.{Position}
+use Rattle.aml_frames.specs.declared.position.Position.{Position}
 use Rattle.aml_frames.specs.declared.frames.Package.{Package}
 use Rattle.aml_frames.specs.Places.{Site, at_place, terms}
 use Rattle.aml_frames.specs.Operands.{elements_at, text_at, buffer_at, package_at, var_package_at, data_tree, behind_data}

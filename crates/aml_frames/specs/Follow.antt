@@ -36,6 +36,7 @@ use Rattle.aml_meaning.specs.StoreTargets.{followed as references_followed}
 use Rattle.aml_meaning.specs.TargetTerms.{reference_in}
 use Rattle.aml_meaning.specs.Osi.{osi_answered}
 use Rattle.aml_meaning.specs.declared.regions.RegionField.{RegionField}
+use Rattle.aml_meaning.specs.Regions.{bank_held}
 use Rattle.aml_meaning.specs.Fields.{unit_bytes, region_written}
 use Rattle.aml_meaning.specs.Terms.{else_of}
 use Rattle.aml_meaning.specs.Tasks.{Task, task, operand_value, after_item, in_turn}
@@ -45,7 +46,7 @@ use Rattle.aml_meaning.specs.WideTerms.{in_wide, wide_rule}
 use Rattle.aml_meaning.specs.StatementTerms.{statement_rule, branch, turn_of, after_turn, loop, loop_end}
 use Rattle.aml_meaning.specs.InvocationTerms.{arguments_in_turn, invocation_rule}
 use Rattle.aml_meaning.specs.Invocations.{leaving, invoked, invocation_found, shallow}
-use Rattle.aml_frames.specs.declared.activation.Position.{Position}
+use Rattle.aml_frames.specs.declared.position.Position.{Position}
 use Rattle.aml_frames.specs.declared.frames.Call.{Call}
 use Rattle.aml_frames.specs.declared.frames.Callee.{Callee}
 use Rattle.aml_frames.specs.declared.frames.Callee.TheVariants as callee
@@ -67,6 +68,8 @@ use Rattle.aml_frames.specs.declared.uses.TargetUse.TheVariants as uses
 use Rattle.aml_frames.specs.Addresses.{part_met}
 use Rattle.aml_frames.specs.Data.{package_left, package_of_all, package_run}
 use Rattle.aml_frames.specs.Indexed.{writes_done, unit_given, unit_behind, unit_merged}
+use Rattle.aml_frames.specs.Banked as banked
+use Rattle.aml_frames.specs.declared.banked.BankedField.{BankedField}
 use Rattle.aml_frames.specs.Declarations.{declared_at}
 use Rattle.aml_frames.specs.RegionTerms.{part_declared, part_ends}
 use Rattle.aml_frames.specs.Matching.{match_left, match_ends, element_read}
@@ -159,6 +162,8 @@ ends (frames.UnitChosen l u) c = c
 ends (frames.UnitRead l u) c = c
 ends (frames.UnitMerged x n) c = c
 ends (frames.UnitWritten x) c = c
+ends (frames.BankRead l u) c = c
+ends (frames.BankWrite x offset n) c = c
 ends (frames.Named o) c = c
 ends (frames.Scope p node) c = record c { scope = p }
 ends (frames.Declaration d) c = part_ends d c
@@ -332,6 +337,8 @@ module _ {S : Type 0} (accesses : Accesses S) (ev : Task → Run S Flow) where
   resumed (frames.UnitRead l u) c f = unit_given accesses ev l u f
   resumed (frames.UnitMerged x n) c f = unit_merged accesses ev x n
   resumed (frames.UnitWritten x) c f = writes_done accesses ev x
+  resumed (frames.BankRead l u) c f = banked.unit_behind accesses ev l u
+  resumed (frames.BankWrite x offset n) c f = banked.unit_merged accesses ev x offset n
   resumed (frames.Named o) c f = do
     v ← settle (value_in f)
     declared_at (object.Data v) (place_of c o) c
@@ -358,6 +365,12 @@ module _ {S : Type 0} (accesses : Accesses S) (ev : Task → Run S Flow) where
   number_written_then calls f n x c = do
     done ← region_written accesses (asking accesses ev calls) f (unit_bytes n)
     resumed x c flow.Next
+
+  -- the bank of a field is selected, and then a frame
+  abbrev pub selected_then : BankedField → Frame → Site → Run S Flow
+  selected_then x k c = do
+    held ← settle (bank_held x.bank.field x.bank.value)
+    number_written_then x.calls x.bank.field x.bank.value k c
 
   -- what is left to do
   abbrev pub next_run : Next → Site → Run S Flow

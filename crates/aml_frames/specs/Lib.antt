@@ -1,4 +1,5 @@
 pub mod Addresses
+pub mod Banked
 pub mod Data
 pub mod Entering
 pub mod Declarations

@@ -2,9 +2,9 @@
 use Rattle.std.specs.Prelude.{Option, Some, None, false, true, take}
 use Rattle.aml_grammar.specs.declared.opcode.TermCode.TheVariants as codes
 use Rattle.aml_grammar.specs.declared.kinds.Row.{Row}
-use Rattle.aml_grammar.specs.Tree.{Tree, term, number, bytes, inner, list, Parts, no_parts, part, Trees}
+use Rattle.aml_grammar.specs.Tree.{Tree, term, name, number, bytes, inner, list, Parts, no_parts, part, Trees}
 use Rattle.aml_grammar.specs.Shape.{trees_of}
-use Rattle.aml_marked.specs.Marked.{Place, Below, over, an_integer, a_text, a_size, a_target, a_super_name, all_items, maybe_else, with_row}
+use Rattle.aml_marked.specs.Marked.{Place, Below, over, an_integer, a_name, a_text, a_size, a_target, a_super_name, all_items, fields_left, maybe_else, with_row}
 use Rattle.aml_scan.specs.RowsAt.{row_at}
 use Rattle.aml_scan.specs.declared.row_places.RowPlace.{RowPlace}
 use Rattle.aml_meaning.specs.declared.term_kind.TermKind.{TermKind}
@@ -91,6 +91,18 @@ module _ (b : Below) where
       (part (number (an_integer 1 (behind_one b (behind_first p))).0)
       (part (inner (b false (behind_second p)).0)
       (part (inner (b false (behind_one b (behind_second p))).0) no_parts)))))
+
+  -- BankField: the names of its region and of its bank field, the value, the flags, and the fields
+  abbrev pub behind_names : Place → Place
+  behind_names p = (a_name (a_name (inside_at p)).1).1
+
+  abbrev pub fields_at : Place → Trees
+  fields_at p = trees_of (fields_left b p).0
+
+  abbrev pub bank_at : Place → Parts
+  bank_at p =
+      let q = behind_names p in
+      part (name (a_name (inside_at p)).0) (part (name (a_name (a_name (inside_at p)).1).0) (part (inner (b false q).0) (part (number (an_integer 1 (behind_one b q)).0) (part (list (fields_at (over 1 (behind_one b q)))) no_parts))))
 
   abbrev pub super_at : Place → Parts
   super_at p = part (a_super_name b p).0 no_parts
@@ -194,6 +206,7 @@ module _ (b : Below) where
   wide_parts wides.Match p = match_at p
   wide_parts (wides.Event k) p = super_at p
   wide_parts wides.Wait p = super_argument_at p
+  wide_parts wides.BankField p = bank_at p
 
   abbrev pub behind_wide : WideKind → Place → Place
   behind_wide (wides.Convert k) p = (a_target b (behind_one b p)).1
@@ -202,6 +215,7 @@ module _ (b : Below) where
   behind_wide wides.Match p = behind_match p
   behind_wide (wides.Event k) p = (a_super_name b p).1
   behind_wide wides.Wait p = behind_one b (a_super_name b p).1
+  behind_wide wides.BankField p = outside_at p
 
   -- the term of an operator or a statement whose operands stand there: rules don't ask for its opcode
   abbrev pub operator_tree : OperatorKind → Place → Tree

@@ -1,5 +1,5 @@
 -- Declarations of operation regions and of fields: their operands, where they stand one behind another, and what rules come to behind a
--- part that is evaluated (ACPI 6.5, 19.6: OperationRegion, CreateField and its like).
+-- part that is evaluated (ACPI 6.5, 19.6: OperationRegion, BankField, CreateField and its like).
 use Rattle.std.specs.Prelude.{ℕ, ◌*◌, ◌%◌, false}
 use Rattle.ar_space.specs.Change.{settle, ◌>>=◌}
 use Rattle.aml_grammar.specs.declared.opcode.TermCode.TheVariants as codes
@@ -18,11 +18,12 @@ use Rattle.aml_meaning.specs.State.{on_objects}
 use Rattle.aml_meaning.specs.Run.{Run, lift}
 use Rattle.aml_meaning.specs.Readings.{integer_in}
 use Rattle.aml_meaning.specs.Tasks.{Task, operand_value}
-use Rattle.aml_meaning.specs.FieldTerms.{region_rule, region_term_rule, sized, buffer_of, bits_of_step, bits_of_size}
+use Rattle.aml_meaning.specs.BankTerms.{banked_laid}
+use Rattle.aml_meaning.specs.FieldTerms.{region_found, field_found, region_rule, region_term_rule, sized, buffer_of, bits_of_step, bits_of_size}
 use Rattle.aml_frames.specs.declared.frames.DeclarationPart.{DeclarationPart}
 use Rattle.aml_frames.specs.declared.frames.DeclarationPart.TheVariants as parts
 use Rattle.aml_frames.specs.Places.{Site, place_between, at_place, terms, next_term, behind_term}
-use Rattle.aml_frames.specs.Operands.{behind_one, behind_two}
+use Rattle.aml_frames.specs.Operands.{behind_one, behind_two, fields_at}
 use Rattle.aml_frames.specs.Declarations.{declared_at}
 
 -- behind the name and the address space of an operation region
@@ -73,6 +74,7 @@ part_ends (parts.SizedIndex size source) c = behind_name c
 part_ends (parts.BitsSource levels) c = behind_name (behind_term (behind_term c levels) levels)
 part_ends (parts.BitsIndex levels source) c = behind_name (behind_term c levels)
 part_ends (parts.BitsCount source index) c = behind_name c
+part_ends (parts.BankValue levels o region bank) c = at_place c (place_between c.bytes o.at o.end)
 
 -- ---- what is declared with the values of its parts
 
@@ -102,7 +104,23 @@ module _ {S : Type 0} where
     b ← lift (on_objects (new_buffer_field o i bits))
     declared_at (object.BufferField b) c.place c
 
+  -- the fields of a BankField whose flags stand next
+  abbrev pub bank_declared : ℕ → ℕ → ℕ → Value → Site → Run S Flow
+  bank_declared levels region bank v c = banked_laid c.scope c.depth region bank v (an_integer 1 c.place).0 (fields_at (terms c levels) (over 1 c.place))
+
 module _ {S : Type 0} (ev : Task → Run S Flow) where
+  -- a BankField whose region and bank field were found, and one whose names stand next
+  abbrev pub bank_value_run : ℕ → ℕ → ℕ → Site → Run S Flow
+  bank_value_run levels region bank c = do
+    v ← operand_value ev c.scope c.depth (next_term c levels)
+    bank_declared levels region bank v (behind_term c levels)
+
+  unfoldable pub bank_names_run : ℕ → Site → Run S Flow
+  bank_names_run levels c = do
+    region ← lift (region_found c.scope (a_name c.place).0)
+    bank ← lift (field_found c.scope (a_name (a_name c.place).1).0)
+    bank_value_run levels region bank (behind_name (behind_name c))
+
   abbrev pub region_term_run : RegionKind → RowPlace → Site → ℕ → Run S Flow
   region_term_run k o c levels = region_term_rule ev k c.scope c.depth (region_tree (terms c levels) k o c.place)
 
@@ -127,3 +145,4 @@ module _ {S : Type 0} (ev : Task → Run S Flow) where
     u ← operand_value ev c.scope c.depth (next_term c levels)
     bits_field_declared source v u (behind_term c levels)
   part_declared (parts.BitsCount source index) v c = bits_field_declared source index v c
+  part_declared (parts.BankValue levels o region bank) v c = bank_declared levels region bank v c

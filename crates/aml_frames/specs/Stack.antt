@@ -8,13 +8,17 @@ use Rattle.aml_meaning.specs.declared.flow.Flow.{Flow}
 use Rattle.aml_meaning.specs.declared.flow.Flow.TheVariants as flow
 use Rattle.aml_meaning.specs.State.{State}
 use Rattle.aml_meaning.specs.Run.{Run}
+use Rattle.aml_meaning.specs.Passing.{item_done}
 use Rattle.aml_meaning.specs.Tasks.{Task}
 use Rattle.aml_meaning.specs.Invocations.{left, returned_by}
 use Rattle.aml_frames.specs.declared.frames.Control.{Control}
 use Rattle.aml_frames.specs.declared.frames.Control.TheVariants as control
 use Rattle.aml_frames.specs.declared.frames.Entry.{Entry}
 use Rattle.aml_frames.specs.declared.frames.Entry.TheVariants as entry
+use Rattle.aml_frames.specs.declared.frames.Frame.{Frame}
+use Rattle.aml_frames.specs.declared.frames.Frame.TheVariants as frames
 use Rattle.aml_frames.specs.declared.frames.Items.{Items}
+use Rattle.aml_frames.specs.declared.frames.ListItem.{ListItem}
 use Rattle.aml_frames.specs.declared.frames.Next.{Next}
 use Rattle.aml_frames.specs.declared.frames.Next.TheVariants as next
 use Rattle.aml_frames.specs.Places.{Site, behind_term}
@@ -42,9 +46,19 @@ control_ends (control.Access a) c = c
 control_ends (control.Flow f) c = c
 
 module _ {S : Type 0} (accesses : Accesses S) (ev : Task → Run S Flow) where
-  -- an outcome meets an entry, and what it leaves goes on: a refusal passes frames by, and ends calls
+  -- an outcome meets a frame, and what it leaves goes on: a refusal passes it by
+  abbrev pub frame_met : Frame → Rest S → Rest S
+  frame_met x k c r s = let b = go_on r s (resumed accesses ev x c) in k (ends x c) b.0 b.1
+
+  -- an outcome meets an item of a list that may be passed over: where it is a refusal, the list goes on as the item found it
+  abbrev pub item_met : ListItem → Rest S → Rest S
+  item_met x k c (Ok f) s = frame_met (frames.Items x.behind) k c (Ok f) s
+  item_met x k c (Err e) s = let b = item_done x.list.scope (Err e) s in frame_met (frames.Items x.behind) k (behind_term x.list x.behind.levels) b.0 b.1
+
+  -- an outcome meets an entry; a refusal ends calls
   abbrev pub met : Entry → Rest S → Rest S
-  met (entry.Frame x) k c r s = let b = go_on r s (resumed accesses ev x c) in k (ends x c) b.0 b.1
+  met (entry.Frame x) k c r s = frame_met x k c r s
+  met (entry.Item x) k c r s = item_met x k c r s
   met (entry.Leave caller p) k c r s = k caller (seen returned_by r) (left p s.0, s.1)
 
   -- the entries from the bottom of the stack
@@ -80,6 +94,14 @@ module _ {S : Type 0} (accesses : Accesses S) (ev : Task → Run S Flow) where
   pub record Goes (r : Outcome Control) (c : Site) (xs : List Entry) (after : State S × ℕ) (m : Run S Flow) (before : State S × ℕ) : Type 0 where
     pub is : NotMemory r → m before ≡ gone r c xs after
 
+  -- what steps leave to do that are taken one after another: nothing where they came to a flow
+  abbrev pub left_over : Outcome Flow → Site → List Entry → Run S Flow
+  left_over (Ok f) c xs = give f
+  left_over (Err e) c xs = then_all (stop e) c xs
+
+  pub record Stepped (r : Outcome Flow) (c : Site) (xs : List Entry) (after : State S × ℕ) (m : Run S Flow) (before : State S × ℕ) : Type 0 where
+    pub is : NotMemory r → m before ≡ left_over r c xs after
+
 -- what a step leaves to do is given up: a call ends that it has begun
 abbrev pub given_up : {S : Type 0} → Next → State S × ℕ → State S × ℕ
 given_up (next.Body b) s = (left b.scope s.0, s.1)
@@ -90,6 +112,7 @@ given_up _ s = s
 
 abbrev pub entry_weight : Entry → ℕ
 entry_weight (entry.Frame x) = weight x
+entry_weight (entry.Item x) = weight (frames.Items x.behind)
 entry_weight (entry.Leave caller p) = 1
 
 unfoldable pub stack_weight : List Entry → ℕ

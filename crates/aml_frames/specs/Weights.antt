@@ -1,21 +1,30 @@
 -- How much each frame may ask for without a step being paid: the sum falls while no term begins.
-use Rattle.std.specs.Prelude.{ℕ, zero, suc, ◌+◌, ◌*◌, ◌-◌, List, length}
+use Rattle.std.specs.Prelude.{ℕ, zero, suc, ◌+◌, ◌*◌, ◌-◌, List, length, Option, Some, None}
+use Rattle.aml_objects.specs.declared.entry.FieldUnit.{FieldUnit}
 use Rattle.aml_fields.specs.declared.field_units.Unit.{Unit}
+use Rattle.aml_fields.specs.Units.{units_of}
 use Rattle.aml_frames.specs.declared.frames.Frame.{Frame}
 use Rattle.aml_frames.specs.declared.frames.Frame.TheVariants as frames
 use Rattle.aml_frames.specs.declared.frames.Next.{Next}
 use Rattle.aml_frames.specs.declared.frames.Next.TheVariants as next
 use Rattle.aml_frames.specs.declared.addresses.AddressPart.{AddressPart}
 use Rattle.aml_frames.specs.declared.addresses.AddressPart.TheVariants as parts
+use Rattle.aml_frames.specs.declared.addresses.RegionAccess.{RegionAccess}
 use Rattle.aml_frames.specs.declared.addresses.Asked.{Asked}
 use Rattle.aml_frames.specs.declared.addresses.Asked.TheVariants as answers
 use Rattle.aml_frames.specs.declared.addresses.Waited.{Waited}
 use Rattle.aml_frames.specs.declared.addresses.Waited.TheVariants as waits
+use Rattle.aml_frames.specs.declared.banked.BankReads.{BankReads}
+use Rattle.aml_frames.specs.declared.banked.BankWrites.{BankWrites}
+use Rattle.aml_frames.specs.declared.banked.BanksLeft.{BanksLeft}
+use Rattle.aml_frames.specs.declared.banked.BanksLeft.TheVariants as banks_left
+use Rattle.aml_frames.specs.declared.banked.Selector.{Selector}
 use Rattle.aml_frames.specs.declared.indexed.UnitReads.{UnitReads}
 use Rattle.aml_frames.specs.declared.indexed.UnitWrites.{UnitWrites}
 use Rattle.aml_frames.specs.declared.indexed.UnitsLeft.{UnitsLeft}
 use Rattle.aml_frames.specs.declared.indexed.UnitsLeft.TheVariants as units_left
 use Rattle.aml_frames.specs.Indexed.{field_accessed}
+use Rattle.aml_frames.specs.Banked as banked
 use Rattle.aml_objects.specs.declared.value.Value.TheVariants as values
 use Rattle.aml_frames.specs.declared.uses.Access.{Access}
 use Rattle.aml_frames.specs.declared.uses.Accessed.{Accessed}
@@ -112,6 +121,26 @@ abbrev pub left_weight : UnitsLeft → ℕ
 left_weight (units_left.Reads x) = reads_weight x
 left_weight (units_left.Writes x) = writes_weight x
 
+-- ---- units of a field of a bank: the bank field is accessed for each, and once more where bits of a unit are kept
+
+abbrev pub bank_reads_weight : BankReads → ℕ
+bank_reads_weight x = units_weight x.field.calls x.left
+
+abbrev pub bank_writes_weight : BankWrites → ℕ
+bank_writes_weight x = units_weight x.field.calls x.left
+
+abbrev pub banks_left_weight : BanksLeft → ℕ
+banks_left_weight (banks_left.Reads x) = bank_reads_weight x
+banks_left_weight (banks_left.Writes x) = bank_writes_weight x
+
+-- the units that are left behind the address of their region
+abbrev pub banked_weight : ℕ → Option Selector → FieldUnit → ℕ
+banked_weight calls None f = 0
+banked_weight calls (Some bank) f = units_weight calls (units_of f.bit_offset f.bits f.access)
+
+unfoldable pub behind_weight : RegionAccess → ℕ
+behind_weight a = banked_weight a.calls a.bank a.field.unit
+
 -- ---- Match: each element of a package may be the name of a field, which is read
 
 -- more than the elements of any package
@@ -139,11 +168,13 @@ weight (frames.IndexTarget u) = use_weight u + 5
 weight (frames.DerefTarget u) = use_weight u + 5
 weight (frames.Referent i) = most + 1
 weight (frames.Counted k x) = most + 8
-weight (frames.Address x) = address_weight x.part x.access.calls (length x.bridges.items)
+weight (frames.Address x) = address_weight x.part x.access.calls (length x.bridges.items) + behind_weight x.access
 weight (frames.UnitChosen l u) = left_weight l + 3 * region_weight (field_accessed l).calls + 1
 weight (frames.UnitRead l u) = left_weight l + 2 * region_weight (field_accessed l).calls + 1
 weight (frames.UnitMerged x n) = writes_weight x + region_weight x.field.calls + 1
 weight (frames.UnitWritten x) = writes_weight x + 1
+weight (frames.BankRead l u) = banks_left_weight l + region_weight (banked.field_accessed l).calls + 1
+weight (frames.BankWrite x offset n) = bank_writes_weight x + 1
 weight (frames.Match levels part) = most_searched + 4
 weight (frames.Matched x) = search_weight (x.left - 1) + 1
 weight _ = 3

@@ -5,78 +5,28 @@ ghost use Rattle.aml_grammar.specs.declared.opcode.Opcode.{Opcode};
 ghost use Rattle.aml_grammar.specs.declared.opcode.TermCode.TheVariants as codes;
 ghost use Rattle.aml_grammar.specs.Apart.{code_of, operand_of};
 ghost use Rattle.aml_grammar.specs.Names.{starts_name};
+ghost use Rattle.aml_grammar.specs.Shape.{trees_of};
 ghost use Rattle.aml_grammar.specs.State.{is_next};
 ghost use Rattle.aml_marked.specs.Marked.{Below, count_at, first, over, name_length, a_name, a_size, a_term, a_call};
-ghost use Rattle.aml_marked.specs.Marked.{a_target, turns_of, with_row, maybe_else};
+ghost use Rattle.aml_marked.specs.Marked.{a_target, turns_of, with_row, maybe_else, fields_left};
 ghost use Rattle.aml_scan.specs.RowsAt.{row_at};
 ghost use Rattle.aml_scan.specs.declared.row_places.RowPlace.{RowPlace};
-ghost use Rattle.aml_terms.specs.AtTree.{at_tree};
+ghost use Rattle.aml_terms.specs.AtTree.{at_tree, at_list};
 ghost use Rattle.aml_meaning.specs.Terms.{target_kind, number_of};
 ghost use Rattle.aml_frames.specs.Places.{Stands, place_between, end_of, at_place, terms, next_term, behind_term};
 
 use crate::frames::Items;
+use crate::position::{MethodPath, Position};
 use aml_grammar::{OperandView, TermReader};
 use aml_meaning::{TargetKind, target_kind};
 use aml_namespace::Scope;
 use aml_objects::{Body, NodeId};
-use aml_path::{NameString, Path};
+use aml_path::NameString;
 use aml_terms::{At, Cursor, Marks, RowPlace};
 use ar_space::{NameFault, Refusal};
 use std::alloc::Global;
 use std::marker::Model;
 use std::mem;
-use std::rc::Rc;
-
-/// Where evaluation stands in a list of bytes: the offset of the next byte, and that behind the last one of its list
-/// or package.
-#[derive(Clone, Copy, Debug)]
-pub struct Position {
-    pub at: usize,
-    pub end: usize,
-}
-
-/// The path of a control method or of a scope: a counted share of it.
-#[derive(Drop)]
-pub struct MethodPath {
-    path: Rc<Path>,
-}
-
-impl Model for MethodPath {
-    ghost use Rattle.std.specs.Prelude.{List};
-    ghost use Rattle.aml_path.specs.declared.segment.Seg.{Seg};
-
-    ghost Value = { List Seg };
-
-    ghost view = { λ p. p.path.value };
-}
-
-impl MethodPath {
-    /// The path that this is.
-    pub fn new(alloc: Global, path: Path) -> Result<MethodPath, Refusal>
-        ensures { Answers result (Ok path) }
-    {
-        Ok(MethodPath {
-            path: Rc::new(alloc, path)?,
-        })
-    }
-
-    /// Another share of the same path. It takes no memory, and is refused as `OutOfMemory` where no more shares can
-    /// be counted.
-    pub fn share(&self) -> Result<MethodPath, Refusal>
-        ensures { Answers result (Ok self.now) }
-    {
-        Ok(MethodPath {
-            path: Rc::clone(&self.path)?,
-        })
-    }
-
-    /// The path.
-    pub fn path(&self) -> &Path
-        ensures { result.now ≡ self.now }
-    {
-        self.path.as_ref()
-    }
-}
 
 /// The table or the control method that is being evaluated: a share of its bytes and their marks, the scope that its
 /// names stand in, how many control methods are being called, and the place of the next byte. Beside these stands where
@@ -138,6 +88,26 @@ impl Activation {
             position: Position { at: 0, end },
             start: 0,
         }
+    }
+
+    /// Another share of the same list, at the same byte. It takes no memory, and is refused as `OutOfMemory` where no more
+    /// shares can be counted.
+    #[tactic(auto, using(ar_space::proofs::Outcomes::answering))]
+    pub(crate) fn share(&self) -> Result<Activation, Refusal>
+        ensures { Answers result (Ok self.now) }
+    {
+        let bytes = self.bytes.share()?;
+        let marks = self.marks.share()?;
+        let scope = self.scope.share()?;
+        Ok(Activation {
+            bytes,
+            marks,
+            scope,
+            node: self.node,
+            depth: self.depth,
+            position: self.position,
+            start: self.start,
+        })
     }
 
     /// An item of a list begins here: it is told where evaluation is refused.
@@ -296,6 +266,13 @@ impl Activation {
         ensures { at_tree result ≡ (with_row (terms self.now levels) (row_at place) self.now.place).0 }
     {
         self.cursor().coded_term(&self.marks, levels, place)
+    }
+
+    /// A reader of the field elements that are left.
+    pub fn field_list(&self, levels: u8) -> At<'_>
+        ensures { at_list result ≡ trees_of (fields_left (terms self.now levels) self.now.place).0 }
+    {
+        self.cursor().field_list(&self.marks, levels)
     }
 
     /// What is left of the list or package.

@@ -1,5 +1,7 @@
 //! The address of a field of a region (ACPI 6.5, 5.5.2.4): that of a region of PCI_Config is asked for, part by part.
 
+use crate::banked::Selector;
+use crate::boxed::Boxed;
 use crate::uses::Doing;
 use aml_meaning::RegionField;
 use aml_objects::{Body, Field};
@@ -12,6 +14,8 @@ pub struct RegionAccess {
     /// How many calls may be made one inside another.
     pub calls: usize,
     pub field: RegionField,
+    /// What selects its bank, where it is a field of one.
+    pub bank: Option<Boxed<Selector>>,
     /// Where the region begins in its address space.
     pub offset: u64,
     /// How many bytes it has.

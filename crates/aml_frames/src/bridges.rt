@@ -4,7 +4,7 @@ ghost use Rattle.std.specs.Prelude.{◌≡◌, ◌≤◌, ◌<◌, ◌+◌, ◌*
 ghost use Rattle.aml_meaning.specs.Meaning.{meaning};
 ghost use Rattle.aml_frames.specs.Addresses.{bridges_left, bridge_known, bridge_asked, part_known};
 ghost use Rattle.aml_frames.specs.Follow.{Leads, EndsAt};
-ghost use Rattle.aml_frames.specs.Weights.{part_weight, bridges_weight, address_weight, next_weight};
+ghost use Rattle.aml_frames.specs.Weights.{part_weight, bridges_weight, address_weight, behind_weight, next_weight};
 
 use crate::activation::Activation;
 use crate::addresses::{AddressPart, Asked, FunctionAddress, PciAccess};
@@ -30,7 +30,8 @@ pub(crate) fn begin_bridges<S: Space>(
 ) -> Result<Next, Refusal>
     ensures spent { run.new.1 ≤ run.old.1 }
     ensures falls { IfOk result (λ n. next_weight n <
-        bridges_weight pci.access.calls (length pci.bridges.items) + part_weight pci.access.calls + 14) }
+        bridges_weight pci.access.calls (length pci.bridges.items) + part_weight pci.access.calls + 14 +
+        behind_weight pci.access) }
     ensures means { Leads S.accesses (meaning S.accesses) result act.now run.new
         (bridges_left S.accesses (meaning S.accesses) pci.access pci.device pci.bridges.items segment bus) run.old }
     ensures ends { EndsAt result act.now act.now }
@@ -54,7 +55,8 @@ fn begin_bridge<S: Space>(
 ) -> Result<Next, Refusal>
     ensures spent { run.new.1 ≤ run.old.1 }
     ensures falls { IfOk result (λ n. next_weight n <
-        bridges_weight pci.access.calls (length pci.bridges.items) + 2 * part_weight pci.access.calls + 34) }
+        bridges_weight pci.access.calls (length pci.bridges.items) + 2 * part_weight pci.access.calls + 34 +
+        behind_weight pci.access) }
     ensures means { Leads S.accesses (meaning S.accesses) result act.now run.new
         (bridge_asked S.accesses (meaning S.accesses) pci.access pci.device bridge.now pci.bridges.items on.0 on.1)
         run.old }
@@ -82,7 +84,7 @@ fn give_part<S: Space>(
     part: u64,
 ) -> Result<Next, Refusal>
     ensures falls { IfOk result (λ n. next_weight n ≤
-        address_weight pci.part pci.access.calls (length pci.bridges.items) + 3) }
+        address_weight pci.part pci.access.calls (length pci.bridges.items) + behind_weight pci.access + 3) }
     ensures means { Leads S.accesses (meaning S.accesses) result act.now run.now
         (part_known S.accesses (meaning S.accesses) pci part) run.now }
     ensures ends { EndsAt result act.now act.now }
@@ -102,7 +104,8 @@ pub(crate) fn pass_bridge<S: Space>(
 ) -> Result<Next, Refusal>
     ensures spent { run.new.1 ≤ run.old.1 }
     ensures falls { IfOk result (λ n. next_weight n <
-        bridges_weight pci.access.calls (length pci.bridges.items) + part_weight pci.access.calls + 14) }
+        bridges_weight pci.access.calls (length pci.bridges.items) + part_weight pci.access.calls + 14 +
+        behind_weight pci.access) }
     ensures means { Leads S.accesses (meaning S.accesses) result act.now run.new
         (bridge_known S.accesses (meaning S.accesses) pci.access pci.device pci.bridges.items bridge.segment bridge.bus
         bridge.address) run.old }

@@ -10,10 +10,11 @@ ghost use Rattle.aml_frames.specs.Follow.{called, entered_then, arguments_left, 
 ghost use Rattle.aml_frames.specs.Follow.{EndsAt};
 ghost use Rattle.aml_frames.specs.Weights.{weight, next_weight};
 
-use crate::activation::{Activation, MethodPath};
+use crate::activation::Activation;
 use crate::addresses::PciAccess;
 use crate::boxed::Boxed;
 use crate::frames::{Call, Callee, Frame, Next};
+use crate::position::MethodPath;
 use crate::tracing::told_path;
 use aml_meaning::{Flow, Running};
 use aml_objects::{Body, Value};

@@ -15,9 +15,10 @@ ghost use Rattle.aml_frames.specs.Data.{data_run, behind_data_at, string_run, bu
 ghost use Rattle.aml_frames.specs.Follow.{resumed, ends, next_ends, Leads, EndsAt};
 ghost use Rattle.aml_frames.specs.Weights.{next_weight};
 
-use crate::activation::{Activation, Position};
+use crate::activation::Activation;
 use crate::frames::{Frame, Next};
 use crate::packages::{begin_package, begin_var_package};
+use crate::position::Position;
 use crate::values::integer_of;
 use aml_meaning::{DataKind, Flow, Running};
 use aml_objects::Octets;

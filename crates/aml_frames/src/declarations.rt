@@ -19,9 +19,10 @@ ghost use Rattle.aml_frames.specs.Declarations.{scope_object};
 ghost use Rattle.aml_frames.specs.Follow.{place_of, at_position, behind_coded, resumed, ends, next_ends, Leads, EndsAt};
 ghost use Rattle.aml_frames.specs.Weights.{next_weight};
 
-use crate::activation::{Activation, MethodPath, Position};
+use crate::activation::Activation;
 use crate::frames::{Frame, Next, leave};
 use crate::operands::{bytes, number};
+use crate::position::{MethodPath, Position};
 use crate::tracing::told;
 use aml_grammar::TermReader;
 use aml_meaning::{DeclarationKind, Flow, Running, WorldState};

@@ -12,10 +12,11 @@ ghost use Rattle.aml_frames.specs.Addresses.{waited_run};
 ghost use Rattle.aml_frames.specs.Follow.{list_run, all_left};
 ghost use Rattle.aml_frames.specs.Uses.{asking};
 
-use crate::activation::{Activation, MethodPath};
+use crate::activation::Activation;
 use crate::addresses::{Asked, Waited};
 use crate::asking::ask;
 use crate::calls::enter;
+use crate::position::MethodPath;
 use crate::stack::{access_field, evaluate, run_list};
 use crate::values::value_of_call;
 use aml_meaning::{Flow, Running, integer_only};

@@ -1,4 +1,4 @@
-//! Accesses of fields of operation regions (ACPI 6.5, 5.5.2.4 and 19.6: OperationRegion, Field).
+//! Accesses of fields of operation regions (ACPI 6.5, 5.5.2.4 and 19.6: OperationRegion, Field, BankField).
 ghost use Rattle.std.specs.Prelude.{◌≡◌, ◌≤◌, ◌<◌, ◌+◌, ◌*◌, IfOk, Ok};
 ghost use Rattle.ar_space.specs.Change.{Does};
 ghost use Rattle.ar_space.specs.Outcome.{NotMemory};
@@ -10,13 +10,15 @@ ghost use Rattle.ar_space.specs.Accesses.{bit_count};
 ghost use Rattle.aml_meaning.specs.Meaning.{meaning};
 ghost use Rattle.aml_objects.specs.declared.entry.Field.TheVariants as fields;
 ghost use Rattle.aml_frames.specs.declared.uses.Accessed.TheVariants as object;
-ghost use Rattle.aml_frames.specs.Addresses.{space_known, space_run};
+ghost use Rattle.aml_frames.specs.Addresses.{done_in, space_known, space_run};
 ghost use Rattle.aml_frames.specs.Follow.{Leads, EndsAt};
 ghost use Rattle.aml_frames.specs.Uses.{access_run, access_done, read_as};
-ghost use Rattle.aml_frames.specs.Weights.{region_weight, field_weight, access_weight, next_weight};
+ghost use Rattle.aml_frames.specs.Weights.{region_weight, behind_weight, field_weight, access_weight, next_weight};
 
 use crate::activation::Activation;
 use crate::addresses::RegionAccess;
+use crate::bank_access::{begin_banked, begin_units};
+use crate::banked::BankedField;
 use crate::frames::Next;
 use crate::index_access::begin_indexed;
 use crate::pci::begin_pci;
@@ -57,7 +59,7 @@ pub(crate) fn begin_access<S: Space>(
 }
 
 /// An access of a field unit.
-#[tactic(auto, using(crate::proofs::Addressing::fields, crate::proofs::UnitSteps::indexed))]
+#[tactic(auto, using(crate::proofs::Addressing::fields, crate::proofs::UnitSteps::indexed, crate::proofs::BankSteps::banks))]
 fn begin_unit<S: Space>(
     alloc: Global,
     run: &mut Running<S>,
@@ -78,6 +80,9 @@ fn begin_unit<S: Space>(
         }
         FieldSource::Index(index, behind) => {
             begin_indexed(alloc, run, act, calls, (index, behind), (unit, doing))
+        }
+        FieldSource::Bank(region, bank) => {
+            begin_banked(alloc, run, act, calls, (region, bank), (unit, doing))
         }
     }
 }
@@ -112,7 +117,7 @@ fn access_buffer<S: Space>(
 }
 
 /// An access of a field of a region: the region is looked up, and its address is asked for where it is in PCI_Config.
-#[tactic(auto, using(crate::proofs::Addressing::regions))]
+#[tactic(auto, using(crate::proofs::Addressing::regions), unfolding(crate::specs::Weights::behind_weight))]
 pub fn begin_region<S: Space>(
     alloc: Global,
     run: &mut Running<S>,
@@ -131,6 +136,7 @@ pub fn begin_region<S: Space>(
     let access = RegionAccess {
         calls,
         field,
+        bank: None,
         offset: declared.1.offset,
         length: declared.1.length,
         doing,
@@ -147,7 +153,7 @@ pub fn begin_region<S: Space>(
 
 /// The region with the number of a declaration, and the scope that it was declared in.
 #[tactic(auto, using(aml_meaning::proofs::Runs::running))]
-fn region_of<S: Space>(
+pub(crate) fn region_of<S: Space>(
     alloc: Global,
     run: &Running<S>,
     number: u64,
@@ -159,7 +165,7 @@ fn region_of<S: Space>(
 
 /// An access of a field of a region of this kind, which was declared in a scope.
 #[tactic(auto, using(crate::proofs::Addressing::spaces_known))]
-fn begin_declared<S: Space>(
+pub(crate) fn begin_declared<S: Space>(
     alloc: Global,
     run: &mut Running<S>,
     act: &Activation,
@@ -168,7 +174,7 @@ fn begin_declared<S: Space>(
     scope: &Path,
 ) -> Result<Next, Refusal>
     ensures spent { run.new.1 ≤ run.old.1 }
-    ensures falls { IfOk result (λ n. next_weight n < region_weight access.calls) }
+    ensures falls { IfOk result (λ n. next_weight n < region_weight access.calls + behind_weight access) }
     ensures means { Leads S.accesses (meaning S.accesses) result act.now run.new
         (space_run S.accesses (meaning S.accesses) access kind scope.now) run.old }
     ensures ends { EndsAt result act.now act.now }
@@ -183,7 +189,7 @@ fn begin_declared<S: Space>(
 }
 
 /// An access of a field of a region whose address space is known.
-#[tactic(auto, using(crate::proofs::Addressing::reading_as))]
+#[tactic(auto, using(crate::proofs::BankSteps::spaces))]
 pub(crate) fn access_space<S: Space>(
     alloc: Global,
     run: &mut Running<S>,
@@ -192,18 +198,56 @@ pub(crate) fn access_space<S: Space>(
     space: AddressSpace,
 ) -> Result<Next, Refusal>
     ensures spent { run.new.1 ≤ run.old.1 }
-    ensures falls { IfOk result (λ n. next_weight n < 4) }
+    ensures falls { IfOk result (λ n. next_weight n < 4 + behind_weight access) }
     ensures means { Leads S.accesses (meaning S.accesses) result act.now run.new
-        (space_known S.accesses access space) run.old }
+        (space_known S.accesses (meaning S.accesses) access space) run.old }
     ensures ends { EndsAt result act.now act.now }
 {
+    let RegionAccess {
+        calls,
+        field,
+        bank,
+        offset,
+        length,
+        doing,
+    } = access;
     let region = Region {
         space,
-        offset: access.offset,
-        length: access.length,
+        offset,
+        length,
     };
-    let unit = access.field.unit;
-    match access.doing {
+    match bank {
+        None => access_located(alloc, run, act, field, region, doing),
+        Some(bank) => {
+            let banked = BankedField {
+                calls,
+                bank: bank.into_inner(),
+                region,
+                field: field.unit,
+            };
+            begin_units(alloc, run, act, banked, doing)
+        }
+    }
+}
+
+/// An access of a field of a region that is located.
+#[tactic(auto, using(crate::proofs::Addressing::reading_as))]
+fn access_located<S: Space>(
+    alloc: Global,
+    run: &mut Running<S>,
+    act: &Activation,
+    field: RegionField,
+    region: Region,
+    doing: Doing,
+) -> Result<Next, Refusal>
+    ensures spent { run.new.1 ≤ run.old.1 }
+    ensures falls { IfOk result (λ n. next_weight n < 4) }
+    ensures means { Leads S.accesses (meaning S.accesses) result act.now run.new
+        (done_in S.accesses doing field region) run.old }
+    ensures ends { EndsAt result act.now act.now }
+{
+    let unit = field.unit;
+    match doing {
         Doing::Read(reading) => {
             let bytes = run.world.read_field(alloc, region, unit)?;
             finish_read(run, act, reading, unit.bits, bytes)

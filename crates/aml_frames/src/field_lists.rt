@@ -87,7 +87,7 @@ pub(crate) fn declare_index_fields<S: Space>(
 
 /// The fields of a list, with these flags.
 #[tactic(auto, using(aml_meaning::proofs::Runs::running), unfolding(aml_meaning::specs::FieldTerms::fields_laid))]
-fn lay_fields<S: Space>(
+pub(crate) fn lay_fields<S: Space>(
     alloc: Global,
     run: &mut Running<S>,
     act: &Activation,

@@ -2,10 +2,12 @@
 ghost use Rattle.std.specs.Prelude.{◌≡◌, Ok};
 ghost use Rattle.aml_frames.specs.declared.frames.Next.TheVariants as nexts;
 
-use crate::activation::{Activation, MethodPath, Position};
+use crate::activation::Activation;
 use crate::addresses::PciAccess;
+use crate::banked::{BankWrites, BanksLeft};
 use crate::boxed::Boxed;
 use crate::indexed::{UnitWrites, UnitsLeft};
+use crate::position::{MethodPath, Position};
 use crate::uses::{Access, Dyadic, Inquiry, Monadic, Reading, SecondOperand, Target, TargetUse};
 use aml_fields::Unit;
 use aml_meaning::{BufferFieldSize, Count, Flow, Searching, StoreTarget};
@@ -74,7 +76,7 @@ pub struct Package {
     pub done: Elements,
 }
 
-/// An operand of a declaration of a region or of a buffer field, while it is evaluated, with what was read and
+/// An operand of a declaration of a region, of a buffer field or of fields of a bank, while it is evaluated, with what was read and
 /// evaluated before it.
 #[derive(Clone, Copy, Debug)]
 pub enum DeclarationPart {
@@ -92,6 +94,9 @@ pub enum DeclarationPart {
     BitsIndex(u8, Value),
     /// How many bits such a field has: its buffer, and the index of its first bit.
     BitsCount(Value, Value),
+    /// The value that selects the bank of a BankField with so many levels below it: where evaluation goes on behind
+    /// its package, and the numbers of the declarations of its region and of its bank field.
+    BankValue(u8, Position, u64, u64),
 }
 
 /// An operand of a Match, while it is evaluated, with what was read and evaluated before it. The bytes of operators
@@ -168,12 +173,18 @@ pub enum Frame {
     UnitMerged(Boxed<UnitWrites>, u64),
     /// The same, while the data field is written.
     UnitWritten(Boxed<UnitWrites>),
+    /// An access of a field of a bank, while the bank is selected: this unit is read then.
+    BankRead(Boxed<BanksLeft>, Unit),
+    /// A write of a field of a bank, while the bank is selected: the unit with this offset is written with this
+    /// number then.
+    BankWrite(Boxed<BankWrites>, u64, u64),
     /// A Name, while its datum is evaluated: where its name stands.
     Named(Position),
     /// A Scope, a Device, a Processor, a PowerResource or a ThermalZone, while its list is evaluated: the scope
     /// around it, and its node.
     Scope(MethodPath, NodeId),
-    /// A declaration of an operation region or of a buffer field, while one of its operands is evaluated.
+    /// A declaration of an operation region, of a buffer field or of fields of a bank, while one of its operands is
+    /// evaluated.
     Declaration(DeclarationPart),
     /// A Match with so many levels below it, while one of its operands is evaluated.
     Match(u8, Boxed<MatchPart>),
@@ -218,11 +229,22 @@ pub enum Next {
     FlowThen(Flow, Frame),
 }
 
+/// An item of a list that may be passed over, while it is evaluated.
+#[derive(Drop)]
+pub struct ListItem {
+    /// The list, which stands at the item.
+    pub list: Activation,
+    /// The items behind it.
+    pub behind: Items,
+}
+
 /// What stands on the stack.
 #[derive(Drop)]
 pub enum Entry {
     /// A term that is half done.
     Frame(Frame),
+    /// An item of a list at module level, which the wide profile passes over where it is refused.
+    Item(Boxed<ListItem>),
     /// A call of a control method: what goes on behind it, and the path of the control method.
     Leave(Activation, MethodPath),
 }

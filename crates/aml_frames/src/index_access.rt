@@ -72,7 +72,7 @@ pub(crate) fn begin_indexed<S: Space>(
 }
 
 /// The units of a field, lowest first: a field has fewer than 2^32 bits.
-fn field_units(bit_offset: u64, bits: u32, width: Width) -> FieldUnits
+pub(crate) fn field_units(bit_offset: u64, bits: u32, width: Width) -> FieldUnits
     ensures units { result ≡ units_of bit_offset bits width }
     ensures few { bits < 4294967296 }
 {
@@ -245,7 +245,7 @@ pub(crate) fn write_merged<S: Space>(
 
 /// A number is written to a field of a region, and then a frame goes on.
 #[tactic(auto, using(crate::proofs::UnitSteps::numbers_written))]
-fn write_then<S: Space>(
+pub(crate) fn write_then<S: Space>(
     alloc: Global,
     run: &Running<S>,
     act: &Activation,

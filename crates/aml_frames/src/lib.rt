@@ -10,6 +10,9 @@ mod accesses;
 mod activation;
 mod addresses;
 mod asking;
+mod bank_access;
+mod bank_fields;
+mod banked;
 mod boxed;
 mod bridges;
 mod calls;
@@ -27,7 +30,9 @@ mod names;
 mod operands;
 mod operators;
 mod packages;
+mod passing;
 mod pci;
+mod position;
 mod references;
 mod regions;
 mod resuming;
@@ -46,21 +51,24 @@ mod values;
 mod waiting;
 mod wide;
 
-pub use activation::{Activation, MethodPath, Position};
+pub use activation::Activation;
 pub use addresses::{AddressPart, PciAccess, RegionAccess};
+pub use banked::{BankReads, BankWrites, BankedField, BanksLeft, Selector};
 pub use calls::begin_call;
 pub use data::begin_data;
 pub use declarations::begin_declaration;
 pub use evaluation::{ask_integer, call_method, evaluate_list};
 pub use field_access::begin_region;
 pub use frames::{
-    Call, Callee, Control, DeclarationPart, Entry, Frame, Items, Loop, MatchPart, Next, Package,
+    Call, Callee, Control, DeclarationPart, Entry, Frame, Items, ListItem, Loop, MatchPart, Next,
+    Package,
 };
 pub use indexed::{
     IndexedField, UnitReads, UnitWrites, UnitsLeft, is_kept, merge_unit, put_unit, zeros,
 };
 pub use names::begin_name;
 pub use operators::begin_operator;
+pub use position::{MethodPath, Position};
 pub use regions::begin_region_term;
 pub use resuming::resume;
 pub use stack::evaluate;

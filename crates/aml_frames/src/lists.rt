@@ -1,7 +1,8 @@
 //! Lists of terms (ACPI 6.5, 20.2.5). An item that leaves nothing to do pushes nothing.
-ghost use Rattle.std.specs.Prelude.{◌≡◌, ◌≤◌, ◌<◌, ◌+◌, [], ◌∷◌, ◌++◌, OnOk, IfOk, IfErr};
+ghost use Rattle.std.specs.Prelude.{◌≡◌, ◌≤◌, ◌<◌, ◌+◌, [], ◌∷◌, ◌++◌, true, OnOk, IfOk, IfErr, IsOk};
 ghost use Rattle.ar_space.specs.declared.refusal.Refusal.TheVariants.{OutOfMemory};
 ghost use Rattle.aml_meaning.specs.Meaning.{meaning};
+ghost use Rattle.aml_meaning.specs.PassedOver.{is_passable};
 ghost use Rattle.aml_frames.specs.declared.frames.Control.TheVariants as control;
 ghost use Rattle.aml_frames.specs.declared.frames.Entry.TheVariants as entry;
 ghost use Rattle.aml_frames.specs.declared.frames.Frame.TheVariants as frames;
@@ -10,6 +11,7 @@ ghost use Rattle.aml_frames.specs.Stack.{then_all, machine, given_up, Goes, stac
 ghost use Rattle.aml_frames.specs.Weights.{next_weight, charged};
 
 use crate::frames::{Control, Entry, Frame, Items, Next};
+use crate::passing::{passes_over, wait_for_list_item};
 use crate::stack::{end_call, follow};
 use crate::terms::begin_term;
 use crate::waiting::{Stack, go_to_flow, go_to_items};
@@ -29,6 +31,9 @@ pub(crate) fn step_items<S: Space>(
 ) -> Result<Control, Refusal>
     ensures falls { IfOk result (λ c. charged run.new.1 + (stack_weight stack.new.entries.items + control_weight c) <
         charged run.old.1 + (stack_weight stack.old.entries.items + 4)) }
+    ensures refused { IfErr result (λ e. is_passable e ≡ true →
+        charged run.new.1 + (stack_weight stack.new.entries.items + 1) <
+        charged run.old.1 + (stack_weight stack.old.entries.items + 4)) }
     ensures means { Goes S.accesses (meaning S.accesses) result stack.new.act stack.new.entries.items run.new
         (machine S.accesses (meaning S.accesses) (control.Items items) stack.old.act stack.old.entries.items) run.old }
 {
@@ -46,6 +51,9 @@ pub(crate) fn step_items<S: Space>(
         left: items.left - 1,
         ..items
     };
+    if passes_over(run, &stack.act) {
+        return wait_for_list_item(alloc, stack, behind);
+    }
     let next = begin_term(alloc, run, &mut stack.act, items.levels)?;
     follow_item(run, stack, behind, next)
 }
@@ -61,6 +69,7 @@ fn follow_item<S: Space>(
 ) -> Result<Control, Refusal>
     ensures falls { IfOk result (λ c. charged run.new.1 + (stack_weight stack.new.entries.items + control_weight c) ≤
         charged run.old.1 + (stack_weight stack.old.entries.items + 3 + next_weight next)) }
+    ensures memory { IfErr result (λ e. e ≡ OutOfMemory) }
     ensures means { Goes S.accesses (meaning S.accesses) result stack.new.act stack.new.entries.items run.new
         (then_all S.accesses (meaning S.accesses) (next_run S.accesses (meaning S.accesses) next stack.old.act)
         (next_ends next stack.old.act) (stack.old.entries.items ++ entry.Frame (frames.Items behind) ∷ [])) run.old }
@@ -82,6 +91,7 @@ fn follow_above<S: Space>(
 ) -> Result<Control, Refusal>
     ensures falls { IfOk result (λ c. charged run.new.1 + (stack_weight stack.new.entries.items + control_weight c) ≤
         charged run.old.1 + (stack_weight stack.old.entries.items + 3 + next_weight next)) }
+    ensures memory { IfErr result (λ e. e ≡ OutOfMemory) }
     ensures means { Goes S.accesses (meaning S.accesses) result stack.new.act stack.new.entries.items run.new
         (then_all S.accesses (meaning S.accesses) (next_run S.accesses (meaning S.accesses) next stack.old.act)
         (next_ends next stack.old.act) (stack.old.entries.items ++ entry.Frame (frames.Items behind) ∷ [])) run.old }
@@ -101,6 +111,7 @@ pub(crate) fn next_item<S: Space>(
 ) -> Result<Control, Refusal>
     ensures falls { IfOk result (λ c. stack_weight stack.new.entries.items + control_weight c <
         stack_weight stack.old.entries.items + 6) }
+    ensures given { IsOk result }
     ensures means { Goes S.accesses (meaning S.accesses) result stack.new.act stack.new.entries.items run.now
         (machine S.accesses (meaning S.accesses) (control.Flow flow) stack.old.act
         (stack.old.entries.items ++ entry.Frame (frames.Items items) ∷ [])) run.now }

@@ -10,9 +10,10 @@ ghost use Rattle.aml_frames.specs.Data.{unfilled, one_fewer};
 ghost use Rattle.aml_frames.specs.Follow.{at_position, resumed, ends, next_ends, Leads, EndsAt};
 ghost use Rattle.aml_frames.specs.Weights.{next_weight, charged};
 
-use crate::activation::{Activation, Position};
+use crate::activation::Activation;
 use crate::boxed::Boxed;
 use crate::frames::{Frame, Next, Package};
+use crate::position::Position;
 use crate::values::integer_of;
 use aml_meaning::{Flow, Running};
 use aml_objects::{Element, Elements};

@@ -9,7 +9,7 @@ ghost use Rattle.aml_frames.specs.Addresses.{pci_run, device_known, bridges_know
 ghost use Rattle.aml_frames.specs.Addresses.{function_known, waited_met, part_met, Asks};
 ghost use Rattle.aml_frames.specs.Follow.{Leads, EndsAt};
 ghost use Rattle.aml_frames.specs.Uses.{asking};
-ghost use Rattle.aml_frames.specs.Weights.{part_weight, bridges_weight, region_weight, address_weight};
+ghost use Rattle.aml_frames.specs.Weights.{part_weight, bridges_weight, region_weight, address_weight, behind_weight};
 ghost use Rattle.aml_frames.specs.Weights.{asked_weight, waited_weight, next_weight};
 
 use crate::activation::Activation;
@@ -37,7 +37,7 @@ pub(crate) fn begin_pci<S: Space>(
     scope: &Path,
 ) -> Result<Next, Refusal>
     ensures spent { run.new.1 ≤ run.old.1 }
-    ensures falls { IfOk result (λ n. next_weight n < region_weight access.calls) }
+    ensures falls { IfOk result (λ n. next_weight n < region_weight access.calls + behind_weight access) }
     ensures means { Leads S.accesses (meaning S.accesses) result act.now run.new
         (pci_run S.accesses (meaning S.accesses) access scope.now) run.old }
     ensures ends { EndsAt result act.now act.now }
@@ -56,7 +56,7 @@ fn begin_device<S: Space>(
     device: Path,
 ) -> Result<Next, Refusal>
     ensures spent { run.new.1 ≤ run.old.1 }
-    ensures falls { IfOk result (λ n. next_weight n < region_weight access.calls) }
+    ensures falls { IfOk result (λ n. next_weight n < region_weight access.calls + behind_weight access) }
     ensures means { Leads S.accesses (meaning S.accesses) result act.now run.new
         (device_known S.accesses (meaning S.accesses) access device) run.old }
     ensures ends { EndsAt result act.now act.now }
@@ -81,7 +81,8 @@ fn begin_segment<S: Space>(
 ) -> Result<Next, Refusal>
     ensures spent { run.new.1 ≤ run.old.1 }
     ensures falls { IfOk result (λ n. next_weight n <
-        bridges_weight pci.access.calls (length pci.bridges.items) + 3 * part_weight pci.access.calls + 40) }
+        bridges_weight pci.access.calls (length pci.bridges.items) + 3 * part_weight pci.access.calls + 40 +
+        behind_weight pci.access) }
     ensures means { Leads S.accesses (meaning S.accesses) result act.now run.new
         (bridges_known S.accesses (meaning S.accesses) pci.access pci.device pci.bridges.items) run.old }
     ensures ends { EndsAt result act.now act.now }
@@ -110,7 +111,8 @@ fn begin_bus<S: Space>(
 ) -> Result<Next, Refusal>
     ensures spent { run.new.1 ≤ run.old.1 }
     ensures falls { IfOk result (λ n. next_weight n <
-        bridges_weight pci.access.calls (length pci.bridges.items) + 2 * part_weight pci.access.calls + 25) }
+        bridges_weight pci.access.calls (length pci.bridges.items) + 2 * part_weight pci.access.calls + 25 +
+        behind_weight pci.access) }
     ensures means { Leads S.accesses (meaning S.accesses) result act.now run.new
         (segment_known S.accesses (meaning S.accesses) pci.access pci.device pci.bridges.items segment) run.old }
     ensures ends { EndsAt result act.now act.now }
@@ -139,7 +141,7 @@ pub(crate) fn begin_function<S: Space>(
     bus: u64,
 ) -> Result<Next, Refusal>
     ensures spent { run.new.1 ≤ run.old.1 }
-    ensures falls { IfOk result (λ n. next_weight n < part_weight pci.access.calls + 14) }
+    ensures falls { IfOk result (λ n. next_weight n < part_weight pci.access.calls + 14 + behind_weight pci.access) }
     ensures means { Leads S.accesses (meaning S.accesses) result act.now run.new
         (bus_known S.accesses (meaning S.accesses) pci.access pci.device segment bus) run.old }
     ensures ends { EndsAt result act.now act.now }
@@ -174,7 +176,7 @@ fn access_function<S: Space>(
     function: FunctionAddress,
 ) -> Result<Next, Refusal>
     ensures spent { run.new.1 ≤ run.old.1 }
-    ensures falls { IfOk result (λ n. next_weight n < 4) }
+    ensures falls { IfOk result (λ n. next_weight n < 4 + behind_weight access) }
     ensures means { Leads S.accesses (meaning S.accesses) result act.now run.new
         (function_known S.accesses (meaning S.accesses) access function.segment function.bus function.address) run.old }
     ensures ends { EndsAt result act.now act.now }
@@ -211,7 +213,7 @@ pub(crate) fn wait<S: Space>(
 ) -> Result<Next, Refusal>
     ensures spent { run.new.1 ≤ run.old.1 }
     ensures falls { IfOk result (λ n. next_weight n ≤ waited_weight waited +
-        address_weight pci.part pci.access.calls (length pci.bridges.items) + 6) }
+        address_weight pci.part pci.access.calls (length pci.bridges.items) + behind_weight pci.access + 6) }
     ensures means { Leads S.accesses (meaning S.accesses) result act.now run.new
         (waited_met S.accesses (meaning S.accesses) waited pci) run.old }
     ensures ends { EndsAt result act.now act.now }
@@ -251,7 +253,7 @@ pub(crate) fn resume_address<S: Space>(
 ) -> Result<Next, Refusal>
     ensures spent { run.new.1 ≤ run.old.1 }
     ensures falls { IfOk result (λ n. next_weight n <
-        address_weight pci.part pci.access.calls (length pci.bridges.items) + 3) }
+        address_weight pci.part pci.access.calls (length pci.bridges.items) + behind_weight pci.access + 3) }
     ensures means { Leads S.accesses (meaning S.accesses) result act.now run.new
         (part_met S.accesses (meaning S.accesses) pci flow) run.old }
     ensures ends { EndsAt result act.now act.now }

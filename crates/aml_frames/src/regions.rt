@@ -13,10 +13,12 @@ ghost use Rattle.aml_frames.specs.Declarations.{declared_at};
 ghost use Rattle.aml_frames.specs.Follow.{place_of, resumed, ends, next_ends, Leads, EndsAt};
 ghost use Rattle.aml_frames.specs.Weights.{next_weight};
 
-use crate::activation::{Activation, Position};
+use crate::activation::Activation;
+use crate::bank_fields::declare_bank_fields;
 use crate::declarations::{declare_at, done};
 use crate::field_lists::{declare_fields, declare_index_fields};
 use crate::frames::{DeclarationPart, Frame, Next};
+use crate::position::Position;
 use crate::values::integer_of;
 use aml_meaning::{BufferFieldSize, Flow, RegionKind, Running, buffer_of, field_size};
 use aml_objects::{NamedObject, OperationRegion, Value};
@@ -146,6 +148,9 @@ fn declare_part<S: Space>(
         }
         DeclarationPart::BitsCount(source, index) => {
             declare_bits_field(alloc, run, act, (source, index), value)
+        }
+        DeclarationPart::BankValue(levels, outer, region, bank) => {
+            declare_bank_fields(alloc, run, act, (levels, outer), (region, bank), value)
         }
     }
 }

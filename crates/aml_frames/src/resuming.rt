@@ -7,7 +7,8 @@ ghost use Rattle.aml_frames.specs.declared.frames.Next.TheVariants as next;
 ghost use Rattle.aml_frames.specs.Follow.{at_position, turn_left, resumed, ends, next_run, next_ends, Leads, EndsAt};
 ghost use Rattle.aml_frames.specs.Weights.{weight, next_weight, charged};
 
-use crate::activation::{Activation, Position};
+use crate::activation::Activation;
+use crate::bank_access::{read_selected, write_selected};
 use crate::calls::resume_argument;
 use crate::data::resume_buffer;
 use crate::declarations::{resume_named, resume_scope};
@@ -17,6 +18,7 @@ use crate::known::known_integer;
 use crate::operators::{resume_first, resume_operand, resume_quotient, resume_second};
 use crate::packages::{resume_element, resume_var_package};
 use crate::pci::resume_address;
+use crate::position::Position;
 use crate::references::{resume_found, resume_referent};
 use crate::regions::resume_declaration;
 use crate::searching::{resume_match, resume_matched};
@@ -269,6 +271,10 @@ pub fn resume<S: Space>(
         Frame::UnitRead(units, unit) => resume_unit(alloc, run, act, units, unit, flow),
         Frame::UnitMerged(writes, number) => write_merged(alloc, run, act, writes, number),
         Frame::UnitWritten(writes) => next_write(alloc, run, act, writes.into_inner()),
+        Frame::BankRead(units, unit) => read_selected(alloc, run, act, units, unit),
+        Frame::BankWrite(writes, offset, number) => {
+            write_selected(alloc, run, act, writes, offset, number)
+        }
         Frame::Named(name) => resume_named(alloc, run, act, name, flow),
         Frame::Declaration(part) => resume_declaration(alloc, run, act, part, flow),
         Frame::Scope(scope, node) => resume_scope(run, act, scope, node, flow),

@@ -1,10 +1,11 @@
 //! The machine: a loop over a stack of frames.
-ghost use Rattle.std.specs.Prelude.{◌≡◌, ◌≤◌, ◌<◌, ◌+◌, ◌*◌, [], ◌∷◌, ◌++◌, Ok, Err, OnOk, IfOk, IfErr};
+ghost use Rattle.std.specs.Prelude.{◌≡◌, ◌≢◌, ◌≤◌, ◌<◌, ◌+◌, ◌*◌, [], ◌∷◌, ◌++◌, true, Ok, Err, OnOk, OnErr, IfOk, IfErr, IsOk};
 ghost use Rattle.ar_space.specs.Change.{Does, stop};
-ghost use Rattle.ar_space.specs.Outcome.{seen};
+ghost use Rattle.ar_space.specs.Outcome.{NotMemory, seen};
 ghost use Rattle.ar_space.specs.declared.refusal.Refusal.TheVariants.{OutOfMemory};
 ghost use Rattle.aml_meaning.specs.Invocations.{left, returned_by};
 ghost use Rattle.aml_meaning.specs.Meaning.{meaning};
+ghost use Rattle.aml_meaning.specs.PassedOver.{is_passable};
 ghost use Rattle.aml_frames.specs.declared.frames.Control.TheVariants as control;
 ghost use Rattle.aml_frames.specs.declared.frames.Entry.TheVariants as entry;
 ghost use Rattle.aml_frames.specs.declared.frames.Frame.TheVariants as frames;
@@ -17,24 +18,26 @@ ghost use Rattle.aml_objects.specs.declared.value.Value.TheVariants as values;
 ghost use Rattle.aml_frames.specs.Follow.{turn_items, body_run, list_run, all_left, next_run, next_ends};
 ghost use Rattle.aml_marked.specs.Marked.{walk_levels};
 ghost use Rattle.aml_frames.specs.Uses.{optional, access_done};
-ghost use Rattle.aml_frames.specs.Stack.{whole, then_all, machine, Goes, stack_weight, entry_weight, control_weight};
+ghost use Rattle.aml_frames.specs.Stack.{whole, then_all, machine, Goes, Stepped, stack_weight, entry_weight, control_weight};
 ghost use Rattle.aml_frames.specs.Weights.{most, next_weight, target_weight, access_weight, charged};
 
 use crate::accesses::begin_read;
-use crate::activation::{Activation, MethodPath, Position};
+use crate::activation::Activation;
 use crate::addresses::PciAccess;
 use crate::boxed::Boxed;
 use crate::field_access::begin_access;
-use crate::frames::{Control, Entry, Frame, Items, Next, Package};
+use crate::frames::{Control, Entry, Frame, Items, ListItem, Next, Package};
 use crate::lists::{next_item, step_items};
 use crate::packages::begin_element;
+use crate::passing::pass_item_over;
+use crate::position::{MethodPath, Position};
 use crate::resuming::resume;
 use crate::targets::begin_target;
 use crate::terms::begin_term;
 use crate::tracing::{give_up, tell_last, tell_place};
 use crate::uses::{Access, Accessed, Doing, Reading, Target, TargetUse};
 use crate::waiting::{Stack, go_to_flow, go_to_items, go_to_package, go_to_read, go_to_target};
-use aml_meaning::{Count, Flow, Running, StoreTarget};
+use aml_meaning::{Count, Flow, Running, StoreTarget, is_passable};
 use aml_objects::{Field, NodeId, Reference, Value};
 use aml_path::Path;
 use aml_terms::LEVELS;
@@ -117,7 +120,8 @@ fn whole(body: &Activation) -> Items
     body.items(LEVELS, Position { at: 0, end: 0 })
 }
 
-/// The loop.
+/// The loop. Where a step is refused, it goes on behind an item that is passed over, or ends.
+#[tactic(auto, using(crate::proofs::Answering::unwound))]
 fn execute<S: Space>(
     alloc: Global,
     run: &mut Running<S>,
@@ -129,40 +133,44 @@ fn execute<S: Space>(
 {
     let mut stack = stack;
     let mut control = first;
+    'refusals: loop {
+        match take_steps(alloc, run, &mut stack, control) {
+            Ok(flow) => return Ok(flow),
+            Err(refusal) => control = unwind(alloc, run, &mut stack, refusal)?,
+        }
+    }
+}
+
+/// Steps are taken until nothing waits, or one is refused.
+#[tactic(auto, using(crate::proofs::Answering::stepped))]
+fn take_steps<S: Space>(
+    alloc: Global,
+    run: &mut Running<S>,
+    stack: &mut Stack,
+    first: Control,
+) -> Result<Flow, Refusal>
+    ensures refused { IfErr result (λ e. is_passable e ≡ true →
+        charged run.new.1 + (stack_weight stack.new.entries.items + 1) <
+        charged run.old.1 + (stack_weight stack.old.entries.items + control_weight first)) }
+    ensures means { Stepped S.accesses (meaning S.accesses) result stack.new.act stack.new.entries.items run.new
+        (machine S.accesses (meaning S.accesses) first stack.old.act stack.old.entries.items) run.old }
+{
+    let mut control = first;
     'steps: loop {
         match control {
-            Control::Term(levels) => match step_term(alloc, run, &mut stack, levels) {
-                Ok(after) => control = after,
-                Err(refusal) => return Err(unwind(alloc, run, &mut stack, refusal)),
-            },
-            Control::Items(items) => match step_items(alloc, run, &mut stack, items) {
-                Ok(after) => control = after,
-                Err(refusal) => return Err(unwind(alloc, run, &mut stack, refusal)),
-            },
-            Control::Package(filling) => match step_package(alloc, run, &mut stack, filling) {
-                Ok(after) => control = after,
-                Err(refusal) => return Err(unwind(alloc, run, &mut stack, refusal)),
-            },
-            Control::Target(target, aim) => match step_target(alloc, run, &mut stack, target, aim) {
-                Ok(after) => control = after,
-                Err(refusal) => return Err(unwind(alloc, run, &mut stack, refusal)),
-            },
-            Control::Read(field, reading) => match step_read(
-                alloc, run, &mut stack, field, reading,
-            ) {
-                Ok(after) => control = after,
-                Err(refusal) => return Err(unwind(alloc, run, &mut stack, refusal)),
-            },
-            Control::Access(access) => match step_access(alloc, run, &mut stack, access) {
-                Ok(after) => control = after,
-                Err(refusal) => return Err(unwind(alloc, run, &mut stack, refusal)),
-            },
+            Control::Term(levels) => control = step_term(alloc, run, stack, levels)?,
+            Control::Items(items) => control = step_items(alloc, run, stack, items)?,
+            Control::Package(filling) => control = step_package(alloc, run, stack, filling)?,
+            Control::Target(target, aim) => {
+                control = step_target(alloc, run, stack, target, aim)?;
+            }
+            Control::Read(field, reading) => {
+                control = step_read(alloc, run, stack, field, reading)?;
+            }
+            Control::Access(access) => control = step_access(alloc, run, stack, access)?,
             Control::Flow(flow) => match stack.entries.pop() {
                 None => return Ok(flow),
-                Some(top) => match step_entry(alloc, run, &mut stack, top, flow) {
-                    Ok(after) => control = after,
-                    Err(refusal) => return Err(unwind(alloc, run, &mut stack, refusal)),
-                },
+                Some(top) => control = step_entry(alloc, run, stack, top, flow)?,
             },
         }
     }
@@ -178,6 +186,9 @@ fn step_term<S: Space>(
     levels: u8,
 ) -> Result<Control, Refusal>
     ensures falls { IfOk result (λ c. charged run.new.1 + (stack_weight stack.new.entries.items + control_weight c) <
+        charged run.old.1 + stack_weight stack.old.entries.items) }
+    ensures refused { IfErr result (λ e. is_passable e ≡ true →
+        charged run.new.1 + (stack_weight stack.new.entries.items + 1) <
         charged run.old.1 + stack_weight stack.old.entries.items) }
     ensures means { Goes S.accesses (meaning S.accesses) result stack.new.act stack.new.entries.items run.new
         (machine S.accesses (meaning S.accesses) (control.Term levels) stack.old.act stack.old.entries.items) run.old }
@@ -196,6 +207,9 @@ fn step_package<S: Space>(
     filling: Boxed<Package>,
 ) -> Result<Control, Refusal>
     ensures falls { IfOk result (λ c. charged run.new.1 + (stack_weight stack.new.entries.items + control_weight c) <
+        charged run.old.1 + (stack_weight stack.old.entries.items + 4)) }
+    ensures refused { IfErr result (λ e. is_passable e ≡ true →
+        charged run.new.1 + (stack_weight stack.new.entries.items + 1) <
         charged run.old.1 + (stack_weight stack.old.entries.items + 4)) }
     ensures means { Goes S.accesses (meaning S.accesses) result stack.new.act stack.new.entries.items run.new
         (machine S.accesses (meaning S.accesses) (control.Package filling) stack.old.act
@@ -217,6 +231,9 @@ fn step_target<S: Space>(
 ) -> Result<Control, Refusal>
     ensures falls { IfOk result (λ c. charged run.new.1 + (stack_weight stack.new.entries.items + control_weight c) <
         charged run.old.1 + (stack_weight stack.old.entries.items + target_weight target_use)) }
+    ensures refused { IfErr result (λ e. is_passable e ≡ true →
+        charged run.new.1 + (stack_weight stack.new.entries.items + 1) <
+        charged run.old.1 + (stack_weight stack.old.entries.items + target_weight target_use)) }
     ensures means { Goes S.accesses (meaning S.accesses) result stack.new.act stack.new.entries.items run.new
         (machine S.accesses (meaning S.accesses) (control.Target target target_use) stack.old.act
         stack.old.entries.items) run.old }
@@ -235,6 +252,9 @@ fn step_access<S: Space>(
     access: Boxed<Access>,
 ) -> Result<Control, Refusal>
     ensures falls { IfOk result (λ c. charged run.new.1 + (stack_weight stack.new.entries.items + control_weight c) <
+        charged run.old.1 + (stack_weight stack.old.entries.items + access_weight access)) }
+    ensures refused { IfErr result (λ e. is_passable e ≡ true →
+        charged run.new.1 + (stack_weight stack.new.entries.items + 1) <
         charged run.old.1 + (stack_weight stack.old.entries.items + access_weight access)) }
     ensures means { Goes S.accesses (meaning S.accesses) result stack.new.act stack.new.entries.items run.new
         (machine S.accesses (meaning S.accesses) (control.Access access) stack.old.act
@@ -255,6 +275,9 @@ fn step_read<S: Space>(
     reading: Reading,
 ) -> Result<Control, Refusal>
     ensures falls { IfOk result (λ c. charged run.new.1 + (stack_weight stack.new.entries.items + control_weight c) <
+        charged run.old.1 + (stack_weight stack.old.entries.items + most)) }
+    ensures refused { IfErr result (λ e. is_passable e ≡ true →
+        charged run.new.1 + (stack_weight stack.new.entries.items + 1) <
         charged run.old.1 + (stack_weight stack.old.entries.items + most)) }
     ensures means { Goes S.accesses (meaning S.accesses) result stack.new.act stack.new.entries.items run.new
         (machine S.accesses (meaning S.accesses) (control.Read field reading) stack.old.act
@@ -277,12 +300,16 @@ fn step_entry<S: Space>(
 ) -> Result<Control, Refusal>
     ensures falls { IfOk result (λ c. charged run.new.1 + (stack_weight stack.new.entries.items + control_weight c) <
         charged run.old.1 + (stack_weight stack.old.entries.items + entry_weight top + 3)) }
+    ensures refused { IfErr result (λ e. is_passable e ≡ true →
+        charged run.new.1 + (stack_weight stack.new.entries.items + 1) <
+        charged run.old.1 + (stack_weight stack.old.entries.items + entry_weight top + 3)) }
     ensures means { Goes S.accesses (meaning S.accesses) result stack.new.act stack.new.entries.items run.new
         (machine S.accesses (meaning S.accesses) (control.Flow flow) stack.old.act
         (stack.old.entries.items ++ top ∷ [])) run.old }
 {
     match top {
         Entry::Frame(Frame::Items(items)) => next_item(run, stack, items, flow),
+        Entry::Item(item) => meet_item(run, stack, item, flow),
         Entry::Frame(frame) => {
             let next = resume(alloc, run, &mut stack.act, frame, flow)?;
             follow(run, stack, next)
@@ -295,6 +322,25 @@ fn step_entry<S: Space>(
     }
 }
 
+/// A flow meets an item that might have been passed over: the list goes on, or it ends.
+#[cold]
+#[tactic(auto, using(crate::proofs::Machine::taking))]
+fn meet_item<S: Space>(
+    run: &Running<S>,
+    stack: &mut Stack,
+    item: Boxed<ListItem>,
+    flow: Flow,
+) -> Result<Control, Refusal>
+    ensures falls { IfOk result (λ c. stack_weight stack.new.entries.items + control_weight c <
+        stack_weight stack.old.entries.items + 6) }
+    ensures given { IsOk result }
+    ensures means { Goes S.accesses (meaning S.accesses) result stack.new.act stack.new.entries.items run.now
+        (machine S.accesses (meaning S.accesses) (control.Flow flow) stack.old.act
+        (stack.old.entries.items ++ entry.Item item ∷ [])) run.now }
+{
+    next_item(run, stack, item.get().behind, flow)
+}
+
 /// What is left to do is put on the stack.
 #[inline(always)]
 #[tactic(auto, using(crate::proofs::Machine::going))]
@@ -305,6 +351,7 @@ pub(crate) fn follow<S: Space>(
 ) -> Result<Control, Refusal>
     ensures falls { IfOk result (λ c. charged run.new.1 + (stack_weight stack.new.entries.items + control_weight c) ≤
         charged run.old.1 + (stack_weight stack.old.entries.items + next_weight next)) }
+    ensures memory { IfErr result (λ e. e ≡ OutOfMemory) }
     ensures means { Goes S.accesses (meaning S.accesses) result stack.new.act stack.new.entries.items run.new
         (then_all S.accesses (meaning S.accesses) (next_run S.accesses (meaning S.accesses) next stack.old.act)
         (next_ends next stack.old.act) stack.old.entries.items) run.old }
@@ -340,6 +387,7 @@ fn run_then<S: Space>(
 ) -> Result<Control, Refusal>
     ensures falls { IfOk result (λ c. charged run.new.1 + (stack_weight stack.new.entries.items + control_weight c) ≤
         charged run.old.1 + (stack_weight stack.old.entries.items + next_weight (next.BodyThen body asked))) }
+    ensures memory { IfErr result (λ e. e ≡ OutOfMemory) }
     ensures means { Goes S.accesses (meaning S.accesses) result stack.new.act stack.new.entries.items run.new
         (then_all S.accesses (meaning S.accesses) (next_run S.accesses (meaning S.accesses) (next.BodyThen body asked)
         stack.old.act) (next_ends (next.BodyThen body asked) stack.old.act) stack.old.entries.items) run.old }
@@ -404,27 +452,37 @@ fn run_in<S: Space>(
     }
 }
 
-/// A refusal, which is handed on: what waits is given up, and each call that is being evaluated ends. The trace tells
-/// the terms that were being evaluated.
+/// A refusal, which is handed on: what waits is given up, and each call that is being evaluated ends, up to an item of a
+/// list that is passed over. Where there is none, the trace tells the terms that were being evaluated.
 #[cold]
 fn unwind<S: Space>(
     alloc: Global,
     run: &mut Running<S>,
     stack: &mut Stack,
     refusal: Refusal,
-) -> Refusal
-    ensures same { result ≡ refusal }
-    ensures ended { then_all S.accesses (meaning S.accesses) (stop refusal) stack.old.act stack.old.entries.items
-        run.old ≡ (Err refusal, run.new) }
+) -> Result<Control, Refusal>
+    ensures steps { run.new.1 ≡ run.old.1 }
+    ensures passable { OnOk result (is_passable refusal ≡ true) }
+    ensures falls { IfOk result (λ c. stack_weight stack.new.entries.items + control_weight c ≤
+        stack_weight stack.old.entries.items + 1) }
+    ensures ended { OnErr result (NotMemory result → stack.new.entries.items ≡ []) }
+    ensures known { OnErr result (NotMemory result → refusal ≢ OutOfMemory) }
+    ensures means { Goes S.accesses (meaning S.accesses) result stack.new.act stack.new.entries.items run.new
+        (then_all S.accesses (meaning S.accesses) (stop refusal) stack.old.act stack.old.entries.items) run.old }
 {
     let mut outer = None;
     'entries: loop {
         match stack.entries.pop() {
             None => {
                 tell_last(alloc, run, &stack.act, &outer);
-                return refusal;
+                return Err(refusal);
             }
             Some(Entry::Frame(frame)) => give_up(&mut stack.act, &mut outer, frame),
+            Some(Entry::Item(item)) => {
+                if is_passable(&refusal) {
+                    return pass_item_over(alloc, run, stack, item.into_inner(), refusal);
+                }
+            }
             Some(Entry::Leave(caller, method)) => {
                 tell_place(alloc, run, &stack.act, &outer);
                 outer = None;

@@ -14,9 +14,10 @@ ghost use Rattle.aml_frames.specs.Follow.{behind_else, statement_run, branch_at,
 ghost use Rattle.aml_frames.specs.Follow.{next_ends, Leads, EndsAt};
 ghost use Rattle.aml_frames.specs.Weights.{most, next_weight};
 
-use crate::activation::{Activation, Position};
+use crate::activation::Activation;
 use crate::frames::{Frame, Loop, Next, leave};
 use crate::known::known_integer;
+use crate::position::Position;
 use crate::resuming::begin_predicate;
 use crate::targets::begin_target;
 use crate::uses::{Target, TargetUse};

@@ -1,10 +1,11 @@
 //! How terms begin: what is done before the first part of a term is evaluated. The machine goes on with what is left
 //! to do.
-ghost use Rattle.std.specs.Prelude.{◌≡◌, ◌≢◌, ◌≤◌, ◌<◌, ◌+◌, ◌*◌, OnOk, IfOk};
+ghost use Rattle.std.specs.Prelude.{◌≡◌, ◌≢◌, ◌≤◌, ◌<◌, ◌+◌, ◌*◌, true, OnOk, IfOk, IfErr};
 ghost use Rattle.aml_grammar.specs.Apart.{code_of};
 ghost use Rattle.aml_grammar.specs.declared.opcode.Opcode.{Opcode};
 ghost use Rattle.aml_grammar.specs.declared.opcode.TermCode.TheVariants as codes;
 ghost use Rattle.aml_meaning.specs.Meaning.{meaning};
+ghost use Rattle.aml_meaning.specs.PassedOver.{is_passable};
 ghost use Rattle.aml_frames.specs.Places.{next_term, behind_term};
 ghost use Rattle.aml_frames.specs.Follow.{term_run, begun_run, coded_run, behind_coded, Leads, EndsAt};
 ghost use Rattle.aml_frames.specs.Weights.{step_weight, next_weight};
@@ -33,6 +34,7 @@ pub(crate) fn begin_term<S: Space>(
     levels: u8,
 ) -> Result<Next, Refusal>
     ensures paid { OnOk result (run.new.1 < run.old.1) }
+    ensures refused { IfErr result (λ e. is_passable e ≡ true → run.new.1 < run.old.1) }
     ensures falls { IfOk result (λ n. next_weight n < step_weight) }
     ensures means { Leads S.accesses (meaning S.accesses) result act.new run.new
         (term_run S.accesses (meaning S.accesses) act.old levels) run.old }

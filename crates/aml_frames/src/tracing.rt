@@ -2,8 +2,9 @@
 //! is done once evaluation is refused, and changes nothing that a contract sees.
 ghost use Rattle.std.specs.Prelude.{◌≡◌};
 
-use crate::activation::{Activation, MethodPath, between};
+use crate::activation::{Activation, between};
 use crate::frames::{Frame, Loop, Next};
+use crate::position::MethodPath;
 use aml_meaning::{Running, TracePlace, WorldState};
 use aml_path::{NameString, Path};
 use ar_space::Refusal;

@@ -10,9 +10,10 @@ ghost use Rattle.aml_objects.specs.declared.value.Value.TheVariants as values;
 ghost use Rattle.aml_frames.specs.Follow.{turn_items};
 ghost use Rattle.aml_frames.specs.Uses.{optional};
 
-use crate::activation::{Activation, MethodPath};
+use crate::activation::Activation;
 use crate::boxed::Boxed;
 use crate::frames::{Control, Entry, Frame, Items, Loop, Package};
+use crate::position::MethodPath;
 use crate::uses::{Access, Reading, Target, TargetUse};
 use aml_meaning::{Count, Flow, StoreTarget};
 use aml_objects::{Field, NodeId, Reference, Value};

@@ -7,6 +7,7 @@ ghost use Rattle.aml_frames.specs.Follow.{asked_run, wide_run, behind_wide_at, r
 ghost use Rattle.aml_frames.specs.Weights.{most, step_weight, next_weight};
 
 use crate::activation::Activation;
+use crate::bank_fields::begin_bank_fields;
 use crate::frames::Next;
 use crate::operators::{begin_dyadic, begin_monadic};
 use crate::searching::begin_match;
@@ -68,6 +69,7 @@ fn begin_asked<S: Space>(
             let event = Target::super_name(levels);
             begin_target(alloc, run, act, event, TargetUse::Wait(levels))
         }
+        WideKind::BankField => begin_bank_fields(alloc, run, act, levels),
     }
 }
 

@@ -11,7 +11,8 @@ use Rattle.std.specs.Cmp.{IsTotalOrder, eq_by_cmp_equiv, nat_cmp_total, then_tot
 use Rattle.std.specs.Cmp.Rules.{comparing}
 use Rattle.std.specs.FinMap.{IsAntisymmetric, slice_cmp-IsAntisymmetric, nat_cmp-IsAntisymmetric}
 use Rattle.aml_path.specs.declared.segment.Seg.{Seg}
-use Rattle.aml_path.specs.Segments.{seg_cmp, seg_cmp_exact}
+use Rattle.aml_path.specs.Segments.{seg_cmp}
+use Rattle.aml_path.proofs.Segments.{seg_cmp_exact}
 use Rattle.aml_path.specs.Paths.{path_cmp, path_eq}
 use Rattle.aml_grammar.specs.PathTree.{Step, step_cmp, Children, down, path_by, grown, paths_of, own, Linked, number_of, Distinct, Kept}
 

@@ -8,6 +8,7 @@ ghost use Rattle.aml_meaning.specs.Fields.{bits_in, field_value, field_given};
 ghost use Rattle.aml_meaning.specs.Given.{given_of};
 ghost use Rattle.aml_frames.specs.Uses.{asking};
 
+use crate::bank_fields::bank_bits;
 use crate::bridges::bus_behind_all;
 use crate::index_fields::index_bits;
 use aml_fields::{AddressSpace, Region};
@@ -71,6 +72,7 @@ fn bits_in<S: Space>(
             FieldSource::Index(index, behind) => {
                 index_bits(alloc, run, calls, index, behind, unit)
             }
+            FieldSource::Bank(region, bank) => bank_bits(alloc, run, calls, region, bank, unit),
         },
         Field::Buffer(field) => run.world.read_buffer_field(alloc, field),
     }
@@ -109,7 +111,7 @@ pub(crate) fn region_written<S: Space>(
 
 /// Where the region with the number of a declaration is; its address is asked for.
 #[tactic(auto, using(aml_meaning::proofs::Runs::running), unfolding(aml_meaning::specs::Fields::located))]
-fn located<S: Space>(
+pub(crate) fn located<S: Space>(
     alloc: Global,
     run: &mut Running<S>,
     calls: usize,

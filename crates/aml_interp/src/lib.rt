@@ -6,6 +6,7 @@
 #![tactic(auto)]
 
 mod answers;
+mod bank_fields;
 mod bridges;
 mod export;
 mod fields;

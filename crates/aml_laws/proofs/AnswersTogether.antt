@@ -25,7 +25,8 @@ use Rattle.aml_laws.proofs.WorldsTogether.{charge_together, lift_together, objec
 use Rattle.aml_laws.proofs.ChangesTogether.{entry_found_together, integer_kept_together}
 use Rattle.aml_laws.proofs.FieldsTogether.{field_given_together}
 use Rattle.aml_laws.proofs.OperandsTogether.{called_at_together}
-use Rattle.aml_laws.proofs.MeaningTogether.{meaning_together}
+use Rattle.aml_laws.proofs.Levels.{in_body}
+use Rattle.aml_laws.proofs.MeaningTogether.{meaning_parts}
 
 -- ---- arguments
 
@@ -120,7 +121,7 @@ module _ {S T : Type 0} {accesses : Accesses S} {accesses2 : Accesses T} {side :
   use_exported_together : (u : NameUse) → Together side runs (use_exported accesses out u) (use_exported accesses2 out2 u)
   unfolding use_exported
   use_exported_together (uses.Value v) = value_exported_together v
-  use_exported_together (uses.Field u) = field_given_together (called_at_together meaning_together 1) u
+  use_exported_together (uses.Field u) = field_given_together (λ q. in_body side 1 refl (called_at_together meaning_parts 1 q)) u
   use_exported_together (uses.Path p) = give_together _
 
   name_exported_together : (n : Name) (scope : List Seg) → Together side runs (name_exported accesses out n scope) (name_exported accesses2 out2 n scope)

@@ -1,5 +1,5 @@
 -- Taking arguments in and handing an answer out preserve every world relation.
-use Rattle.std.specs.Prelude.{◌≡◌, ℕ, zero, suc, List, [], ◌∷◌, length, take, Ok, Err, refl}
+use Rattle.std.specs.Prelude.{Bool, ◌≡◌, ℕ, zero, suc, List, [], ◌∷◌, length, take, Ok, Err, refl}
 use Rattle.std.proofs.Common.{sym, ◌∙◌, ap, subst}
 use Rattle.ar_space.specs.Accesses.{Accesses}
 use Rattle.ar_space.specs.Outcome.{Outcome}
@@ -24,10 +24,10 @@ use Rattle.aml_meaning.specs.Exporting.{text_exported, bytes_exported, path_of, 
 use Rattle.aml_laws.specs.Kinds.{KeepsKinds}
 use Rattle.aml_laws.proofs.Preorders.{Preorder, Respects, give_respects, stop_respects, then_respects}
 use Rattle.aml_laws.proofs.ObjectKinds.{KeepsObjectKinds, kinds_reflexive, kinds_transitive, kinds_of_front, make_string_keeps_kinds, make_buffer_keeps_kinds, make_package_keeps_kinds, string_at_keeps_kinds, buffer_at_keeps_kinds, elements_at_keeps_kinds}
-use Rattle.aml_laws.proofs.WorldRelations.{WorldRelation, Preserves, RunPreserves, unchanged_preserves, give_preserves, then_preserves, on_objects_preserves, run_give_preserves, run_stop_preserves, lift_preserves, charge_preserves, run_then_preserves}
+use Rattle.aml_laws.proofs.WorldRelations.{Levels, WorldRelationOf, Preserves, RunPreserves, unchanged_preserves, give_preserves, then_preserves, on_objects_preserves, run_give_preserves, run_stop_preserves, lift_preserves, charge_preserves, run_then_preserves}
 use Rattle.aml_laws.proofs.FieldsPreserve.{field_given_preserves}
 use Rattle.aml_laws.proofs.OperandsAndCallsPreserve.{called_at_preserves}
-use Rattle.aml_laws.proofs.RulesPreserve.{meaning_preserves}
+use Rattle.aml_laws.proofs.RulesPreserve.{meaning_parts_lead}
 
 -- ---- arguments make objects, and change nothing else
 
@@ -82,11 +82,11 @@ module _ {S : Type 0} where
   package_imported_respects (suc n) gs = elements_imported_respects (package_imported n) (package_imported_respects n) gs
 
 -- a refused argument makes no object
-taken_back_preserves : {S : Type 0} {accesses : Accesses S} (relation : WorldRelation accesses) (w : State S) (r : Outcome Value) (v : State S) → OnlyMakesObjects w v → relation.Leads w (taken_back (length w.objects) (r, v)).1
+taken_back_preserves : {S : Type 0} {listed : Bool} {accesses : Accesses S} (relation : WorldRelationOf listed accesses) (w : State S) (r : Outcome Value) (v : State S) → OnlyMakesObjects w v → relation.Leads w (taken_back (length w.objects) (r, v)).1
 taken_back_preserves relation w (Ok a) v m = subst (relation.Leads w) (sym m.is) (relation.objects_change w _ m.kinds)
 taken_back_preserves {S} relation w (Err e) v m = subst (relation.Leads w) (sym (ap {A = State S} (λ x. record x { objects = take (length w.objects) v.objects }) m.is)) (relation.objects_change w _ (kinds_of_front _ _ m.kinds))
 
-module _ {S : Type 0} {accesses : Accesses S} {relation : WorldRelation accesses} where
+module _ {S : Type 0} {listed : Bool} {accesses : Accesses S} {relation : WorldRelationOf listed accesses} where
   imported_preserves : (g : Given) → Preserves relation (imported g)
   unfolding imported
   imported_preserves g = record { preserves = λ w. taken_back_preserves relation w (imported_by (package_imported 64) g w).0 (imported_by (package_imported 64) g w).1 ((imported_by_respects (package_imported 64) (package_imported_respects 64) g).respects w) }
@@ -121,8 +121,8 @@ module _ {S : Type 0} {accesses : Accesses S} {relation : WorldRelation accesses
   unfolding name_use
   name_use_preserves n scope = unchanged_preserves _ (λ w. refl)
 
-module _ {S : Type 0} {accesses : Accesses S} {relation : WorldRelation accesses} (out : ℕ → Run S Given) (outs : (o : ℕ) → RunPreserves relation (out o)) where
-  value_exported_preserves : (v : Value) → RunPreserves relation (value_exported accesses out v)
+module _ {S : Type 0} {accesses : Accesses S} (levels : Levels accesses) (out : ℕ → Run S Given) (outs : (o : ℕ) → RunPreserves (levels.at 1) (out o)) where
+  value_exported_preserves : (v : Value) → RunPreserves (levels.at 1) (value_exported accesses out v)
   unfolding value_exported
   value_exported_preserves value.Uninitialized = run_give_preserves _
   value_exported_preserves (value.Integer n) = run_give_preserves _
@@ -131,40 +131,40 @@ module _ {S : Type 0} {accesses : Accesses S} {relation : WorldRelation accesses
   value_exported_preserves (value.Package o) = outs o
   value_exported_preserves (value.Reference r) = reference_exported_preserves r
 
-  use_exported_preserves : (u : NameUse) → RunPreserves relation (use_exported accesses out u)
+  use_exported_preserves : (u : NameUse) → RunPreserves (levels.at 1) (use_exported accesses out u)
   unfolding use_exported
   use_exported_preserves (uses.Value v) = value_exported_preserves v
-  use_exported_preserves (uses.Field u) = field_given_preserves _ (called_at_preserves _ meaning_preserves 1) u
+  use_exported_preserves (uses.Field u) = field_given_preserves _ (called_at_preserves _ (meaning_parts_lead levels) {level = 1} 1) u
   use_exported_preserves (uses.Path p) = run_give_preserves _
 
-  name_exported_preserves : (n : Name) (scope : List Seg) → RunPreserves relation (name_exported accesses out n scope)
+  name_exported_preserves : (n : Name) (scope : List Seg) → RunPreserves (levels.at 1) (name_exported accesses out n scope)
   unfolding name_exported
   name_exported_preserves n scope = run_then_preserves _ _ (lift_preserves _ (name_use_preserves n scope)) (λ u. use_exported_preserves u)
 
-  held_exported_preserves : (e : Element) → RunPreserves relation (held_exported accesses out e)
+  held_exported_preserves : (e : Element) → RunPreserves (levels.at 1) (held_exported accesses out e)
   unfolding held_exported
   held_exported_preserves (element.Value v) = value_exported_preserves v
   held_exported_preserves (element.Name n scope) = name_exported_preserves n scope
 
-  element_exported_preserves : (e : Element) → RunPreserves relation (element_exported accesses out e)
+  element_exported_preserves : (e : Element) → RunPreserves (levels.at 1) (element_exported accesses out e)
   unfolding element_exported
   element_exported_preserves e = run_then_preserves _ _ charge_preserves (λ u. held_exported_preserves e)
 
-  each_exported_preserves : (es : List Element) (done : List Given) → RunPreserves relation (each_exported accesses out es done)
+  each_exported_preserves : (es : List Element) (done : List Given) → RunPreserves (levels.at 1) (each_exported accesses out es done)
   unfolding each_exported
   each_exported_preserves [] done = run_give_preserves _
   each_exported_preserves (e ∷ es) done = run_then_preserves _ _ (element_exported_preserves e) (λ g. each_exported_preserves es _)
 
-  elements_exported_preserves : (o : ℕ) → RunPreserves relation (elements_exported accesses out o)
+  elements_exported_preserves : (o : ℕ) → RunPreserves (levels.at 1) (elements_exported accesses out o)
   unfolding elements_exported
   elements_exported_preserves o = run_then_preserves _ _ (lift_preserves _ (on_objects_preserves _ (elements_at_keeps_kinds o))) (λ es. run_then_preserves _ _ (each_exported_preserves es []) (λ gs. run_give_preserves _))
 
-module _ {S : Type 0} {accesses : Accesses S} {relation : WorldRelation accesses} where
-  package_exported_preserves : (n o : ℕ) → RunPreserves relation (package_exported accesses n o)
+module _ {S : Type 0} {accesses : Accesses S} (levels : Levels accesses) where
+  package_exported_preserves : (n o : ℕ) → RunPreserves (levels.at 1) (package_exported accesses n o)
   unfolding package_exported
   package_exported_preserves zero o = run_stop_preserves _
-  package_exported_preserves (suc n) o = elements_exported_preserves _ (package_exported_preserves n) o
+  package_exported_preserves (suc n) o = elements_exported_preserves levels _ (package_exported_preserves n) o
 
-  pub exported_preserves : (v : Value) → RunPreserves relation (exported accesses v)
+  pub exported_preserves : (v : Value) → RunPreserves (levels.at 1) (exported accesses v)
   unfolding exported
-  exported_preserves v = value_exported_preserves _ (package_exported_preserves 64) v
+  exported_preserves v = value_exported_preserves levels _ (package_exported_preserves 64) v

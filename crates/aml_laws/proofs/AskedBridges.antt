@@ -1,9 +1,8 @@
 -- The bridges above a function that are asked for the bus behind them: which they are, and in which order.
-use Rattle.std.specs.Prelude.{◌≡◌, ◌⊎◌, ◌≤◌, ◌<◌, ◌+◌, ◌==◌, ℕ, zero, suc, Bool, true, false, List, [], ◌∷◌, ◌++◌, length, take, is_some, None, refl, if◌then◌else◌}
+use Rattle.std.specs.Prelude.{◌≡◌, ◌⊎◌, ◌≤◌, ◌<◌, ◌+◌, ◌==◌, ℕ, zero, suc, Bool, true, false, List, [], ◌∷◌, ◌++◌, length, take, is_some, refl, if◌then◌else◌}
 use Rattle.std.proofs.Common.{arith, ap, inl, inr, sym, subst, ◌∙◌, length-take-le}
 use Rattle.std.proofs.lemmas.Bool.Decides.{nat_tests}
 use Rattle.std.proofs.lemmas.List.{take_all}
-use Rattle.std.specs.FinMap.{get}
 use Rattle.aml_path.specs.declared.segment.Seg.{Seg}
 use Rattle.aml_namespace.specs.Namespace.{Map}
 use Rattle.aml_meaning.specs.PciFunctions.{base_bus, has, is_bridge}
@@ -185,3 +184,5 @@ module _ (names : Map) (p : List Seg) where
 
   pub asked_in_order : GrowFrom 0 (bridges_to names p)
   asked_in_order = grown_by (has names p base_bus)
+
+pub ruleset bridges_above_a_function_are_asked_from_the_outermost_on = (each_is_asked, all_are_asked, asked_in_order)

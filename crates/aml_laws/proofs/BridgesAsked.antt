@@ -20,7 +20,7 @@ use Rattle.aml_meaning.specs.Bridges.{bridges_over, bridges_to, header_of, secon
 use Rattle.aml_laws.specs.RegionAccesses.{AsksBridge, header_type, secondary_bus as secondary_bus_number}
 use Rattle.aml_laws.proofs.Preorders.{either_branch, Preorder, Respects, settle_respects, settle_then_respects, then_respects}
 use Rattle.aml_laws.proofs.RegisterAccesses.{number_of_space, pci_space_numbered}
-use Rattle.aml_laws.proofs.WorldRelations.{WorldRelation}
+use Rattle.aml_laws.proofs.WorldRelations.{WorldRelationOf}
 
 -- ---- the bytes that are read
 
@@ -36,7 +36,7 @@ secondary_bus_asks spaces.Memory at is e = absurd (cc is)
 secondary_bus_asks spaces.Io at is e = absurd (cc is)
 secondary_bus_asks (spaces.Pci seg bus dev func) at is e = let same : place.Pci seg bus dev func 25 ≡ at = cc e in subst (λ x. AsksBridge x W8) same (secondary_bus_number seg bus dev func)
 
-module _ {S : Type 0} {accesses : Accesses S} (relation : WorldRelation accesses) (u : State S) where
+module _ {S : Type 0} {listed : Bool} {accesses : Accesses S} (relation : WorldRelationOf listed accesses) (u : State S) where
   -- where a world with the one space is led to, so is the world with the other one
   abbrev spaces_led_to : Preorder S
   spaces_led_to = record {

@@ -1,5 +1,5 @@
 -- A buffer field that lies within its buffer is read and written.
-use Rattle.std.specs.Prelude.{◌≡◌, ◌≤◌, ◌+◌, ◌*◌, ◌^◌, ◌&&◌, ℕ, nat_lt, nat_le, true, List, length, slice_get, slice_set, Some, Ok, refl}
+use Rattle.std.specs.Prelude.{◌≡◌, ◌≤◌, ◌+◌, ◌*◌, ◌^◌, ℕ, nat_lt, nat_le, true, List, length, slice_get, slice_set, Some, Ok, refl}
 use Rattle.std.proofs.Common.{arith}
 use Rattle.std.proofs.lemmas.Bool.Decides.{nat_tests}
 use Rattle.ar_space.specs.Change.{give, settle, go_on, ◌>>=◌}
@@ -26,3 +26,5 @@ module _ (f : BufferField) (h : Objects) (bytes : List ℕ) (at : slice_get h f.
 
 pub field_answers : (f : BufferField) (h : Objects) (bytes source : List ℕ) → slice_get h f.buffer ≡ Some (object.Buffer bytes) → length bytes ≤ 1048576 → f.bit_offset + f.bits ≤ 8 * length bytes → (after : Objects) × (write_buffer_field f source h ≡ (Ok tt, after))
 field_answers f h bytes source at short within = (slice_set h f.buffer (object.Buffer (with_field f source bytes)), field_is_written f h bytes at short within source)
+
+pub ruleset a_buffer_field_within_its_buffer_is_accessed = (field_is_read, field_answers)

@@ -179,3 +179,5 @@ pub keeps_other_objects : (f : BufferField) (source : List ℕ) (h after : Objec
 keeps_other_objects f source h after o e ne =
     let w = written f source h after e in
     ap (λ hs. slice_get hs o) w.is ∙ set_elsewhere h f.buffer o (object.Buffer (with_field f source w.bytes)) ne
+
+pub ruleset a_write_of_a_buffer_field_leaves_other_bits = (keeps_length, keeps_other_bits, keeps_other_objects)

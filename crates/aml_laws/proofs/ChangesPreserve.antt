@@ -38,7 +38,7 @@ use Rattle.aml_meaning.specs.Invocations.{body_terms, named_use, invocation_foun
 use Rattle.aml_laws.proofs.ObjectKinds.{KeepsObjectKinds, make_string_keeps_kinds, make_buffer_keeps_kinds, make_package_keeps_kinds}
 use Rattle.aml_laws.proofs.Preorders.{give_respects, stop_respects}
 use Rattle.aml_laws.proofs.FoundNamesStand.{called_method_stands}
-use Rattle.aml_laws.proofs.WorldRelations.{WorldRelation, Preserves, FindsInvocation, then_finds_invocation, unchanged_preserves, give_preserves, settle_preserves, then_preserves, on_objects_preserves, declared_preserves, stop_preserves}
+use Rattle.aml_laws.proofs.WorldRelations.{WorldRelationOf, Preserves, FindsInvocation, then_finds_invocation, unchanged_preserves, give_preserves, settle_preserves, then_preserves, on_objects_preserves, declared_preserves, stop_preserves}
 
 pub made_of_keeps_kinds : (c : Content) → KeepsObjectKinds (made_of c)
 made_of_keeps_kinds (held.Integer n) = give_respects _
@@ -46,7 +46,7 @@ made_of_keeps_kinds (held.String bytes) = make_string_keeps_kinds bytes
 made_of_keeps_kinds (held.Buffer bytes) = make_buffer_keeps_kinds bytes
 made_of_keeps_kinds held.Other = stop_respects _
 
-module _ {S : Type 0} {accesses : Accesses S} {relation : WorldRelation accesses} where
+module _ {S : Type 0} {listed : Bool} {accesses : Accesses S} {relation : WorldRelationOf listed accesses} where
   -- ---- what names find, and what values are
 
   pub integer_kept_preserves : (n : ℕ) → Preserves relation (integer_kept n)

@@ -6,7 +6,8 @@ use Rattle.ar_space.specs.declared.space.Place.{Place}
 use Rattle.ar_space.specs.declared.space.Width.{Width}
 use Rattle.aml_path.specs.Characters.{is_segment}
 use Rattle.aml_path.specs.Paths.{Name, from_prefix, is_null, resolved}
-use Rattle.aml_path.specs.Segments.{seg_of, segments, tested}
+use Rattle.aml_path.specs.Segments.{seg_of, tested}
+use Rattle.aml_path.proofs.Segments.{segments}
 use Rattle.aml_path.specs.declared.name.Prefix.TheVariants.{Parents, Root}
 use Rattle.aml_path.specs.declared.name.Prefix.{Prefix}
 use Rattle.aml_path.specs.declared.segment.Seg.{Seg}

@@ -6,8 +6,7 @@ use Rattle.ar_space.specs.declared.refusal.NamespaceFault.TheVariants.{NotFound}
 use Rattle.ar_space.specs.declared.refusal.Refusal.TheVariants as refusal
 use Rattle.aml_path.specs.declared.segment.Seg.{Seg}
 use Rattle.aml_grammar.specs.Apart.{bytes_of, name_of}
-use Rattle.aml_grammar.specs.Tree.{Part, Trees, bytes, inner, list, name, number}
-use Rattle.aml_grammar.specs.declared.opcode.Opcode.{Opcode}
+use Rattle.aml_grammar.specs.Tree.{Part, bytes, inner, list, name, number}
 use Rattle.aml_objects.specs.Contents.{Buffer, Content, Integer, Other, String}
 use Rattle.aml_objects.specs.declared.entry.Entry.{Entry}
 use Rattle.aml_objects.specs.declared.entry.FieldSource.TheVariants as sources
@@ -31,11 +30,12 @@ use Rattle.aml_meaning.specs.Mutexes.{count_in, count_of_object, once_less, once
 use Rattle.aml_meaning.specs.Operations.{below, made_of, size_of_object, size_of_referent, size_of_value}
 use Rattle.aml_meaning.specs.Osi.{osi_answer}
 use Rattle.aml_meaning.specs.PciFunctions.{or_behind, or_deep}
+use Rattle.aml_meaning.specs.declared.regions.RegionField.{RegionField}
 use Rattle.aml_meaning.specs.declared.profile.Profile.{Profile}
 use Rattle.aml_meaning.specs.declared.profile.Profile.TheVariants as profiles
 use Rattle.aml_meaning.specs.Bridges.{bridge_header}
 use Rattle.aml_meaning.specs.Readings.{as_many, is_scope, scope_or_not, value_in}
-use Rattle.aml_meaning.specs.Regions.{field_of_object, integer_only, pci_space, region_field, region_of_object}
+use Rattle.aml_meaning.specs.Regions.{field_of_object, integer_only, pci_space, region_field, region_of_object, bank_held}
 use Rattle.aml_meaning.specs.Slots.{slot_at, slot_found}
 use Rattle.aml_meaning.specs.StoreTargets.{held_in, holding_in, initialized, number_in_entry, number_in_frame, or_ended, or_gone, referent_in, where_found}
 use Rattle.aml_meaning.specs.Stores.{byte_of, first_byte}
@@ -235,6 +235,7 @@ region_number_clean n _ = tt
 pub in_region_clean : (n : ℕ) (source : FieldSource) → Clean (in_region n source)
 in_region_clean n (sources.Region r) = tt
 in_region_clean n (sources.Index i d) = tt
+in_region_clean n (sources.Bank r b) = tt
 
 pub field_number_clean : (n : ℕ) (ob : NamedObject) → Clean (field_number n ob)
 field_number_clean n (object.FieldUnit u) = in_region_clean n u.source
@@ -264,6 +265,10 @@ region_of_object_clean _ = tt
 pub region_field_clean : (source : FieldSource) (u : FieldUnit) → Clean (region_field source u)
 region_field_clean (sources.Region n) u = tt
 region_field_clean (sources.Index i d) u = tt
+region_field_clean (sources.Bank n b) u = tt
+
+pub bank_held_clean : (bank : RegionField) (value : ℕ) → Clean (bank_held bank value)
+bank_held_clean bank value = if_clean (nat_lt value (2 ^ bank.unit.bits)) _ _ tt tt
 
 pub field_of_object_clean : (ob : NamedObject) → Clean (field_of_object ob)
 field_of_object_clean (object.FieldUnit u) = region_field_clean u.source u

@@ -1,22 +1,22 @@
 -- Where conversions answer: strings of integers, binary coded decimal, and joined resources.
-use Rattle.std.specs.Prelude.{◌≡◌, ◌⊎◌, ◌≤◌, ◌<◌, ◌+◌, ◌-◌, ◌*◌, ◌/◌, ◌%◌, ◌^◌, ◌==◌, ◌&&◌, ℕ, zero, suc, nat_lt, Bool, true, false, List, [], ◌∷◌, ◌++◌, length, take, slice_index, decimal, Option, Some, None, Ok, refl, if◌then◌else◌}
+use Rattle.std.specs.Prelude.{◌≡◌, ◌⊎◌, ◌<◌, ◌+◌, ◌-◌, ◌*◌, ◌/◌, ◌%◌, ◌^◌, ◌==◌, ◌&&◌, ℕ, zero, suc, nat_lt, Bool, true, false, List, [], ◌∷◌, ◌++◌, length, take, slice_index, decimal, Some, Ok, refl, if◌then◌else◌}
 use Rattle.std.specs.List.{list_all, flat_map, join_by}
 use Rattle.std.specs.Option.{option_map}
-use Rattle.std.proofs.Common.{arith, ap, inl, inr, sym, subst, ◌∙◌}
+use Rattle.std.proofs.Common.{arith, inl, inr}
 use Rattle.std.proofs.lemmas.Bool.Decides.{nat_tests}
-use Rattle.std.specs.Int.Digits.{digits_of, AllBelowBase}
+use Rattle.std.specs.Int.Digits.{digits_of}
 use Rattle.byteorder.specs.Endian.{big_bytes}
 use Rattle.hex.specs.Hex.{encode_with, encode_upper, upper_digits}
-use Rattle.ar_space.specs.Outcome.{Outcome, ◌>>=◌}
+use Rattle.ar_space.specs.Outcome.{◌>>=◌}
 use Rattle.ar_space.specs.declared.integer_width.IntegerWidth.{IntegerWidth}
 use Rattle.acpi_resources.specs.Items.{ResourceItem, items_of}
 use Rattle.acpi_resources.specs.EndTags.{item_length, length_before_end}
-use Rattle.aml_objects.specs.Contents.{Integer, String, Buffer}
+use Rattle.aml_objects.specs.Contents.{Integer, Buffer}
 use Rattle.aml_convert.specs.Integers.{bytes_of, truncated}
 use Rattle.aml_convert.specs.Conversions.{two_digits, to_text_of}
 use Rattle.aml_convert.specs.Strings.{decimal_string_of}
-use Rattle.aml_convert.specs.Decimals.{respelled, is_coded_decimal, coded_decimal, decoded_decimal}
-use Rattle.aml_convert.specs.Concatenation.{before_end, front_of, resources_joined}
+use Rattle.aml_convert.specs.Decimals.{respelled, coded_decimal, decoded_decimal}
+use Rattle.aml_convert.specs.Concatenation.{before_end, resources_joined}
 use Rattle.aml_laws.specs.Digits.{is_upper_digit}
 use Rattle.aml_laws.specs.ResourceLists.{HasEndTag, here, later}
 use Rattle.aml_laws.proofs.IntegersInStrings.{AllBytes, big_are_bytes, high_half, low_half, text_length}
@@ -88,3 +88,5 @@ front_answers (b ∷ bs) (inr h) = let before = ends_before (items_of (b ∷ bs)
 pub joined_answers : (s t : List ℕ) → (s ≡ []) ⊎ HasEndTag (items_of s) → (t ≡ []) ⊎ HasEndTag (items_of t) → (joined : List ℕ) × (resources_joined (Buffer s) (Buffer t) ≡ Ok joined)
 unfolding resources_joined ◌>>=◌
 joined_answers s t h i = let front = front_answers s h in let back = front_answers t i in (front.0 ++ back.0 ++ 0x79 ∷ 0x00 ∷ [], rw (front.1, back.1) refl)
+
+pub ruleset conversions_answer = (text_answers, decimal_answers, buffer_answers, coded_answers, decoded_answers, joined_answers)

@@ -40,6 +40,7 @@ module _ {S : Type 0} (accesses : Accesses S) where
     bridge_asked = λ u w at width wide asks h. h;
     arities_set = λ w list. omega arith;
     mutexes_released = λ w. omega arith;
+    passed_noted = λ listed u w scope e wide is h. h;
   }
 
   -- ---- terms

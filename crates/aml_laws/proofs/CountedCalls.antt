@@ -25,6 +25,7 @@ use Rattle.ar_space.specs.Outcome.{seen}
 use Rattle.aml_meaning.specs.Slots.{opened}
 use Rattle.aml_laws.specs.Counted.{beside_counter}
 use Rattle.aml_laws.proofs.CountedChanges.{Counts, RunCounts, give_counts, stop_counts, settle_counts, then_counts, direct_counts, either_branch_counts, lift_counts}
+use Rattle.aml_laws.proofs.ItemsOfLists.{item_counts}
 use Rattle.aml_laws.proofs.CountedOperations.{integer_in_counts, body_terms_counts, invocation_found_counts}
 use Rattle.aml_laws.proofs.CountedStoreTargets.{stored_counts}
 use Rattle.aml_laws.proofs.CountedFields.{field_value_counts, field_stored_counts, field_integer_counts, field_referent_counts, field_part_counts}
@@ -54,7 +55,7 @@ module _ {S : Type 0} (accesses : Accesses S) (ev : Task → Run (S × ℕ) Flow
   pub in_turn_counts : (scope : List Seg) (depth : ℕ) (ts : Trees) → RunCounts {S = S} (in_turn ev scope depth ts) (in_turn uncounted scope depth ts)
   unfolding in_turn
   in_turn_counts scope depth no_trees = give_counts _
-  in_turn_counts scope depth (tree t ts) = then_counts _ _ _ _ (parts _) (λ f. after_item_counts (goes_on f) f _ _ (in_turn_counts scope depth ts))
+  in_turn_counts scope depth (tree t ts) = then_counts _ _ _ _ (item_counts ev uncounted parts scope depth t) (λ f. after_item_counts (goes_on f) f _ _ (in_turn_counts scope depth ts))
 
   -- ---- calls of control methods
 

@@ -18,7 +18,7 @@ use Rattle.aml_fields.specs.declared.region.Region.{Region}
 use Rattle.aml_fields.specs.declared.field_units.Unit.{Unit as Access}
 use Rattle.aml_fields.specs.Units.{units_of}
 use Rattle.aml_fields.specs.UnitByUnit.{read_units, bits_read, write_units, kept_by, kept}
-use Rattle.aml_fields.specs.Regions.{read_access, read_unit, read_field, write_access, write_unit, write_field}
+use Rattle.aml_fields.specs.Regions.{read_access, read_unit, read_field, write_access, write_unit, write_field, write_whole}
 use Rattle.aml_meaning.specs.Bridges.{secondary_bus}
 use Rattle.aml_meaning.specs.State.{State, on_objects, on_names, on_space}
 use Rattle.aml_meaning.specs.Run.{Run, lift, charge}
@@ -173,13 +173,17 @@ module _ {S : Type 0} (accesses : Accesses S) where
   unfolding write_access beside_counter
   write_access_counts p width value = record { same = λ s. refl; leads = λ s. refl }
 
-  read_unit_counts : (r : Region) (width : Width) (u : Access) → Counted (space_view S) (read_unit (beside_counter accesses) r width u) (read_unit accesses r width u)
+  pub read_unit_counts : (r : Region) (width : Width) (u : Access) → Counted (space_view S) (read_unit (beside_counter accesses) r width u) (read_unit accesses r width u)
   unfolding read_unit
   read_unit_counts r width u = then_counts _ _ _ _ (settle_counts _) (λ p. read_access_counts p width)
 
   write_unit_counts : (r : Region) (f : FieldUnit) (source : List ℕ) (u : Access) → Counted (space_view S) (write_unit (beside_counter accesses) r f source u) (write_unit accesses r f source u)
   unfolding write_unit
   write_unit_counts r f source u = then_counts _ _ _ _ (settle_counts _) (λ p. then_counts _ _ _ _ (kept_counts f u _ _ (read_access_counts p f.access)) (λ old. write_access_counts p f.access _))
+
+  pub write_whole_counts : (r : Region) (width : Width) (offset value : ℕ) → Counted (space_view S) (write_whole (beside_counter accesses) r width offset value) (write_whole accesses r width offset value)
+  unfolding write_whole
+  write_whole_counts r width offset value = then_counts _ _ _ _ (settle_counts _) (λ p. write_access_counts p width value)
 
   pub secondary_bus_counts : (seg bus address : ℕ) → Counted (space_view S) (secondary_bus (beside_counter accesses) seg bus address) (secondary_bus accesses seg bus address)
   unfolding secondary_bus

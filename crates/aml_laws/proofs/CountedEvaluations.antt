@@ -267,3 +267,5 @@ module _ {S : Type 0} (accesses : Accesses S) where
 
   pub answer_is_the_same : (p : List Seg) (arguments : List given.Given) (steps : ℕ) (w : State (S × ℕ)) → answered accesses p arguments steps (without_counter w) ≡ ((counted_answered accesses p arguments steps w).0, without_counter (counted_answered accesses p arguments steps w).1)
   answer_is_the_same p arguments steps w = (answered_begins p arguments steps).same w
+
+pub ruleset terms_of_tables_and_answers_are_counted = (table_is_bounded, table_is_the_same, value_is_bounded, value_is_the_same, answer_is_bounded, answer_is_the_same)

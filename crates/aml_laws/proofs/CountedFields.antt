@@ -16,6 +16,7 @@ use Rattle.aml_objects.specs.declared.entry.FieldUnit.{FieldUnit}
 use Rattle.aml_objects.specs.declared.entry.FieldSource.{FieldSource}
 use Rattle.aml_objects.specs.declared.entry.FieldSource.TheVariants as sources
 use Rattle.aml_convert.specs.Integers.{bits_of}
+use Rattle.aml_fields.specs.declared.region.Region.{Region}
 use Rattle.aml_fields.specs.declared.field_units.Unit.{Unit as Access}
 use Rattle.aml_fields.specs.Units.{units_of}
 use Rattle.aml_meaning.specs.declared.field_layout.FieldLayout.{FieldLayout}
@@ -28,13 +29,13 @@ use Rattle.aml_meaning.specs.Run.{Run}
 use Rattle.aml_meaning.specs.PciFunctions.{nearest, behind_asked, pci_function}
 use Rattle.aml_meaning.specs.Bridges.{bridges_above}
 use Rattle.aml_meaning.specs.Regions.{region_declared, field_declared, integer_of_bits, integer_value, value_of_bits, integer_alone, referent_of_bits, given_of_bits}
-use Rattle.aml_meaning.specs.Fields.{part_in, inherited, bus_behind, bus_behind_all, pci_address, space_at, located, region_bits, region_written, index_unit, index_unit_written, index_bits, index_written, field_unit_bits, field_unit_written, bits_in, written_in, field_value, field_integer, field_part, field_referent, field_stored, field_given}
+use Rattle.aml_meaning.specs.Fields.{part_in, inherited, bus_behind, bus_behind_all, pci_address, space_at, located, region_bits, region_written, index_unit, index_unit_written, index_bits, index_written, field_unit_bits, field_unit_written, bits_in, written_in, field_value, field_integer, field_part, field_referent, field_stored, field_given, bank_selected, bank_unit, bank_unit_written, bank_bits, bank_written}
 use Rattle.aml_meaning.specs.Terms.{is_named}
 use Rattle.aml_meaning.specs.FieldTerms.{connection_found, named_connection, connection_if, new_field, named_field, reserved_field, access_field, element_laid, elements_laid, region_found, field_found}
 use Rattle.ar_space.specs.Change.{stop}
 use Rattle.aml_meaning.specs.State.{on_objects}
 use Rattle.aml_laws.specs.Counted.{beside_counter}
-use Rattle.aml_laws.proofs.CountedChanges.{Counts, RunCounts, give_counts, stop_counts, settle_counts, then_counts, direct_counts, either_branch_counts, on_objects_counts, on_space_counts, lift_counts, bits_read_counts, write_units_counts, kept_counts, read_field_counts, secondary_bus_counts, write_field_counts}
+use Rattle.aml_laws.proofs.CountedChanges.{Counts, RunCounts, give_counts, stop_counts, settle_counts, then_counts, direct_counts, either_branch_counts, on_objects_counts, on_space_counts, lift_counts, bits_read_counts, write_units_counts, kept_counts, read_field_counts, secondary_bus_counts, write_field_counts, read_unit_counts, write_whole_counts}
 use Rattle.aml_laws.proofs.CountedOperations.{entry_found_counts, new_name_counts}
 use Rattle.aml_laws.proofs.CountedStoreTargets.{declaration_counts, bytes_in_counts}
 
@@ -189,15 +190,29 @@ module _ {S : Type 0} (accesses : Accesses S) (call : List Seg → Run (S × ℕ
   unfolding index_unit_written
   index_unit_written_counts index behind f bytes u = then_counts _ _ _ _ (kept_counts f u _ _ (index_unit_counts index behind f.access u)) (λ old. then_counts _ _ _ _ (region_written_counts index _) (λ chosen. region_written_counts behind _))
 
+  bank_selected_counts : (bank : RegionField) (value : ℕ) → RunCounts {S = S} (bank_selected (beside_counter accesses) call bank value) (bank_selected accesses uncounted bank value)
+  unfolding bank_selected
+  bank_selected_counts bank value = then_counts _ _ _ _ (settle_counts _) (λ held. region_written_counts bank _)
+
+  bank_unit_counts : (bank : RegionField) (value : ℕ) (r : Region) (w : Width) (u : Access) → RunCounts {S = S} (bank_unit (beside_counter accesses) call bank value r w u) (bank_unit accesses uncounted bank value r w u)
+  unfolding bank_unit
+  bank_unit_counts bank value r w u = then_counts _ _ _ _ (bank_selected_counts bank value) (λ selected. lift_counts _ _ (on_space_counts _ _ (read_unit_counts accesses r w u)))
+
+  bank_unit_written_counts : (bank : RegionField) (value : ℕ) (r : Region) (f : FieldUnit) (bytes : List ℕ) (u : Access) → RunCounts {S = S} (bank_unit_written (beside_counter accesses) call bank value r f bytes u) (bank_unit_written accesses uncounted bank value r f bytes u)
+  unfolding bank_unit_written
+  bank_unit_written_counts bank value r f bytes u = then_counts _ _ _ _ (kept_counts f u _ _ (bank_unit_counts bank value r f.access u)) (λ old. then_counts _ _ _ _ (bank_selected_counts bank value) (λ selected. lift_counts _ _ (on_space_counts _ _ (write_whole_counts accesses r f.access u.offset _))))
+
   field_unit_bits_counts : (source : FieldSource) (f : FieldUnit) → RunCounts {S = S} (field_unit_bits (beside_counter accesses) call source f) (field_unit_bits accesses uncounted source f)
-  unfolding index_bits
+  unfolding index_bits bank_bits
   field_unit_bits_counts (sources.Region n) f = region_bits_counts _
   field_unit_bits_counts (sources.Index i d) f = then_counts _ _ _ _ (lift_counts _ _ (field_declared_counts i)) (λ index. then_counts _ _ _ _ (lift_counts _ _ (field_declared_counts d)) (λ behind. bits_read_counts _ _ (index_unit_counts index behind f.access) f))
+  field_unit_bits_counts (sources.Bank n b) f = then_counts _ _ _ _ (lift_counts _ _ (field_declared_counts b.field)) (λ bank. then_counts _ _ _ _ (located_counts n) (λ r. bits_read_counts _ _ (bank_unit_counts bank b.value r f.access) f))
 
   field_unit_written_counts : (source : FieldSource) (f : FieldUnit) (bytes : List ℕ) → RunCounts {S = S} (field_unit_written (beside_counter accesses) call source f bytes) (field_unit_written accesses uncounted source f bytes)
-  unfolding index_written
+  unfolding index_written bank_written
   field_unit_written_counts (sources.Region n) f bytes = region_written_counts _ bytes
   field_unit_written_counts (sources.Index i d) f bytes = then_counts _ _ _ _ (lift_counts _ _ (field_declared_counts i)) (λ index. then_counts _ _ _ _ (lift_counts _ _ (field_declared_counts d)) (λ behind. write_units_counts _ _ (index_unit_written_counts index behind f bytes) (units_of f.bit_offset f.bits f.access)))
+  field_unit_written_counts (sources.Bank n b) f bytes = then_counts _ _ _ _ (lift_counts _ _ (field_declared_counts b.field)) (λ bank. then_counts _ _ _ _ (located_counts n) (λ r. write_units_counts _ _ (bank_unit_written_counts bank b.value r f bytes) (units_of f.bit_offset f.bits f.access)))
 
   bits_in_counts : (f : Field) → RunCounts {S = S} (bits_in (beside_counter accesses) call f) (bits_in accesses uncounted f)
   bits_in_counts (field.Unit u) = field_unit_bits_counts u.source u

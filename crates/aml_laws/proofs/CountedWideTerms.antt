@@ -25,7 +25,8 @@ use Rattle.aml_meaning.specs.Tasks.{Task}
 use Rattle.aml_meaning.specs.TargetTerms.{target_at, targeted}
 use Rattle.aml_meaning.specs.WideOperations.{decoded_in, number_coded, coded_in, decimal_text, new_decimal_string, decimal_string_in, hexadecimal_text, new_hexadecimal_string, hexadecimal_string_in, string_text, string_in, middle_content, middle_in, converted}
 use Rattle.aml_meaning.specs.FormedStores.{is_integer, is_string, is_buffer, formed_over_value, formed_over, formed_in_name, formed_in_declared, formed_through, formed_to}
-use Rattle.aml_meaning.specs.FieldTerms.{has_connection, asked_if, connections_asked}
+use Rattle.aml_meaning.specs.BankTerms.{banked_laid, bank_list_rule}
+use Rattle.aml_meaning.specs.FieldTerms.{fields_laid, has_connection, asked_if, connections_asked}
 use Rattle.aml_meaning.specs.Profiles.{asked_for}
 use Rattle.aml_meaning.specs.WideTerms.{in_wide, formed_at, convert_rule, to_string_rule, middle_rule, wide_rule}
 use Rattle.aml_laws.specs.Counted.{beside_counter}
@@ -33,6 +34,7 @@ use Rattle.aml_laws.proofs.CountedChanges.{Counts, RunCounts, direct_counts, giv
 use Rattle.aml_laws.proofs.CountedOperations.{integer_in_counts}
 use Rattle.aml_laws.proofs.CountedStoreTargets.{held_at_counts, declaration_counts, copy_into_name_counts, store_over_value_counts, store_in_slot_counts, store_to_counts}
 use Rattle.aml_laws.proofs.CountedCalls.{value_at_counts, two_values_counts, completed_counts}
+use Rattle.aml_laws.proofs.CountedFields.{elements_laid_counts, field_found_counts, region_found_counts}
 use Rattle.aml_laws.proofs.CountedMatches.{match_rule_counts}
 use Rattle.aml_laws.proofs.CountedEvents.{event_rule_counts, wait_rule_counts}
 
@@ -169,6 +171,13 @@ module _ {S : Type 0} (accesses : Accesses S) (ev : Task → Run (S × ℕ) Flow
   unfolding middle_rule
   middle_rule_counts scope depth t = then_counts _ _ _ _ (two_values_counts accesses ev uncounted parts scope depth t) (λ y. then_counts _ _ _ _ (value_at_counts accesses ev uncounted parts scope depth t 2) (λ n. then_counts _ _ _ _ (lift_counts _ _ (middle_in_counts y.0 y.1 n)) (λ r. stores scope depth t 3 r)))
 
+  bank_list_rule_counts : (scope : List Seg) (depth : ℕ) (t : Tree) → RunCounts {S = S} (bank_list_rule ev scope depth t) (bank_list_rule uncounted scope depth t)
+  unfolding bank_list_rule banked_laid fields_laid
+  bank_list_rule_counts scope depth t =
+      then_counts _ _ _ _ (settle_counts _) (λ x. then_counts _ _ _ _ (lift_counts _ _ (region_found_counts scope x)) (λ region. then_counts _ _ _ _ (settle_counts _) (λ y. then_counts _ _ _ _ (lift_counts _ _ (field_found_counts scope y)) (λ bank.
+      then_counts _ _ _ _ (value_at_counts accesses ev uncounted parts scope depth t 2) (λ v. then_counts _ _ _ _ (settle_counts _) (λ flags. then_counts _ _ _ _ (settle_counts _) (λ ts.
+      then_counts _ _ _ _ (lift_counts _ _ (integer_in_counts v)) (λ n. then_counts _ _ _ _ (lift_counts _ _ (elements_laid_counts _ scope depth _ ts)) (λ laid. give_counts _)))))))))
+
   wide_rule_counts : (k : WideKind) (scope : List Seg) (depth : ℕ) (t : Tree) → RunCounts {S = S} (wide_rule (beside_counter accesses) ev k scope depth t) (wide_rule accesses uncounted k scope depth t)
   wide_rule_counts (wides.Convert k) scope depth t = convert_rule_counts k scope depth t
   wide_rule_counts wides.ToString scope depth t = to_string_rule_counts scope depth t
@@ -176,6 +185,7 @@ module _ {S : Type 0} (accesses : Accesses S) (ev : Task → Run (S × ℕ) Flow
   wide_rule_counts wides.Match scope depth t = match_rule_counts accesses ev uncounted parts scope depth t
   wide_rule_counts (wides.Event k) scope depth t = event_rule_counts accesses ev uncounted parts aimed k scope depth t
   wide_rule_counts wides.Wait scope depth t = wait_rule_counts accesses ev uncounted parts aimed scope depth t
+  wide_rule_counts wides.BankField scope depth t = bank_list_rule_counts scope depth t
 
   -- the profile is asked first
   pub in_wide_counts : (op : Opcode) (k : WideKind) (scope : List Seg) (depth : ℕ) (t : Tree) → RunCounts {S = S} (in_wide op (wide_rule (beside_counter accesses) ev k scope depth t)) (in_wide op (wide_rule accesses uncounted k scope depth t))

@@ -5,7 +5,6 @@ use Rattle.std.proofs.Math.Nat.{div-add-mod', div-lt_self}
 use Rattle.std.proofs.lemmas.Nat.{div-mul-add, mod-mul-add}
 use Rattle.std.proofs.lemmas.Bool.Decides.{nat_tests}
 use Rattle.std.proofs.lemmas.Bool.{lt-ltb}
-use Rattle.std.proofs.lemmas.List.Folds.{list_all-append}
 use Rattle.std.proofs.lemmas.Int.Digits.{digits_of_step, all_below_base_digits_of, number_digits_of, number_push, same_from_digits_of}
 use Rattle.std.specs.Int.Digits.{digits_of, number_from_digits, AllBelowBase}
 use Rattle.std.specs.List.{list_all}
@@ -108,3 +107,5 @@ decoded_has_digits m n is =
 
 pub decoded_codes : (w : IntegerWidth) (m n k : ℕ) → decoded_decimal m ≡ Ok n → coded_decimal w n ≡ Ok k → k ≡ m
 decoded_codes w m n k is coded = same_from_digits_of 16 k m (omega arith) (coded_has_digits w n k coded ∙ decoded_has_digits m n is)
+
+pub ruleset binary_coded_decimal_has_the_decimal_digits = (coded_has_digits, decoded_has_digits, coded_decodes, decoded_codes)

@@ -47,6 +47,7 @@ numbered_relation accesses = record {
   bridge_asked = λ u w at width wide asks h n. h n;
   arities_set = λ w list n. n;
   mutexes_released = λ w n. numbered_released w.names n;
+  passed_noted = λ listed u w scope e wide is h n. h n;
 }
 
 pub numbered_stays : {S : Type 0} (accesses : Accesses S) (w v : State S) → Becomes accesses w v → Numbered w.names → Numbered v.names
@@ -110,6 +111,7 @@ gone_relation accesses n = record {
   bridge_asked = λ u w at width wide asks h g. h g;
   arities_set = λ w list g. g;
   mutexes_released = λ w g. gone_after_release n w.names g;
+  passed_noted = λ listed u w scope e wide is h g. h g;
 }
 
 -- ---- what stands under a number
@@ -174,3 +176,5 @@ gone_from n s l none = record { given = l; gone = λ p e at. unnumbered n (entri
 -- a number that was given and finds nothing never finds anything again
 pub gone_stays : {S : Type 0} (accesses : Accesses S) (w v : State S) (n : ℕ) → Becomes accesses w v → n < w.names.next → numbered n w.names.map ≡ None → numbered n v.names.map ≡ None
 gone_stays accesses w v n h l none = none_by_cases n v.names.map (numbered n v.names.map) refl (becomes_preserves (gone_relation accesses n) w v h (gone_from n w.names l none)).gone
+
+pub ruleset numbers_are_given_once = (numbered_always, numbered_stays, numbered_opened)

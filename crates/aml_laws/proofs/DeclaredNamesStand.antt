@@ -1,6 +1,6 @@
 -- A term that declares a name outside of control methods, and is evaluated, leaves the name where its operand says.
-use Rattle.std.specs.Prelude.{◌≡◌, ℕ, ◌+◌, ◌-◌, ◌==◌, ◌^◌, List, Bool, true, false, Option, Some, Ok, Err, refl, is_some, cond, if◌then◌else◌}
-use Rattle.std.proofs.Common.{ap, sym, ◌∙◌, subst}
+use Rattle.std.specs.Prelude.{◌≡◌, ◌<◌, ℕ, ◌+◌, ◌-◌, ◌==◌, ◌^◌, List, Bool, true, false, Option, Some, Ok, Err, refl, is_some, cond, if◌then◌else◌}
+use Rattle.std.proofs.Common.{arith, inl, inr, ap, sym, ◌∙◌, subst}
 use Rattle.std.proofs.lemmas.Cmp.{eq_by_cmp_equiv}
 use Rattle.std.specs.FinMap.{get, get-insert, insert, contains_key}
 use Rattle.ar_space.specs.declared.refusal.Refusal.{Refusal}
@@ -15,7 +15,7 @@ use Rattle.aml_path.specs.Paths.{Name, resolved}
 use Rattle.aml_grammar.specs.declared.opcode.Opcode.{Opcode}
 use Rattle.aml_grammar.specs.declared.opcode.TermCode.{TermCode}
 use Rattle.aml_grammar.specs.declared.opcode.TermCode.TheVariants as codes
-use Rattle.aml_grammar.specs.Tree.{Tree, Trees}
+use Rattle.aml_grammar.specs.Tree.{Tree, Trees, tree}
 use Rattle.aml_grammar.specs.Apart.{code_of, operand_of, name_of}
 use Rattle.aml_objects.specs.declared.entry.MethodFlags.{MethodFlags}
 use Rattle.aml_objects.specs.declared.entry.NamedObject.{NamedObject}
@@ -35,17 +35,24 @@ use Rattle.aml_meaning.specs.State.{State, on_names}
 use Rattle.aml_meaning.specs.Run.{Run, lift, charge}
 use Rattle.aml_meaning.specs.Terms.{kind_of}
 use Rattle.aml_meaning.specs.Declaring.{new_name, not_in_method, new_method}
-use Rattle.aml_meaning.specs.Tasks.{task, goes_on, in_turn}
+use Rattle.aml_meaning.specs.declared.passed_over.PassedItem.{PassedItem}
+use Rattle.aml_meaning.specs.PassedOver.{PassedOver, is_passable, passed_with}
+use Rattle.aml_meaning.specs.Passing.{with_passed, item_done}
+use Rattle.aml_meaning.specs.Tasks.{task, passes_over, goes_on, in_turn}
 use Rattle.aml_meaning.specs.DeclarationTerms.{declaring, name_rule, alias_rule, method_rule, new_scope, declaration_rule}
 use Rattle.aml_meaning.specs.Evaluation.{kind_rule, code_rule, rule}
 use Rattle.aml_meaning.specs.Meaning.{meaning}
 use Rattle.aml_meaning.proofs.Meanings.{meaning_is}
 use Rattle.aml_laws.specs.Outside.{Outside, Stands}
+use Rattle.aml_laws.specs.PassedNotes.{GoesOn, PassesNothing}
 use Rattle.aml_laws.specs.Declares.{declared_place, region_place, place_of_kind, place_in, Declares, IsItem, first, later}
 use Rattle.aml_laws.proofs.ObjectKinds.{new_buffer_field_keeps_kinds}
 use Rattle.aml_laws.proofs.WorldRelations.{Preserves, RunPreserves, on_objects_preserves, run_give_preserves, run_settle_preserves, charge_preserves, lift_preserves, run_then_preserves}
 use Rattle.aml_laws.proofs.ChangesPreserve.{integer_in_preserves, path_found_preserves, new_name_preserves, new_method_preserves}
+use Rattle.aml_laws.proofs.ListsGoOn.{refused_done, rest_of, item_passed, item_plain, first_then}
 use Rattle.aml_laws.proofs.NamesStay.{names_relation}
+use Rattle.aml_laws.proofs.NotesKept.{counted_rises, counts_one, goes_on_reflexive, goes_on_relation}
+use Rattle.aml_laws.proofs.ProfileKept.{profile_relation}
 use Rattle.aml_laws.proofs.OperandsAndCallsPreserve.{after_item_preserves, operand_value_preserves, value_at_preserves, two_values_preserves}
 use Rattle.aml_laws.proofs.RulesPreserve.{meaning_preserves, list_preserves}
 
@@ -208,36 +215,111 @@ term_declares_name accesses scope depth t p s f d o is = subst (λ a. Stands a.1
 
 -- ---- lists
 
--- an evaluation that leaves a name, where nothing ended it early
-record EndsWithName {S : Type 0} (m : Run S Flow) (p : List Seg) : Type 0 where
-  ends_with_name : (s : State S × ℕ) → Outside s.0 p → (m s).0 ≡ Ok flow.Next → Stands (m s).1.0 p
+-- what passes nothing over on the whole passes nothing over on the way
+counts_between : (u v w : PassedOver) → GoesOn u v → GoesOn v w → w.count ≡ u.count → v.count ≡ u.count
+counts_between u v w h i same = let first = h.count in let second = i.count in omega (arith, first, second, same)
 
-declares_name_ends_with_name : {S : Type 0} (m : Run S Flow) (p : List Seg) → DeclaresName m p → EndsWithName m p
-declares_name_ends_with_name m p h = record { ends_with_name = λ s o is. h.declares_name s flow.Next o is }
+passes_nothing_after : {S : Type 0} (depth : ℕ) (u v w : State S) → v.profile ≡ u.profile → GoesOn u.passed v.passed → GoesOn v.passed w.passed → PassesNothing depth u w → PassesNothing depth v w
+passes_nothing_after depth u v w kept h i (inl never) = inl (ap (passes_over depth) kept ∙ never)
+passes_nothing_after depth u v w kept h i (inr q) =
+    let between = counts_between u.passed v.passed w.passed h i q.0 in
+    let few = q.1 in
+    inr (q.0 ∙ sym between, omega (arith, between, few))
 
-rest_ends_with_name : {S : Type 0} (f : Flow) (m : Run S Flow) (p : List Seg) → EndsWithName m p → (s : State S × ℕ) → Outside s.0 p → ((if goes_on f then m else give f) s).0 ≡ Ok flow.Next → Stands ((if goes_on f then m else give f) s).1.0 p
+-- where an item was passed over, the count is another
+noted_between : (u v w : PassedOver) (item : PassedItem) → GoesOn u v → GoesOn (passed_with item v) w → w.count ≡ u.count → u.count < 2 ^ 64 - 1 → ⊥
+noted_between u v w item h i same few =
+    let first = h.count in
+    let second = i.count in
+    let rises = counted_rises v.count in
+    let one = counts_one v.count (omega (arith, first, second, same, few, rises)) in
+    absurd (omega (arith, first, second, same, one))
+
+noted_then : {S : Type 0} (depth : ℕ) (u v w : State S) (item : PassedItem) → passes_over depth u.profile ≡ true → GoesOn u.passed v.passed → GoesOn (passed_with item v.passed) w.passed → PassesNothing depth u w → ⊥
+noted_then depth u v w item may h i (inl never) = absurd (cc (sym may ∙ never))
+noted_then depth u v w item may h i (inr q) = noted_between u.passed v.passed w.passed item h i q.0 q.1
+
+-- an evaluation that leaves a name, where nothing ended it early, and nothing is passed over
+record EndsWithName {S : Type 0} (depth : ℕ) (m : Run S Flow) (p : List Seg) : Type 0 where
+  ends_with_name : (s : State S × ℕ) → PassesNothing depth s.0 (m s).1.0 → Outside s.0 p → (m s).0 ≡ Ok flow.Next → Stands (m s).1.0 p
+
+rest_ends_with_name : {S : Type 0} (depth : ℕ) (f : Flow) (m : Run S Flow) (p : List Seg) → EndsWithName depth m p → (s : State S × ℕ) → PassesNothing depth s.0 ((if goes_on f then m else give f) s).1.0 → Outside s.0 p → ((if goes_on f then m else give f) s).0 ≡ Ok flow.Next → Stands ((if goes_on f then m else give f) s).1.0 p
 unfolding give
-rest_ends_with_name (flow.Value v) m p h s o is = h.ends_with_name s o is
-rest_ends_with_name flow.Next m p h s o is = h.ends_with_name s o is
-rest_ends_with_name flow.Break m p h s o is = absurd (cc is)
-rest_ends_with_name flow.Continue m p h s o is = absurd (cc is)
-rest_ends_with_name (flow.Return v) m p h s o is = absurd (cc is)
+rest_ends_with_name depth (flow.Value v) m p h s fails o is = h.ends_with_name s fails o is
+rest_ends_with_name depth flow.Next m p h s fails o is = h.ends_with_name s fails o is
+rest_ends_with_name depth flow.Break m p h s fails o is = absurd (cc is)
+rest_ends_with_name depth flow.Continue m p h s fails o is = absurd (cc is)
+rest_ends_with_name depth (flow.Return v) m p h s fails o is = absurd (cc is)
 
-later_ends_with_name : {S : Type 0} (r : Outcome Flow) (s : State S × ℕ) (m : Run S Flow) (p : List Seg) → EndsWithName m p → Outside s.0 p → (go_on r s (λ f. if goes_on f then m else give f)).0 ≡ Ok flow.Next → Stands (go_on r s (λ f. if goes_on f then m else give f)).1.0 p
+later_ends_with_name : {S : Type 0} (depth : ℕ) (r : Outcome Flow) (s : State S × ℕ) (m : Run S Flow) (p : List Seg) → EndsWithName depth m p → PassesNothing depth s.0 (go_on r s (λ f. if goes_on f then m else give f)).1.0 → Outside s.0 p → (go_on r s (λ f. if goes_on f then m else give f)).0 ≡ Ok flow.Next → Stands (go_on r s (λ f. if goes_on f then m else give f)).1.0 p
 unfolding go_on
-later_ends_with_name (Ok f) s m p h o is = rest_ends_with_name f m p h s o is
-later_ends_with_name (Err e) s m p h o is = absurd (cc is)
+later_ends_with_name depth (Ok f) s m p h fails o is = rest_ends_with_name depth f m p h s fails o is
+later_ends_with_name depth (Err e) s m p h fails o is = absurd (cc is)
 
 meaning_declares_name : {S : Type 0} (accesses : Accesses S) (scope : List Seg) (depth : ℕ) (t : Tree) (p : List Seg) → Declares scope t p → DeclaresName {S = S} (meaning accesses (task scope depth t)) p
 meaning_declares_name accesses scope depth t p d = record { declares_name = λ s f o is. term_declares_name accesses scope depth t p s f d o is }
 
-in_turn_ends_with_name : {S : Type 0} (accesses : Accesses S) (scope : List Seg) (depth : ℕ) (t : Tree) (ts : Trees) (p : List Seg) → IsItem t ts → Declares scope t p → EndsWithName {S = S} (in_turn (meaning accesses) scope depth ts) p
-unfolding in_turn ◌>>=◌
-in_turn_ends_with_name accesses scope depth t ts p (first us) d = declares_name_ends_with_name _ p (first_declares_name accesses (meaning accesses (task scope depth t)) _ p (meaning_preserves _) (meaning_declares_name accesses scope depth t p d) (λ f. after_item_preserves (meaning accesses) meaning_preserves (goes_on f) f _ (list_preserves scope depth us)))
-in_turn_ends_with_name accesses scope depth t ts p (later u us i) d = record {
-  ends_with_name = λ s o is. later_ends_with_name (meaning accesses (task scope depth u) s).0 (meaning accesses (task scope depth u) s).1 (in_turn (meaning accesses) scope depth us) p (in_turn_ends_with_name accesses scope depth t us p i d) ((meaning_preserves {relation = names_relation accesses p} (task scope depth u)).preserves s o).outside is;
+module _ {S : Type 0} (accesses : Accesses S) (scope : List Seg) (depth : ℕ) where
+  term_goes_on : (u : Tree) (s : State S × ℕ) → GoesOn s.0.passed (meaning accesses (task scope depth u) s).1.0.passed
+  term_goes_on u s = (meaning_preserves {relation = goes_on_relation accesses} (task scope depth u)).preserves s
+
+  rest_goes_on : (us : Trees) (r : Outcome Flow) (s : State S × ℕ) → GoesOn s.0.passed (go_on r s (rest_of accesses scope depth us)).1.0.passed
+  unfolding go_on
+  rest_goes_on us (Ok f) s = (after_item_preserves (meaning accesses) (meaning_preserves {relation = goes_on_relation accesses}) (goes_on f) f _ (list_preserves {relation = goes_on_relation accesses} scope depth us)).preserves s
+  rest_goes_on us (Err e) s = goes_on_reflexive s.0.passed
+
+  -- a list of which nothing is passed over
+  abbrev plain_list : Tree → Trees → Run S Flow
+  plain_list u us = meaning accesses (task scope depth u) >>= rest_of accesses scope depth us
+
+  refused_plain : (b : Bool) (us : Trees) (s : State S × ℕ) (e : Refusal) (after : State S × ℕ) → is_passable e ≡ b → passes_over depth s.0.profile ≡ true → GoesOn s.0.passed after.0.passed
+      → PassesNothing depth s.0 (go_on (refused_done b scope e after).0 (refused_done b scope e after).1 (rest_of accesses scope depth us)).1.0
+      → go_on (refused_done b scope e after).0 (refused_done b scope e after).1 (rest_of accesses scope depth us) ≡ go_on (Err e) after (rest_of accesses scope depth us)
+  refused_plain true us s e after holds may h nothing =
+      absurd (noted_then depth s.0 after.0 (go_on (Ok flow.Next) (with_passed scope e after.0, after.1) (rest_of accesses scope depth us)).1.0 (record { refusal = e; scope = scope }) may h (rest_goes_on us (Ok flow.Next) (with_passed scope e after.0, after.1)) nothing)
+  refused_plain false us s e after holds may h nothing = refl
+
+  done_plain : (us : Trees) (s : State S × ℕ) (r : Outcome Flow) (after : State S × ℕ) → passes_over depth s.0.profile ≡ true → GoesOn s.0.passed after.0.passed
+      → PassesNothing depth s.0 (go_on (item_done scope r after).0 (item_done scope r after).1 (rest_of accesses scope depth us)).1.0
+      → go_on (item_done scope r after).0 (item_done scope r after).1 (rest_of accesses scope depth us) ≡ go_on r after (rest_of accesses scope depth us)
+  unfolding item_done
+  done_plain us s (Ok f) after may h nothing = refl
+  done_plain us s (Err e) after may h nothing = refused_plain (is_passable e) us s e after refl may h nothing
+
+  list_is_plain_by : (b : Bool) (u : Tree) (us : Trees) (s : State S × ℕ) → passes_over depth s.0.profile ≡ b → PassesNothing depth s.0 (in_turn (meaning accesses) scope depth (tree u us) s).1.0 → in_turn (meaning accesses) scope depth (tree u us) s ≡ plain_list u us s
+  unfolding ◌>>=◌
+  list_is_plain_by false u us s never nothing = first_then accesses scope depth u us s _ _ (item_plain accesses scope depth u s never)
+  list_is_plain_by true u us s may nothing =
+      let a = meaning accesses (task scope depth u) s in
+      let same = first_then accesses scope depth u us s (item_done scope a.0 a.1).0 (item_done scope a.0 a.1).1 (item_passed accesses scope depth u s may) in
+      same ∙ done_plain us s a.0 a.1 may (term_goes_on u s) (subst (λ x. PassesNothing depth s.0 x.1.0) same nothing)
+
+  list_is_plain : (u : Tree) (us : Trees) (s : State S × ℕ) → PassesNothing depth s.0 (in_turn (meaning accesses) scope depth (tree u us) s).1.0 → in_turn (meaning accesses) scope depth (tree u us) s ≡ plain_list u us s
+  list_is_plain u us s nothing = list_is_plain_by (passes_over depth s.0.profile) u us s refl nothing
+
+list_ends_with_name : {S : Type 0} (accesses : Accesses S) (scope : List Seg) (depth : ℕ) (t : Tree) (ts : Trees) (p : List Seg) → IsItem t ts → Declares scope t p → EndsWithName {S = S} depth (in_turn (meaning accesses) scope depth ts) p
+unfolding ◌>>=◌
+list_ends_with_name accesses scope depth t ts p (first us) d = record {
+  ends_with_name = λ s nothing o is.
+      let same = list_is_plain accesses scope depth t us s nothing in
+      let h = first_declares_name accesses (meaning accesses (task scope depth t)) _ p (meaning_preserves _) (meaning_declares_name accesses scope depth t p d) (λ f. after_item_preserves (meaning accesses) meaning_preserves (goes_on f) f _ (list_preserves scope depth us)) in
+      subst (λ a. Stands a.1.0 p) (sym same) (h.declares_name s flow.Next o (ap (λ a. a.0) (sym same) ∙ is));
+}
+list_ends_with_name accesses scope depth t ts p (later u us i) d = record {
+  ends_with_name = λ s nothing o is.
+      let same = list_is_plain accesses scope depth u us s nothing in
+      let a = meaning accesses (task scope depth u) s in
+      let kept = (meaning_preserves {relation = profile_relation accesses} (task scope depth u)).preserves s in
+      let rest = passes_nothing_after depth s.0 a.1.0 (go_on a.0 a.1 (rest_of accesses scope depth us)).1.0 kept (term_goes_on accesses scope depth u s) (rest_goes_on accesses scope depth us a.0 a.1) (subst (λ x. PassesNothing depth s.0 x.1.0) same nothing) in
+      subst (λ x. Stands x.1.0 p) (sym same)
+      (later_ends_with_name depth a.0 a.1 (in_turn (meaning accesses) scope depth us) p (list_ends_with_name accesses scope depth t us p i d) rest
+      ((meaning_preserves {relation = names_relation accesses p} (task scope depth u)).preserves s o).outside (ap (λ x. x.0) (sym same) ∙ is));
 }
 
--- a list that is evaluated to its end leaves each name that one of its terms declares outside of control methods
-pub items_stand : {S : Type 0} (accesses : Accesses S) (scope : List Seg) (depth : ℕ) (t : Tree) (ts : Trees) (p : List Seg) (s : State S × ℕ) → IsItem t ts → Declares scope t p → Outside s.0 p → (in_turn (meaning accesses) scope depth ts s).0 ≡ Ok flow.Next → Stands (in_turn (meaning accesses) scope depth ts s).1.0 p
-items_stand accesses scope depth t ts p s i d o is = (in_turn_ends_with_name accesses scope depth t ts p i d).ends_with_name s o is
+-- a list that is evaluated to its end, and of which nothing is passed over, leaves each name that one of its terms declares outside of
+-- control methods
+pub items_stand : {S : Type 0} (accesses : Accesses S) (scope : List Seg) (depth : ℕ) (t : Tree) (ts : Trees) (p : List Seg) (s : State S × ℕ) → IsItem t ts → Declares scope t p → PassesNothing depth s.0 (in_turn (meaning accesses) scope depth ts s).1.0 → Outside s.0 p → (in_turn (meaning accesses) scope depth ts s).0 ≡ Ok flow.Next
+    → Stands (in_turn (meaning accesses) scope depth ts s).1.0 p
+items_stand accesses scope depth t ts p s i d nothing o is = (list_ends_with_name accesses scope depth t ts p i d).ends_with_name s nothing o is
+
+pub ruleset declared_names_stand = (term_declares_name, items_stand)

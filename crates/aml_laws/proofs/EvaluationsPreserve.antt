@@ -1,5 +1,5 @@
 -- Loading a table and evaluating an object preserve every world relation; so what evaluations make of a world is related to it.
-use Rattle.std.specs.Prelude.{ℕ, List, [], length, Ok, Err, refl}
+use Rattle.std.specs.Prelude.{Bool, ℕ, List, [], length, Ok, Err, refl}
 use Rattle.ar_space.specs.Accesses.{Accesses}
 use Rattle.ar_space.specs.Outcome.{Outcome}
 use Rattle.aml_path.specs.declared.segment.Seg.{Seg}
@@ -14,70 +14,72 @@ use Rattle.aml_meaning.specs.Given.{Given}
 use Rattle.aml_meaning.specs.State.{State}
 use Rattle.aml_meaning.specs.Predefined as predefined
 use Rattle.aml_meaning.specs.Calling.{terms_kept, table_terms, at_root, table_run, loaded, value_of, called, evaluated, invocation_exported, answer_exported, answered}
-use Rattle.aml_laws.specs.Becomes.{Becomes, same, term, list, table, value, answer}
+use Rattle.aml_laws.specs.Becomes.{Becomes, same, term, list, table, value, answer, passed}
 use Rattle.aml_laws.proofs.FieldsPreserve.{field_given_preserves}
 use Rattle.aml_laws.proofs.OperandsAndCallsPreserve.{called_at_preserves}
 use Rattle.aml_laws.proofs.ObjectKinds.{make_string_keeps_kinds}
-use Rattle.aml_laws.proofs.WorldRelations.{WorldRelation, Preserves, RunPreserves, RunPreservesFrom, CalledMethodStands, settle_preserves, then_preserves, on_objects_preserves, declared_preserves, in_frame_preserves, with_steps_preserves, counted_preserves, ending_preserves, run_give_preserves, lift_preserves, run_then_preserves, found_then_preserves, run_preserves_from, then_preserves_from}
+use Rattle.aml_laws.proofs.WorldRelations.{Levels, always, WorldRelation, WorldRelationOf, Preserves, RunPreserves, RunPreservesFrom, CalledMethodStands, settle_preserves, then_preserves, on_objects_preserves, declared_preserves, in_frame_preserves, with_steps_preserves, counted_preserves, ending_preserves, run_give_preserves, lift_preserves, run_then_preserves, found_then_preserves, run_preserves_from, then_preserves_from}
 use Rattle.aml_laws.proofs.ChangesPreserve.{invocation_found_finds_invocation, osi_answered_preserves}
 use Rattle.aml_laws.proofs.OperandsAndCallsPreserve.{field_read_preserves, method_value_preserves_from}
-use Rattle.aml_laws.proofs.RulesPreserve.{meaning_preserves, list_preserves}
+use Rattle.aml_laws.proofs.RulesPreserve.{meaning_parts_lead, list_leads, meaning_preserves, list_preserves}
 use Rattle.aml_laws.proofs.ArgumentsAndAnswersPreserve.{all_imported_preserves, exported_preserves}
 
-terms_kept_preserves : {S : Type 0} {accesses : Accesses S} (relation : WorldRelation accesses) (r : Outcome (List Tree × List Arity)) (w : State S) → relation.Leads w (terms_kept r w).1
+terms_kept_preserves : {S : Type 0} {listed : Bool} {accesses : Accesses S} (relation : WorldRelationOf listed accesses) (r : Outcome (List Tree × List Arity)) (w : State S) → relation.Leads w (terms_kept r w).1
 terms_kept_preserves relation (Ok (ts, after)) w = relation.arities_set w after
 terms_kept_preserves relation (Err e) w = relation.reflexive w
 
-module _ {S : Type 0} {accesses : Accesses S} {relation : WorldRelation accesses} where
+module _ {S : Type 0} {listed : Bool} {accesses : Accesses S} {relation : WorldRelationOf listed accesses} where
   -- ---- tables
 
   table_terms_preserves : (bytes : List ℕ) → Preserves relation (table_terms bytes)
   unfolding table_terms
   table_terms_preserves bytes = record { preserves = λ w. terms_kept_preserves relation (table_reading bytes w.arities) w }
 
-  at_root_preserves : (ts : Trees) → RunPreserves relation (at_root accesses ts)
+module _ {S : Type 0} {accesses : Accesses S} (levels : Levels accesses) where
+  at_root_preserves : (ts : Trees) → RunPreserves (levels.at 0) (at_root accesses ts)
   unfolding at_root
-  at_root_preserves ts = run_then_preserves _ _ (list_preserves [] 0 ts) (λ last. run_give_preserves _)
+  at_root_preserves ts = run_then_preserves _ _ (list_leads levels [] 0 ts) (λ last. run_give_preserves _)
 
-  table_run_preserves : (steps : ℕ) (bytes : List ℕ) → Preserves relation (table_run accesses steps bytes)
+  table_run_preserves : (steps : ℕ) (bytes : List ℕ) → Preserves (levels.at 0) (table_run accesses steps bytes)
   unfolding table_run
   table_run_preserves steps bytes = then_preserves _ _ (table_terms_preserves bytes) (λ ts. in_frame_preserves _ _ (with_steps_preserves steps _ (at_root_preserves ts)))
 
-  pub loaded_preserves : (bytes : List ℕ) (steps : ℕ) → Preserves relation (loaded accesses bytes steps)
+  pub loaded_preserves : (bytes : List ℕ) (steps : ℕ) → Preserves (levels.at 0) (loaded accesses bytes steps)
   unfolding loaded
   loaded_preserves bytes steps = ending_preserves _ (table_run_preserves steps bytes)
 
   -- ---- objects that are evaluated
 
-  value_of_preserves_from : (u : State S) (i : Invocation) (arguments : List Value) → CalledMethodStands u i → RunPreservesFrom relation u (value_of accesses i arguments)
+  value_of_preserves_from : (u : State S) (i : Invocation) (arguments : List Value) → CalledMethodStands u i → RunPreservesFrom (levels.at 1) u (value_of accesses i arguments)
   value_of_preserves_from u (invocations.Value v) arguments at = run_preserves_from u _ (run_give_preserves _)
-  value_of_preserves_from u (invocations.Field f) arguments at = run_preserves_from u _ (field_read_preserves _ meaning_preserves 1 f)
-  value_of_preserves_from u (invocations.Method q body) arguments at = method_value_preserves_from _ meaning_preserves u 0 q body arguments (at q body refl)
+  value_of_preserves_from u (invocations.Field f) arguments at = run_preserves_from u _ (field_read_preserves _ (meaning_parts_lead levels) {level = 1} 1 f)
+  value_of_preserves_from u (invocations.Method q body) arguments at = method_value_preserves_from _ (meaning_parts_lead levels) {level = 1} u 0 q body arguments (at q body refl)
   value_of_preserves_from u invocations.Osi arguments at = run_preserves_from u _ (lift_preserves _ (osi_answered_preserves arguments))
 
-  called_preserves : (p : List Seg) (arguments : List Value) → RunPreserves relation (called accesses p arguments)
+  called_preserves : (p : List Seg) (arguments : List Value) → RunPreserves (levels.at 1) (called accesses p arguments)
   unfolding called
   called_preserves p arguments = found_then_preserves _ _ (invocation_found_finds_invocation _ _ _) (λ u i at. value_of_preserves_from u i arguments at)
 
-  pub evaluated_preserves : (p : List Seg) (arguments : List Value) (steps : ℕ) → Preserves relation (evaluated accesses p arguments steps)
+  pub evaluated_preserves : (p : List Seg) (arguments : List Value) (steps : ℕ) → Preserves (levels.at 1) (evaluated accesses p arguments steps)
   unfolding evaluated
   evaluated_preserves p arguments steps = counted_preserves steps _ (called_preserves p arguments)
 
-  invocation_exported_preserves_from : (u : State S) (i : Invocation) (arguments : List Value) → CalledMethodStands u i → RunPreservesFrom relation u (invocation_exported accesses i arguments)
-  invocation_exported_preserves_from u (invocations.Value v) arguments at = then_preserves_from u _ _ (value_of_preserves_from u (invocations.Value v) arguments at) (λ v. run_preserves_from u _ (exported_preserves v))
-  invocation_exported_preserves_from u (invocations.Field f) arguments at = run_preserves_from u _ (field_given_preserves _ (called_at_preserves _ meaning_preserves 1) f)
-  invocation_exported_preserves_from u (invocations.Method q body) arguments at = then_preserves_from u _ _ (value_of_preserves_from u (invocations.Method q body) arguments at) (λ v. run_preserves_from u _ (exported_preserves v))
-  invocation_exported_preserves_from u invocations.Osi arguments at = then_preserves_from u _ _ (value_of_preserves_from u invocations.Osi arguments at) (λ v. run_preserves_from u _ (exported_preserves v))
+  invocation_exported_preserves_from : (u : State S) (i : Invocation) (arguments : List Value) → CalledMethodStands u i → RunPreservesFrom (levels.at 1) u (invocation_exported accesses i arguments)
+  invocation_exported_preserves_from u (invocations.Value v) arguments at = then_preserves_from u _ _ (value_of_preserves_from u (invocations.Value v) arguments at) (λ v. run_preserves_from u _ (exported_preserves levels v))
+  invocation_exported_preserves_from u (invocations.Field f) arguments at = run_preserves_from u _ (field_given_preserves _ (called_at_preserves _ (meaning_parts_lead levels) {level = 1} 1) f)
+  invocation_exported_preserves_from u (invocations.Method q body) arguments at = then_preserves_from u _ _ (value_of_preserves_from u (invocations.Method q body) arguments at) (λ v. run_preserves_from u _ (exported_preserves levels v))
+  invocation_exported_preserves_from u invocations.Osi arguments at = then_preserves_from u _ _ (value_of_preserves_from u invocations.Osi arguments at) (λ v. run_preserves_from u _ (exported_preserves levels v))
 
-  answer_exported_preserves : (p : List Seg) (count : ℕ) (arguments : List Given) → RunPreserves relation (answer_exported accesses p count arguments)
+  answer_exported_preserves : (p : List Seg) (count : ℕ) (arguments : List Given) → RunPreserves (levels.at 1) (answer_exported accesses p count arguments)
   unfolding answer_exported
   answer_exported_preserves p count arguments =
       found_then_preserves _ _ (invocation_found_finds_invocation _ _ _) (λ u i at. then_preserves_from u _ _ (run_preserves_from u _ (lift_preserves _ (all_imported_preserves arguments []))) (λ vs. invocation_exported_preserves_from u i vs at))
 
-  pub answered_preserves : (p : List Seg) (arguments : List Given) (steps : ℕ) → Preserves relation (answered accesses p arguments steps)
+  pub answered_preserves : (p : List Seg) (arguments : List Given) (steps : ℕ) → Preserves (levels.at 1) (answered accesses p arguments steps)
   unfolding answered
   answered_preserves p arguments steps = ending_preserves _ (with_steps_preserves steps _ (answer_exported_preserves p (length arguments) arguments))
 
+module _ {S : Type 0} {listed : Bool} {accesses : Accesses S} {relation : WorldRelationOf listed accesses} where
   -- ---- the predefined names
 
   takes_preserves : (path : List Seg) (count : ℕ) → Preserves relation (predefined.takes path count)
@@ -105,6 +107,7 @@ pub becomes_preserves : {S : Type 0} {accesses : Accesses S} (relation : WorldRe
 becomes_preserves relation w v same = relation.reflexive w
 becomes_preserves relation w v (term u t steps h) = relation.transitive w u _ (becomes_preserves relation w u h) ((meaning_preserves {relation = relation} t).preserves (u, steps))
 becomes_preserves relation w v (list u scope depth ts steps h) = relation.transitive w u _ (becomes_preserves relation w u h) ((list_preserves {relation = relation} scope depth ts).preserves (u, steps))
-becomes_preserves relation w v (table u bytes steps h) = relation.transitive w u _ (becomes_preserves relation w u h) ((loaded_preserves {relation = relation} bytes steps).preserves u)
-becomes_preserves relation w v (value u p arguments steps h) = relation.transitive w u _ (becomes_preserves relation w u h) ((evaluated_preserves {relation = relation} p arguments steps).preserves u)
-becomes_preserves relation w v (answer u p arguments steps h) = relation.transitive w u _ (becomes_preserves relation w u h) ((answered_preserves {relation = relation} p arguments steps).preserves u)
+becomes_preserves relation w v (table u bytes steps h) = relation.transitive w u _ (becomes_preserves relation w u h) ((loaded_preserves (always relation) bytes steps).preserves u)
+becomes_preserves relation w v (value u p arguments steps h) = relation.transitive w u _ (becomes_preserves relation w u h) ((evaluated_preserves (always relation) p arguments steps).preserves u)
+becomes_preserves relation w v (answer u p arguments steps h) = relation.transitive w u _ (becomes_preserves relation w u h) ((answered_preserves (always relation) p arguments steps).preserves u)
+becomes_preserves relation w v (passed u p e wide is h) = relation.transitive w u _ (becomes_preserves relation w u h) (relation.passed_noted refl u u p e wide is (relation.reflexive u))

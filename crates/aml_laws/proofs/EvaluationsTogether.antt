@@ -21,7 +21,8 @@ use Rattle.aml_laws.proofs.Together.{Sides, Together, give_together, plain, sett
 use Rattle.aml_laws.proofs.WorldsTogether.{counted_together, ending_together, in_frame_together, lift_together, names_together, objects_together, runs, with_steps_together, world_over, worlds}
 use Rattle.aml_laws.proofs.ChangesTogether.{invocation_found_together, osi_answered_together}
 use Rattle.aml_laws.proofs.OperandsTogether.{field_read_together, method_value_together}
-use Rattle.aml_laws.proofs.MeaningTogether.{list_together, meaning_together}
+use Rattle.aml_laws.proofs.Levels.{level, at_level, in_body}
+use Rattle.aml_laws.proofs.MeaningTogether.{list_together, meaning_parts}
 use Rattle.aml_laws.proofs.AnswersTogether.{all_imported_together, exported_together}
 
 terms_kept_space : {S : Type 0} (r : Outcome (List Tree × List Arity)) (w : State S) → (terms_kept r w).1.space ≡ w.space
@@ -39,24 +40,26 @@ module _ {S T : Type 0} {accesses : Accesses S} {accesses2 : Accesses T} {side :
   unfolding table_terms
   table_terms_together bytes = plain (λ w. terms_kept_space (table_reading bytes w.arities) w) (λ w. terms_kept_space (table_reading bytes w.arities) w) (λ w t. terms_kept_over side.raise (table_reading bytes w.arities) w t)
 
-  at_root_together : (ts : Trees) → Together side runs (at_root accesses ts) (at_root accesses2 ts)
+module _ {S T : Type 0} {accesses : Accesses S} {accesses2 : Accesses T} (side : Sides accesses accesses2) where
+  at_root_together : (ts : Trees) → Together (level side 0) runs (at_root accesses ts) (at_root accesses2 ts)
   unfolding at_root
-  at_root_together ts = then_together (list_together [] 0 ts) (λ last. give_together _)
+  at_root_together ts = then_together (list_together side [] 0 ts) (λ last. give_together _)
 
-  table_run_together : (steps : ℕ) (bytes : List ℕ) → Together side worlds (table_run accesses steps bytes) (table_run accesses2 (side.more steps) bytes)
+  table_run_together : (steps : ℕ) (bytes : List ℕ) → Together (level side 0) worlds (table_run accesses steps bytes) (table_run accesses2 (side.more steps) bytes)
   unfolding table_run
-  table_run_together steps bytes = then_together (table_terms_together bytes) (λ ts. in_frame_together _ (with_steps_together _ (at_root_together ts)))
+  table_run_together steps bytes = then_together (at_level side 0 (table_terms_together bytes)) (λ ts. in_frame_together _ (with_steps_together _ (at_root_together ts)))
 
-  pub loaded_together : (bytes : List ℕ) (steps : ℕ) → Together side worlds (loaded accesses bytes steps) (loaded accesses2 bytes (side.more steps))
+  pub loaded_together : (bytes : List ℕ) (steps : ℕ) → Together (level side 0) worlds (loaded accesses bytes steps) (loaded accesses2 bytes (side.more steps))
   unfolding loaded
   loaded_together bytes steps = ending_together (table_run_together steps bytes)
 
+module _ {S T : Type 0} {accesses : Accesses S} {accesses2 : Accesses T} {side : Sides accesses accesses2} where
   -- ---- objects that are evaluated
 
   value_of_together : (i : Invocation) (arguments : List Value) → Together side runs (value_of accesses i arguments) (value_of accesses2 i arguments)
   value_of_together (invocations.Value v) arguments = give_together _
-  value_of_together (invocations.Field f) arguments = field_read_together meaning_together 1 f
-  value_of_together (invocations.Method q body) arguments = method_value_together meaning_together 0 q body arguments
+  value_of_together (invocations.Field f) arguments = in_body side 1 refl (field_read_together meaning_parts 1 f)
+  value_of_together (invocations.Method q body) arguments = in_body side 1 refl (method_value_together meaning_parts 1 0 q body arguments)
   value_of_together invocations.Osi arguments = lift_together (osi_answered_together arguments)
 
   pub called_together : (p : List Seg) (arguments : List Value) → Together side runs (called accesses p arguments) (called accesses2 p arguments)
@@ -70,7 +73,7 @@ module _ {S T : Type 0} {accesses : Accesses S} {accesses2 : Accesses T} {side :
 
   invocation_exported_together : (i : Invocation) (arguments : List Value) → Together side runs (invocation_exported accesses i arguments) (invocation_exported accesses2 i arguments)
   invocation_exported_together (invocations.Value v) arguments = then_together (value_of_together (invocations.Value v) arguments) (λ v. exported_together v)
-  invocation_exported_together (invocations.Field f) arguments = field_given_together (called_at_together meaning_together 1) f
+  invocation_exported_together (invocations.Field f) arguments = field_given_together (λ q. in_body side 1 refl (called_at_together meaning_parts 1 q)) f
   invocation_exported_together (invocations.Method q body) arguments = then_together (value_of_together (invocations.Method q body) arguments) (λ v. exported_together v)
   invocation_exported_together invocations.Osi arguments = then_together (value_of_together invocations.Osi arguments) (λ v. exported_together v)
 

@@ -1,5 +1,5 @@
 -- What Signal, Reset and Wait do to the count of an event, which outlives an answer.
-use Rattle.std.specs.Prelude.{◌≡◌, ◌<◌, ℕ, zero, ◌+◌, ◌-◌, ◌^◌, ◌%◌, ◌==◌, List, length, true, false, Some, Ok, Err, refl}
+use Rattle.std.specs.Prelude.{◌≡◌, ◌<◌, ℕ, ◌+◌, ◌-◌, ◌^◌, ◌%◌, ◌==◌, List, length, false, Some, Ok, Err, refl}
 use Rattle.std.specs.Option.{option_map}
 use Rattle.std.proofs.Common.{arith, ap, ◌∙◌}
 use Rattle.std.proofs.lemmas.Bool.Decides.{nat_tests}
@@ -63,3 +63,7 @@ module _ {S : Type 0} (path : List Seg) (n count : ℕ) where
       → get (answered accesses p arguments steps w).1.names.map path ≡ Some (event_entry n count)
   unfolding answered
   answer_keeps_signals accesses p arguments steps w at = ending_keeps_signals _ w at
+
+pub ruleset signals_are_counted_one_by_one = (signal_adds, full_refused, reset_leaves_none, wait_takes, wait_finds_none)
+
+pub ruleset signals_outlive_an_answer = (table_keeps_signals, answer_keeps_signals)

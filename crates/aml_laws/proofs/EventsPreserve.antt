@@ -21,12 +21,12 @@ use Rattle.aml_meaning.specs.TargetTerms.{target_at}
 use Rattle.aml_meaning.specs.StoreTargets.{entry_declared}
 use Rattle.aml_meaning.specs.Events.{name_referred, named_by_reference, named_by_value, named_by_argument, named_by_slot, name_at, event_named, signals_under, put_signals, event_changed, signal_taken, taken_or_not, waited}
 use Rattle.aml_meaning.specs.WideTerms.{event_rule, wait_rule}
-use Rattle.aml_laws.proofs.WorldRelations.{WorldRelation, Preserves, RunPreserves, unchanged_preserves, give_preserves, settle_preserves, then_preserves, replaced_preserves, lift_preserves, run_give_preserves, run_then_preserves}
+use Rattle.aml_laws.proofs.WorldRelations.{PartsLead, Levels, WorldRelationOf, Preserves, RunPreserves, unchanged_preserves, give_preserves, settle_preserves, then_preserves, replaced_preserves, lift_preserves, run_give_preserves, run_then_preserves}
 use Rattle.aml_laws.proofs.ChangesPreserve.{integer_in_preserves, integer_kept_preserves}
 use Rattle.aml_laws.proofs.StoreTargetsPreserve.{own_slot_preserves, declaration_preserves, declared_number_preserves, tested_preserves}
-use Rattle.aml_laws.proofs.OperandsAndCallsPreserve.{value_at_preserves}
+use Rattle.aml_laws.proofs.OperandsAndCallsPreserve.{value_at_leads}
 
-module _ {S : Type 0} {accesses : Accesses S} {relation : WorldRelation accesses} where
+module _ {S : Type 0} {listed : Bool} {accesses : Accesses S} {relation : WorldRelationOf listed accesses} where
   name_referred_preserves : (n : ℕ) → Preserves relation (name_referred n)
   unfolding name_referred
   name_referred_preserves n = then_preserves _ _ (tested_preserves (reference.Name n)) (λ there. give_preserves _)
@@ -86,12 +86,12 @@ module _ {S : Type 0} {accesses : Accesses S} {relation : WorldRelation accesses
   waited_preserves event timeout = then_preserves _ _ (settle_preserves _) (λ n. then_preserves _ _ (signals_under_preserves n) (λ count. then_preserves _ _ (integer_in_preserves timeout) (λ time. taken_or_not_preserves n count)))
 
 -- aimed: what finding a target does
-module _ {S : Type 0} {accesses : Accesses S} {relation : WorldRelation accesses} (ev : Task → Run S Flow) (parts : (t : Task) → RunPreserves relation (ev t))
-    (aimed : (scope : List Seg) (depth : ℕ) (t : Tree) (i : ℕ) → RunPreserves relation (target_at ev scope depth t i)) where
-  pub event_rule_preserves : (k : EventChange) (scope : List Seg) (depth : ℕ) (t : Tree) → RunPreserves relation (event_rule accesses ev k scope depth t)
+module _ {S : Type 0} {accesses : Accesses S} {levels : Levels accesses} (ev : Task → Run S Flow) (parts : PartsLead levels ev)
+    (aimed : (scope : List Seg) (depth : ℕ) (t : Tree) (i : ℕ) → RunPreserves (levels.at depth) (target_at ev scope depth t i)) where
+  pub event_rule_preserves : (k : EventChange) (scope : List Seg) (depth : ℕ) (t : Tree) → RunPreserves (levels.at depth) (event_rule accesses ev k scope depth t)
   unfolding event_rule
   event_rule_preserves k scope depth t = run_then_preserves _ _ (aimed scope depth t 0) (λ q. run_then_preserves _ _ (lift_preserves _ (event_named_preserves q)) (λ e. run_then_preserves _ _ (lift_preserves _ (event_changed_preserves k e)) (λ done. run_give_preserves _)))
 
-  pub wait_rule_preserves : (scope : List Seg) (depth : ℕ) (t : Tree) → RunPreserves relation (wait_rule accesses ev scope depth t)
+  pub wait_rule_preserves : (scope : List Seg) (depth : ℕ) (t : Tree) → RunPreserves (levels.at depth) (wait_rule accesses ev scope depth t)
   unfolding wait_rule
-  wait_rule_preserves scope depth t = run_then_preserves _ _ (aimed scope depth t 0) (λ q. run_then_preserves _ _ (lift_preserves _ (event_named_preserves q)) (λ e. run_then_preserves _ _ (value_at_preserves ev parts scope depth t 1) (λ v. run_then_preserves _ _ (lift_preserves _ (waited_preserves e v)) (λ r. run_give_preserves _))))
+  wait_rule_preserves scope depth t = run_then_preserves _ _ (aimed scope depth t 0) (λ q. run_then_preserves _ _ (lift_preserves _ (event_named_preserves q)) (λ e. run_then_preserves _ _ (value_at_leads ev parts scope depth t 1) (λ v. run_then_preserves _ _ (lift_preserves _ (waited_preserves e v)) (λ r. run_give_preserves _))))

@@ -25,7 +25,8 @@ use Rattle.aml_laws.proofs.Together.{Sides, Together, give_together, plain, sett
 use Rattle.aml_laws.proofs.WorldsTogether.{lift_together, names_together, runs, worlds}
 use Rattle.aml_laws.proofs.ChangesTogether.{integer_in_together, integer_kept_together}
 use Rattle.aml_laws.proofs.StoreTargetsTogether.{own_slot_together, declaration_together, declared_number_together, tested_together}
-use Rattle.aml_laws.proofs.OperandsTogether.{value_at_together}
+use Rattle.aml_laws.proofs.Levels.{level}
+use Rattle.aml_laws.proofs.OperandsTogether.{PartsTogether, value_at_together}
 
 module _ {S T : Type 0} {accesses : Accesses S} {accesses2 : Accesses T} {side : Sides accesses accesses2} where
   name_referred_together : (n : ℕ) → Together side worlds (name_referred n) (name_referred n)
@@ -87,12 +88,12 @@ module _ {S T : Type 0} {accesses : Accesses S} {accesses2 : Accesses T} {side :
   waited_together event timeout = then_together (settle_together _) (λ n. then_together (signals_under_together n) (λ count. then_together (integer_in_together timeout) (λ time. taken_or_not_together n count)))
 
 -- aimed: what finding a target does
-module _ {S T : Type 0} {accesses : Accesses S} {accesses2 : Accesses T} {side : Sides accesses accesses2} {ev : Task → Run S Flow} {ev2 : Task → Run T Flow} (parts : (t : Task) → Together side runs (ev t) (ev2 t))
-    (aimed : (scope : List Seg) (depth : ℕ) (t : Tree) (i : ℕ) → Together side runs (target_at ev scope depth t i) (target_at ev2 scope depth t i)) where
-  pub event_rule_together : (k : EventChange) (scope : List Seg) (depth : ℕ) (t : Tree) → Together side runs (event_rule accesses ev k scope depth t) (event_rule accesses2 ev2 k scope depth t)
+module _ {S T : Type 0} {accesses : Accesses S} {accesses2 : Accesses T} {side : Sides accesses accesses2} {ev : Task → Run S Flow} {ev2 : Task → Run T Flow} (parts : PartsTogether side ev ev2)
+    (aimed : (scope : List Seg) (depth : ℕ) (t : Tree) (i : ℕ) → Together (level side depth) runs (target_at ev scope depth t i) (target_at ev2 scope depth t i)) where
+  pub event_rule_together : (k : EventChange) (scope : List Seg) (depth : ℕ) (t : Tree) → Together (level side depth) runs (event_rule accesses ev k scope depth t) (event_rule accesses2 ev2 k scope depth t)
   unfolding event_rule
   event_rule_together k scope depth t = then_together (aimed scope depth t 0) (λ q. then_together (lift_together (event_named_together q)) (λ e. then_together (lift_together (event_changed_together k e)) (λ done. give_together _)))
 
-  pub wait_rule_together : (scope : List Seg) (depth : ℕ) (t : Tree) → Together side runs (wait_rule accesses ev scope depth t) (wait_rule accesses2 ev2 scope depth t)
+  pub wait_rule_together : (scope : List Seg) (depth : ℕ) (t : Tree) → Together (level side depth) runs (wait_rule accesses ev scope depth t) (wait_rule accesses2 ev2 scope depth t)
   unfolding wait_rule
   wait_rule_together scope depth t = then_together (aimed scope depth t 0) (λ q. then_together (lift_together (event_named_together q)) (λ e. then_together (value_at_together parts scope depth t 1) (λ v. then_together (lift_together (waited_together e v)) (λ r. give_together _))))

@@ -25,6 +25,7 @@ use Rattle.aml_meaning.specs.declared.store_target.Stored.TheVariants as store
 use Rattle.aml_meaning.specs.declared.store_target.Stored.{Stored}
 use Rattle.aml_laws.proofs.CleanWorlds.{inner_of_clean, integer_only_clean, shallow_clean, value_in_clean}
 use Rattle.aml_laws.proofs.FaultsOfChanges.{Explained, RunExplains, Spent, WorldExplains, direct_explains, either_branch_explains, give_explains, lift_explains, settle_explains, stop_explains, then_explains}
+use Rattle.aml_laws.proofs.ItemsOfLists.{item_explains}
 use Rattle.aml_laws.proofs.FaultsOfFields.{field_integer_explains, field_part_explains, field_referent_explains, field_stored_explains, field_value_explains}
 use Rattle.aml_laws.proofs.FaultsOfOperations.{body_terms_explains, integer_in_explains, invocation_found_explains}
 use Rattle.aml_laws.proofs.FaultsOfStoreTargets.{stored_explains}
@@ -53,7 +54,7 @@ module _ {S : Type 0} (accesses : Accesses S) (ev : Task → Run S Flow) (parts 
   pub in_turn_explains : (scope : List Seg) (depth : ℕ) (ts : Trees) → RunExplains accesses (in_turn ev scope depth ts)
   unfolding in_turn
   in_turn_explains scope depth no_trees = give_explains _
-  in_turn_explains scope depth (tree t ts) = then_explains _ _ (parts _) (λ f. after_item_explains (goes_on f) f _ (in_turn_explains scope depth ts))
+  in_turn_explains scope depth (tree t ts) = then_explains _ _ (item_explains accesses ev parts scope depth t) (λ f. after_item_explains (goes_on f) f _ (in_turn_explains scope depth ts))
 
   -- ---- calls of control methods
 

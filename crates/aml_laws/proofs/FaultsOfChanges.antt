@@ -21,7 +21,7 @@ use Rattle.aml_fields.specs.declared.region.Region.{Region}
 use Rattle.aml_fields.specs.declared.field_units.Unit.{Unit as Access}
 use Rattle.aml_fields.specs.Units.{units_of}
 use Rattle.aml_fields.specs.UnitByUnit.{read_units, bits_read, write_units, kept_by, kept}
-use Rattle.aml_fields.specs.Regions.{faulted, read_access, read_unit, read_field, write_access, write_unit, write_field}
+use Rattle.aml_fields.specs.Regions.{faulted, read_access, read_unit, read_field, write_access, write_unit, write_field, write_whole}
 use Rattle.aml_meaning.specs.State.{State, on_objects, on_names, on_space}
 use Rattle.aml_meaning.specs.Run.{Run, lift, charge}
 use Rattle.aml_laws.specs.Answered.{Answered}
@@ -279,6 +279,10 @@ module _ {S : Type 0} (accesses : Accesses S) where
   pub read_unit_explains : (r : Region) (width : Width) (u : Access) → SpaceExplains accesses (read_unit accesses r width u)
   unfolding read_unit
   read_unit_explains r width u = then_explains _ _ (settle_explains _ (unit_place_clean r width u.offset)) (λ p. read_access_explains p width)
+
+  pub write_whole_explains : (r : Region) (width : Width) (offset value : ℕ) → SpaceExplains accesses (write_whole accesses r width offset value)
+  unfolding write_whole
+  write_whole_explains r width offset value = then_explains _ _ (settle_explains _ (unit_place_clean r width offset)) (λ p. write_access_explains p width value)
 
   write_unit_explains : (r : Region) (f : FieldUnit) (source : List ℕ) (u : Access) → SpaceExplains accesses (write_unit accesses r f source u)
   unfolding write_unit

@@ -20,10 +20,11 @@ use Rattle.aml_objects.specs.declared.value.Value.{Value}
 use Rattle.aml_convert.specs.Conversions.{to_integer_of}
 use Rattle.aml_convert.specs.Integers.{bits_of}
 use Rattle.aml_fields.specs.Units.{units_of}
+use Rattle.aml_fields.specs.declared.region.Region.{Region}
 use Rattle.aml_fields.specs.declared.field_units.Unit.{Unit as Access}
 use Rattle.aml_meaning.specs.Terms.{is_named}
 use Rattle.aml_meaning.specs.FieldTerms.{connection_found, named_connection, connection_if, access_field, element_laid, elements_laid, field_found, named_field, new_field, region_found, reserved_field}
-use Rattle.aml_meaning.specs.Fields.{bits_in, bus_behind, bus_behind_all, field_given, field_integer, field_part, field_referent, field_stored, field_unit_bits, field_unit_written, field_value, index_bits, index_unit, index_unit_written, index_written, inherited, located, part_in, pci_address, region_bits, region_written, space_at, written_in}
+use Rattle.aml_meaning.specs.Fields.{bits_in, bus_behind, bus_behind_all, field_given, field_integer, field_part, field_referent, field_stored, field_unit_bits, field_unit_written, field_value, index_bits, index_unit, index_unit_written, index_written, inherited, located, part_in, pci_address, region_bits, region_written, space_at, written_in, bank_selected, bank_unit, bank_unit_written, bank_bits, bank_written}
 use Rattle.aml_meaning.specs.Given as given
 use Rattle.aml_meaning.specs.PciFunctions.{nearest, behind_asked, pci_function}
 use Rattle.aml_meaning.specs.Bridges.{bridges_above, secondary_bus}
@@ -40,19 +41,19 @@ use Rattle.aml_meaning.specs.declared.regions.RegionSpace.{RegionSpace}
 use Rattle.aml_laws.proofs.CleanObjects.{make_buffer_clean, read_buffer_field_clean, write_buffer_field_clean}
 use Rattle.aml_laws.proofs.CleanOutcomes.{seen_clean}
 use Rattle.aml_laws.proofs.CleanValues.{resolved_clean, to_integer_of_clean}
-use Rattle.aml_laws.proofs.CleanWorlds.{bridge_header_clean, connection_buffer_clean, field_number_clean, field_of_object_clean, further_clean, name_of_clean, number_of_clean, or_behind_clean, or_deep_clean, pci_space_clean, region_number_clean, region_of_object_clean, sized_clean}
-use Rattle.aml_laws.proofs.FaultsOfChanges.{RunExplains, SpaceExplains, WorldExplains, bits_read_explains, direct_explains, either_branch_explains, give_explains, kept_explains, lift_explains, on_objects_explains, on_space_explains, read_field_explains, read_unit_explains, settle_explains, stop_explains, then_explains, write_field_explains, write_units_explains}
+use Rattle.aml_laws.proofs.CleanWorlds.{bridge_header_clean, connection_buffer_clean, field_number_clean, field_of_object_clean, further_clean, name_of_clean, number_of_clean, or_behind_clean, or_deep_clean, pci_space_clean, region_number_clean, region_of_object_clean, sized_clean, bank_held_clean}
+use Rattle.aml_laws.proofs.FaultsOfChanges.{RunExplains, SpaceExplains, WorldExplains, bits_read_explains, direct_explains, either_branch_explains, give_explains, kept_explains, lift_explains, on_objects_explains, on_space_explains, read_field_explains, read_unit_explains, settle_explains, stop_explains, then_explains, write_field_explains, write_units_explains, write_whole_explains}
 use Rattle.aml_laws.proofs.FaultsOfOperations.{entry_found_explains, new_name_explains}
 use Rattle.aml_laws.proofs.FaultsOfStoreTargets.{bytes_in_explains, declaration_explains}
 
 module _ {S : Type 0} {accesses : Accesses S} where
   -- ---- changes of the world
 
-  nearest_explains : (x : Sought) (q : List Seg) → WorldExplains accesses (nearest x q)
+  pub nearest_explains : (x : Sought) (q : List Seg) → WorldExplains accesses (nearest x q)
   unfolding nearest
   nearest_explains x q = direct_explains _ (λ w. tt) (λ w. refl)
 
-  behind_asked_explains : (bridge : Option (List Seg)) → WorldExplains accesses (behind_asked bridge)
+  pub behind_asked_explains : (bridge : Option (List Seg)) → WorldExplains accesses (behind_asked bridge)
   unfolding behind_asked
   behind_asked_explains bridge = direct_explains _ (λ w. or_behind_clean w.profile bridge) (λ w. refl)
 
@@ -60,7 +61,7 @@ module _ {S : Type 0} {accesses : Accesses S} where
   unfolding bridges_above
   bridges_above_explains q = direct_explains _ (λ w. tt) (λ w. refl)
 
-  secondary_bus_explains : (seg bus address : ℕ) → SpaceExplains accesses (secondary_bus accesses seg bus address)
+  pub secondary_bus_explains : (seg bus address : ℕ) → SpaceExplains accesses (secondary_bus accesses seg bus address)
   unfolding secondary_bus
   secondary_bus_explains seg bus address =
       then_explains _ _ (settle_explains _ (pci_space_clean seg bus address)) (λ function. then_explains _ _ (read_unit_explains accesses _ _ _) (λ kind. then_explains _ _ (settle_explains _ (bridge_header_clean kind)) (λ bridge. read_unit_explains accesses _ _ _)))
@@ -158,7 +159,7 @@ module _ {S : Type 0} (accesses : Accesses S) (call : List Seg → Run S ℕ) (e
   part_in_explains s None = give_explains _
   part_in_explains s (Some q) = each _
 
-  inherited_explains : (s : Seg) (q : List Seg) → RunExplains accesses (inherited accesses call s q)
+  pub inherited_explains : (s : Seg) (q : List Seg) → RunExplains accesses (inherited accesses call s q)
   unfolding inherited
   inherited_explains s q = then_explains _ _ (lift_explains _ (nearest_explains _ q)) (λ o. part_in_explains s o)
 
@@ -166,7 +167,7 @@ module _ {S : Type 0} (accesses : Accesses S) (call : List Seg → Run S ℕ) (e
   unfolding bus_behind
   bus_behind_explains seg bus q = then_explains _ _ (each _) (λ address. lift_explains _ (on_space_explains _ (secondary_bus_explains seg bus address)))
 
-  bus_behind_all_explains : (seg bus : ℕ) (qs : List (List Seg)) → RunExplains accesses (bus_behind_all accesses call seg bus qs)
+  pub bus_behind_all_explains : (seg bus : ℕ) (qs : List (List Seg)) → RunExplains accesses (bus_behind_all accesses call seg bus qs)
   unfolding bus_behind_all
   bus_behind_all_explains seg bus [] = give_explains _
   bus_behind_all_explains seg bus (q ∷ qs) = then_explains _ _ (bus_behind_explains seg bus q) (λ behind. bus_behind_all_explains seg behind qs)
@@ -201,15 +202,29 @@ module _ {S : Type 0} (accesses : Accesses S) (call : List Seg → Run S ℕ) (e
   unfolding index_unit_written
   index_unit_written_explains index behind f bytes u = then_explains _ _ (kept_explains f u _ (index_unit_explains index behind f.access u)) (λ old. then_explains _ _ (region_written_explains index _) (λ chosen. region_written_explains behind _))
 
+  bank_selected_explains : (bank : RegionField) (value : ℕ) → RunExplains accesses (bank_selected accesses call bank value)
+  unfolding bank_selected
+  bank_selected_explains bank value = then_explains _ _ (settle_explains _ (bank_held_clean bank value)) (λ held. region_written_explains bank _)
+
+  bank_unit_explains : (bank : RegionField) (value : ℕ) (r : Region) (w : Width) (u : Access) → RunExplains accesses (bank_unit accesses call bank value r w u)
+  unfolding bank_unit
+  bank_unit_explains bank value r w u = then_explains _ _ (bank_selected_explains bank value) (λ selected. lift_explains _ (on_space_explains _ (read_unit_explains accesses r w u)))
+
+  bank_unit_written_explains : (bank : RegionField) (value : ℕ) (r : Region) (f : FieldUnit) (bytes : List ℕ) (u : Access) → RunExplains accesses (bank_unit_written accesses call bank value r f bytes u)
+  unfolding bank_unit_written
+  bank_unit_written_explains bank value r f bytes u = then_explains _ _ (kept_explains f u _ (bank_unit_explains bank value r f.access u)) (λ old. then_explains _ _ (bank_selected_explains bank value) (λ selected. lift_explains _ (on_space_explains _ (write_whole_explains accesses r f.access u.offset _))))
+
   field_unit_bits_explains : (source : FieldSource) (f : FieldUnit) → RunExplains accesses (field_unit_bits accesses call source f)
-  unfolding index_bits
+  unfolding index_bits bank_bits
   field_unit_bits_explains (sources.Region n) f = region_bits_explains _
   field_unit_bits_explains (sources.Index i d) f = then_explains _ _ (lift_explains _ (field_declared_explains i)) (λ index. then_explains _ _ (lift_explains _ (field_declared_explains d)) (λ behind. bits_read_explains _ (index_unit_explains index behind f.access) f))
+  field_unit_bits_explains (sources.Bank n b) f = then_explains _ _ (lift_explains _ (field_declared_explains b.field)) (λ bank. then_explains _ _ (located_explains n) (λ r. bits_read_explains _ (bank_unit_explains bank b.value r f.access) f))
 
   field_unit_written_explains : (source : FieldSource) (f : FieldUnit) (bytes : List ℕ) → RunExplains accesses (field_unit_written accesses call source f bytes)
-  unfolding index_written
+  unfolding index_written bank_written
   field_unit_written_explains (sources.Region n) f bytes = region_written_explains _ bytes
   field_unit_written_explains (sources.Index i d) f bytes = then_explains _ _ (lift_explains _ (field_declared_explains i)) (λ index. then_explains _ _ (lift_explains _ (field_declared_explains d)) (λ behind. write_units_explains _ (index_unit_written_explains index behind f bytes) (units_of f.bit_offset f.bits f.access)))
+  field_unit_written_explains (sources.Bank n b) f bytes = then_explains _ _ (lift_explains _ (field_declared_explains b.field)) (λ bank. then_explains _ _ (located_explains n) (λ r. write_units_explains _ (bank_unit_written_explains bank b.value r f bytes) (units_of f.bit_offset f.bits f.access)))
 
   bits_in_explains : (f : Field) → RunExplains accesses (bits_in accesses call f)
   bits_in_explains (field.Unit u) = field_unit_bits_explains u.source u

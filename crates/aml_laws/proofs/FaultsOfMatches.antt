@@ -8,7 +8,7 @@ use Rattle.aml_objects.specs.declared.entry.Entry.{Entry}
 use Rattle.aml_convert.specs.Matching.{match_operator}
 use Rattle.aml_convert.specs.declared.matching.MatchOperator.{MatchOperator}
 use Rattle.aml_namespace.specs.Search.{found}
-use Rattle.aml_meaning.specs.MatchTerms.{is_comparable, package_of, searching_from, test_of, test_with, where_named}
+use Rattle.aml_meaning.specs.MatchTerms.{is_comparable, package_of, searching_from, test_with, where_named}
 use Rattle.aml_path.specs.declared.segment.Seg.{Seg}
 use Rattle.aml_path.specs.Paths.{Name}
 use Rattle.aml_grammar.specs.Tree.{Tree}
@@ -18,7 +18,6 @@ use Rattle.aml_objects.specs.declared.value.Value.{Value}
 use Rattle.aml_objects.specs.declared.value.Value.TheVariants as value
 use Rattle.aml_meaning.specs.declared.flow.Flow.{Flow}
 use Rattle.aml_meaning.specs.declared.searches.Search.{Search}
-use Rattle.aml_meaning.specs.declared.searches.Searching.{Searching}
 use Rattle.aml_meaning.specs.declared.store_target.Held.{Held}
 use Rattle.aml_meaning.specs.Run.{Run}
 use Rattle.aml_meaning.specs.Tasks.{Task}

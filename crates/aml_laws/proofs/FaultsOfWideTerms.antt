@@ -33,17 +33,19 @@ use Rattle.aml_meaning.specs.Tasks.{Task}
 use Rattle.aml_meaning.specs.TargetTerms.{target_at, targeted}
 use Rattle.aml_meaning.specs.WideOperations.{decoded_in, number_coded, coded_in, decimal_text, new_decimal_string, decimal_string_in, hexadecimal_text, new_hexadecimal_string, hexadecimal_string_in, string_text, string_in, middle_content, middle_in, converted}
 use Rattle.aml_meaning.specs.FormedStores.{is_integer, is_string, is_buffer, formed_over_value, formed_over, formed_in_name, formed_in_declared, formed_through, formed_to}
-use Rattle.aml_meaning.specs.FieldTerms.{has_connection, asked_if, connections_asked}
+use Rattle.aml_meaning.specs.BankTerms.{banked_laid, bank_list_rule}
+use Rattle.aml_meaning.specs.FieldTerms.{fields_laid, has_connection, asked_if, connections_asked}
 use Rattle.aml_meaning.specs.Profiles.{asked_for}
 use Rattle.aml_meaning.specs.WideTerms.{in_wide, formed_at, convert_rule, to_string_rule, middle_rule, wide_rule}
 use Rattle.aml_laws.proofs.CleanObjects.{make_string_clean}
 use Rattle.aml_laws.proofs.CleanOutcomes.{Clean, followed_clean, if_clean, seen_clean}
 use Rattle.aml_laws.proofs.CleanValues.{to_buffer_of_clean, to_integer_of_clean, to_text_of_clean}
-use Rattle.aml_laws.proofs.CleanWorlds.{made_of_clean}
+use Rattle.aml_laws.proofs.CleanWorlds.{made_of_clean, name_of_clean, number_of_clean, list_of_clean}
 use Rattle.aml_laws.proofs.FaultsOfChanges.{RunExplains, WorldExplains, direct_explains, give_explains, lift_explains, on_objects_explains, settle_explains, stop_explains, then_explains}
 use Rattle.aml_laws.proofs.FaultsOfOperations.{integer_in_explains}
 use Rattle.aml_laws.proofs.FaultsOfStoreTargets.{held_at_explains, declaration_explains, copy_into_name_explains, store_over_value_explains, store_in_slot_explains, store_to_explains}
 use Rattle.aml_laws.proofs.FaultsOfCalls.{value_at_explains, two_values_explains, completed_explains}
+use Rattle.aml_laws.proofs.FaultsOfFields.{elements_laid_explains, field_found_explains, region_found_explains}
 use Rattle.aml_laws.proofs.FaultsOfMatches.{match_rule_explains}
 use Rattle.aml_laws.proofs.FaultsOfEvents.{event_rule_explains, wait_rule_explains}
 
@@ -217,6 +219,13 @@ module _ {S : Type 0} (accesses : Accesses S) (ev : Task → Run S Flow) (parts 
   unfolding middle_rule
   middle_rule_explains scope depth t = then_explains _ _ (two_values_explains accesses ev parts scope depth t) (λ y. then_explains _ _ (value_at_explains accesses ev parts scope depth t 2) (λ n. then_explains _ _ (lift_explains _ (middle_in_explains y.0 y.1 n)) (λ r. stores scope depth t 3 r)))
 
+  bank_list_rule_explains : (scope : List Seg) (depth : ℕ) (t : Tree) → RunExplains accesses (bank_list_rule ev scope depth t)
+  unfolding bank_list_rule banked_laid fields_laid
+  bank_list_rule_explains scope depth t =
+      then_explains _ _ (settle_explains _ (name_of_clean _)) (λ x. then_explains _ _ (lift_explains _ (region_found_explains scope x)) (λ region. then_explains _ _ (settle_explains _ (name_of_clean _)) (λ y. then_explains _ _ (lift_explains _ (field_found_explains scope y)) (λ bank.
+      then_explains _ _ (value_at_explains accesses ev parts scope depth t 2) (λ v. then_explains _ _ (settle_explains _ (number_of_clean _)) (λ flags. then_explains _ _ (settle_explains _ (list_of_clean _)) (λ ts.
+      then_explains _ _ (lift_explains _ (integer_in_explains v)) (λ n. then_explains _ _ (lift_explains _ (elements_laid_explains _ scope depth _ ts)) (λ laid. give_explains _)))))))))
+
   wide_rule_explains : (k : WideKind) (scope : List Seg) (depth : ℕ) (t : Tree) → RunExplains accesses (wide_rule accesses ev k scope depth t)
   wide_rule_explains (wides.Convert k) scope depth t = convert_rule_explains k scope depth t
   wide_rule_explains wides.ToString scope depth t = to_string_rule_explains scope depth t
@@ -224,6 +233,7 @@ module _ {S : Type 0} (accesses : Accesses S) (ev : Task → Run S Flow) (parts 
   wide_rule_explains wides.Match scope depth t = match_rule_explains accesses ev parts scope depth t
   wide_rule_explains (wides.Event k) scope depth t = event_rule_explains accesses ev parts aimed k scope depth t
   wide_rule_explains wides.Wait scope depth t = wait_rule_explains accesses ev parts aimed scope depth t
+  wide_rule_explains wides.BankField scope depth t = bank_list_rule_explains scope depth t
 
   -- the profile is asked first
   pub in_wide_explains : (op : Opcode) (k : WideKind) (scope : List Seg) (depth : ℕ) (t : Tree) → RunExplains accesses (in_wide op (wide_rule accesses ev k scope depth t))

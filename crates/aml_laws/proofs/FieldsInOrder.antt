@@ -1,5 +1,5 @@
 -- The fields of a list lie one behind another.
-use Rattle.std.specs.Prelude.{◌≡◌, ◌≢◌, ◌⊎◌, ◌≤◌, ◌<◌, ◌+◌, ◌-◌, ◌^◌, ◌==◌, ◌||◌, nat_lt, cond, is_some, ℕ, Bool, true, false, List, [], ◌∷◌, Option, Some, None, Ok, Err, refl, if◌then◌else◌}
+use Rattle.std.specs.Prelude.{◌≡◌, ◌≢◌, ◌⊎◌, ◌≤◌, ◌<◌, ◌+◌, ◌-◌, ◌^◌, ◌==◌, ◌||◌, nat_lt, cond, is_some, ℕ, Bool, true, false, List, [], ◌∷◌, Some, Ok, Err, refl, if◌then◌else◌}
 use Rattle.std.proofs.Common.{arith, inl, inr, ap, sym, subst, ◌∙◌}
 use Rattle.std.proofs.lemmas.Bool.Decides.{nat_tests}
 use Rattle.std.proofs.lemmas.Cmp.{eq_by_cmp_equiv}
@@ -24,7 +24,7 @@ use Rattle.aml_objects.specs.declared.entry.NamedObject.{NamedObject}
 use Rattle.aml_objects.specs.declared.entry.NamedObject.TheVariants as object
 use Rattle.aml_namespace.specs.Namespace.{Map, Namespace, above, declared}
 use Rattle.aml_namespace.proofs.Paths.{path_total}
-use Rattle.aml_fields.proofs.UnitWrites.{Steps, steps}
+use Rattle.aml_fields.proofs.UnitWrites.{steps}
 use Rattle.aml_meaning.specs.declared.field_layout.FieldLayout.{FieldLayout}
 use Rattle.aml_meaning.specs.declared.field_layout.FieldGroup.{FieldGroup}
 use Rattle.aml_meaning.specs.State.{State, on_names}

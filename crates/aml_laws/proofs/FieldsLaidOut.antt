@@ -13,7 +13,7 @@ use Rattle.aml_grammar.specs.Tree.{Tree, Trees, no_trees, tree}
 use Rattle.aml_grammar.specs.Apart.{code_of, operand_of, name_of}
 use Rattle.aml_objects.specs.declared.entry.FieldUnit.{FieldUnit}
 use Rattle.aml_objects.specs.declared.entry.NamedObject.TheVariants as object
-use Rattle.aml_fields.proofs.UnitWrites.{Steps, steps}
+use Rattle.aml_fields.proofs.UnitWrites.{steps}
 use Rattle.aml_meaning.specs.declared.field_layout.FieldLayout.{FieldLayout}
 use Rattle.aml_meaning.specs.declared.field_layout.FieldGroup.{FieldGroup}
 use Rattle.aml_meaning.specs.State.{State}

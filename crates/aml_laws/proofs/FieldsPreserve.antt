@@ -40,20 +40,20 @@ use Rattle.aml_meaning.specs.Given.{Given}
 use Rattle.aml_meaning.specs.PciFunctions.{adr, segment_group, base_bus, nearest, pci_function}
 use Rattle.aml_meaning.specs.Bridges.{bridges_to, bridges_above}
 use Rattle.aml_meaning.specs.Regions.{pci_space, region_declared, field_declared, integer_of_bits, integer_value, value_of_bits, integer_alone, referent_of_bits, given_of_bits}
-use Rattle.aml_meaning.specs.Fields.{part_in, inherited, bus_behind, bus_behind_all, pci_address, space_at, located, region_bits, region_written, index_unit, index_unit_written, index_bits, index_written, field_unit_bits, field_unit_written, bits_in, written_in, field_value, field_integer, field_part, field_referent, field_stored, field_given}
+use Rattle.aml_meaning.specs.Fields.{part_in, inherited, bus_behind, bus_behind_all, pci_address, space_at, located, region_bits, region_written, index_unit, index_unit_written, index_bits, index_written, field_unit_bits, field_unit_written, bits_in, written_in, field_value, field_integer, field_part, field_referent, field_stored, field_given, bank_selected, bank_unit, bank_unit_written, bank_bits, bank_written}
 use Rattle.aml_meaning.specs.Terms.{is_named}
 use Rattle.aml_meaning.specs.FieldTerms.{connection_found, named_connection, connection_if, new_field, named_field, reserved_field, access_field, element_laid, elements_laid, region_found, field_found}
-use Rattle.aml_laws.proofs.Preorders.{either_branch, bits_read_respects, write_units_respects, kept_respects}
+use Rattle.aml_laws.proofs.Preorders.{either_branch, bits_read_respects, write_units_respects, kept_respects, Preorder, Respects, then_respects}
 use Rattle.aml_laws.proofs.ObjectKinds.{make_buffer_keeps_kinds, read_buffer_field_keeps_kinds, write_buffer_field_keeps_kinds}
 use Rattle.aml_laws.proofs.BridgesAsked.{secondary_bus_leads, MayAsk, function_may_ask}
 use Rattle.aml_laws.proofs.ChangesNothing.{pci_function_changes_nothing}
 use Rattle.aml_laws.proofs.LocatedRegions.{LocatedIn, located_in}
-use Rattle.aml_laws.proofs.RegisterAccesses.{IsRegion, OnlyWithin, read_field_only_within, write_field_only_within}
-use Rattle.aml_laws.proofs.WorldRelations.{WorldRelation, Preserves, RunPreserves, RunPreservesFrom, run_preserves_from, then_preserves_from, respects_preserves, preserves_respects, unchanged_preserves, give_preserves, stop_preserves, settle_preserves, then_preserves, on_objects_preserves, run_give_preserves, run_stop_preserves, run_settle_preserves, lift_preserves, run_then_preserves}
+use Rattle.aml_laws.proofs.RegisterAccesses.{IsRegion, OnlyWithin, read_field_only_within, write_field_only_within, read_unit_only_within, write_whole_only_within}
+use Rattle.aml_laws.proofs.WorldRelations.{WorldRelationOf, Preserves, RunPreserves, RunPreservesFrom, run_preserves_from, then_preserves_from, respects_preserves, preserves_respects, unchanged_preserves, give_preserves, stop_preserves, settle_preserves, then_preserves, on_objects_preserves, run_give_preserves, run_stop_preserves, run_settle_preserves, lift_preserves, run_then_preserves}
 use Rattle.aml_laws.proofs.ChangesPreserve.{entry_found_preserves, new_name_preserves}
 use Rattle.aml_laws.proofs.StoreTargetsPreserve.{declaration_preserves, bytes_in_preserves}
 
-module _ {S : Type 0} {accesses : Accesses S} {relation : WorldRelation accesses} where
+module _ {S : Type 0} {listed : Bool} {accesses : Accesses S} {relation : WorldRelationOf listed accesses} where
   -- ---- changes of the world
 
   nearest_preserves : (x : Sought) (q : List Seg) → Preserves relation (nearest x q)
@@ -155,7 +155,7 @@ module _ {S : Type 0} {accesses : Accesses S} {relation : WorldRelation accesses
 
 -- ---- field units
 
-module _ {S : Type 0} {accesses : Accesses S} {relation : WorldRelation accesses} (call : List Seg → Run S ℕ) (each : (q : List Seg) → RunPreserves relation (call q)) where
+module _ {S : Type 0} {listed : Bool} {accesses : Accesses S} {relation : WorldRelationOf listed accesses} (call : List Seg → Run S ℕ) (each : (q : List Seg) → RunPreserves relation (call q)) where
   part_in_preserves : (s : Seg) (o : Option (List Seg)) → RunPreserves relation (part_in accesses call s o)
   part_in_preserves s None = run_give_preserves _
   part_in_preserves s (Some q) = each _
@@ -245,15 +245,51 @@ module _ {S : Type 0} {accesses : Accesses S} {relation : WorldRelation accesses
   unfolding index_unit_written
   index_unit_written_preserves index behind f bytes u = run_then_preserves _ _ (kept_preserves f u _ (index_unit_preserves index behind f.access u)) (λ old. run_then_preserves _ _ (region_written_preserves index _) (λ chosen. region_written_preserves behind _))
 
+  -- ---- a bank of a region that stood when it was located
+
+  -- what comes from where one world has come, as a relation of worlds
+  abbrev from_preorder : State S → Preorder (State S × ℕ)
+  from_preorder u = record { Leads = λ s t. relation.Leads u s.0 → relation.Leads u t.0; reflexive = λ s h. h; transitive = λ s t v h i l. i (h l) }
+
+  run_from : {A : Type 0} (u : State S) (m : Run S A) → RunPreserves relation m → Respects (from_preorder u) m
+  run_from u m h = record { respects = λ s l. (run_preserves_from u m h).preserves_from s l }
+
+  space_from : {A : Type 0} (u : State S) (r : Region) (at : LocatedIn u r) (m : Change S A) → OnlyWithin accesses at.declared m → Respects (from_preorder u) (lift (on_space m))
+  unfolding lift on_space
+  space_from u r at m only = record { respects = λ s l. relation.region_accessed u s.0 at.declared _ at.stands (only.respects s.0.space) l }
+
+  located_by_cases : {A : Type 0} (u : State S) (x : Outcome Region) (s : State S × ℕ) (m : Region → Run S A) → ((r : Region) → x ≡ Ok r → Respects (from_preorder u) (m r)) → relation.Leads u s.0 → relation.Leads u (go_on x s m).1.0
+  unfolding go_on
+  located_by_cases u (Ok r) s m each_from h = (each_from r refl).respects s h
+  located_by_cases u (Err e) s m each_from h = h
+
+  located_from : {A : Type 0} (n : ℕ) (m : Region → Run S A) → ((u : State S) (r : Region) → LocatedIn u r → Respects (from_preorder u) (m r)) → RunPreserves relation (located accesses call n >>= m)
+  unfolding ◌>>=◌
+  located_from n m each_from = record { preserves = λ s. located_by_cases s.0 (located accesses call n s).0 (located accesses call n s).1 m (λ r e. each_from s.0 r (located_in accesses call n s r e)) ((located_preserves n).preserves s) }
+
+  bank_selected_preserves : (bank : RegionField) (value : ℕ) → RunPreserves relation (bank_selected accesses call bank value)
+  unfolding bank_selected
+  bank_selected_preserves bank value = run_then_preserves _ _ (run_settle_preserves _) (λ held. region_written_preserves bank _)
+
+  bank_unit_from : (u : State S) (r : Region) (at : LocatedIn u r) (bank : RegionField) (value : ℕ) (w : Width) (x : Access) → Respects (from_preorder u) (bank_unit accesses call bank value r w x)
+  unfolding bank_unit
+  bank_unit_from u r at bank value w x = then_respects _ _ (run_from u _ (bank_selected_preserves bank value)) (λ selected. space_from u r at _ (read_unit_only_within accesses at.declared r at.is w x))
+
+  bank_unit_written_from : (u : State S) (r : Region) (at : LocatedIn u r) (bank : RegionField) (value : ℕ) (f : FieldUnit) (bytes : List ℕ) (x : Access) → Respects (from_preorder u) (bank_unit_written accesses call bank value r f bytes x)
+  unfolding bank_unit_written
+  bank_unit_written_from u r at bank value f bytes x = then_respects _ _ (kept_respects f x _ (bank_unit_from u r at bank value f.access x)) (λ old. then_respects _ _ (run_from u _ (bank_selected_preserves bank value)) (λ selected. space_from u r at _ (write_whole_only_within accesses at.declared r at.is f.access x.offset _)))
+
   field_unit_bits_preserves : (source : FieldSource) (f : FieldUnit) → RunPreserves relation (field_unit_bits accesses call source f)
-  unfolding index_bits
+  unfolding index_bits bank_bits
   field_unit_bits_preserves (sources.Region n) f = region_bits_preserves _
   field_unit_bits_preserves (sources.Index i d) f = run_then_preserves _ _ (lift_preserves _ (field_declared_preserves i)) (λ index. run_then_preserves _ _ (lift_preserves _ (field_declared_preserves d)) (λ behind. bits_read_preserves _ (index_unit_preserves index behind f.access) f))
+  field_unit_bits_preserves (sources.Bank n b) f = run_then_preserves _ _ (lift_preserves _ (field_declared_preserves b.field)) (λ bank. located_from n _ (λ u r at. bits_read_respects _ (bank_unit_from u r at bank b.value f.access) f))
 
   field_unit_written_preserves : (source : FieldSource) (f : FieldUnit) (bytes : List ℕ) → RunPreserves relation (field_unit_written accesses call source f bytes)
-  unfolding index_written
+  unfolding index_written bank_written
   field_unit_written_preserves (sources.Region n) f bytes = region_written_preserves _ bytes
   field_unit_written_preserves (sources.Index i d) f bytes = run_then_preserves _ _ (lift_preserves _ (field_declared_preserves i)) (λ index. run_then_preserves _ _ (lift_preserves _ (field_declared_preserves d)) (λ behind. write_units_preserves _ (index_unit_written_preserves index behind f bytes) (units_of f.bit_offset f.bits f.access)))
+  field_unit_written_preserves (sources.Bank n b) f bytes = run_then_preserves _ _ (lift_preserves _ (field_declared_preserves b.field)) (λ bank. located_from n _ (λ u r at. write_units_respects _ (bank_unit_written_from u r at bank b.value f bytes) (units_of f.bit_offset f.bits f.access)))
 
   bits_in_preserves : (f : Field) → RunPreserves relation (bits_in accesses call f)
   bits_in_preserves (field.Unit u) = field_unit_bits_preserves u.source u

@@ -15,6 +15,7 @@ use Rattle.aml_objects.specs.declared.entry.FieldUnit.{FieldUnit}
 use Rattle.aml_objects.specs.declared.entry.FieldSource.{FieldSource}
 use Rattle.aml_objects.specs.declared.entry.FieldSource.TheVariants as sources
 use Rattle.aml_convert.specs.Integers.{bits_of}
+use Rattle.aml_fields.specs.declared.region.Region.{Region}
 use Rattle.aml_fields.specs.declared.field_units.Unit.{Unit as Access}
 use Rattle.aml_fields.specs.Units.{units_of}
 use Rattle.aml_meaning.specs.declared.field_layout.FieldLayout.{FieldLayout}
@@ -26,12 +27,12 @@ use Rattle.aml_meaning.specs.declared.regions.RegionField.{RegionField}
 use Rattle.aml_meaning.specs.Run.{Run}
 use Rattle.aml_meaning.specs.PciFunctions.{nearest, pci_function}
 use Rattle.aml_meaning.specs.Regions.{region_declared, field_declared, integer_of_bits, integer_value, value_of_bits, integer_alone, referent_of_bits, given_of_bits}
-use Rattle.aml_meaning.specs.Fields.{part_in, inherited, bus_behind, bus_behind_all, pci_address, space_at, located, region_bits, region_written, index_unit, index_unit_written, index_bits, index_written, field_unit_bits, field_unit_written, bits_in, written_in, field_value, field_integer, field_part, field_referent, field_stored, field_given}
+use Rattle.aml_meaning.specs.Fields.{part_in, inherited, bus_behind, bus_behind_all, pci_address, space_at, located, region_bits, region_written, index_unit, index_unit_written, index_bits, index_written, field_unit_bits, field_unit_written, bits_in, written_in, field_value, field_integer, field_part, field_referent, field_stored, field_given, bank_selected, bank_unit, bank_unit_written, bank_bits, bank_written}
 use Rattle.aml_meaning.specs.Terms.{is_named}
 use Rattle.aml_meaning.specs.FieldTerms.{connection_found, named_connection, connection_if, new_field, named_field, reserved_field, access_field, element_laid, elements_laid, region_found, field_found}
 use Rattle.aml_laws.proofs.Together.{Sides, Together, choice_together, give_together, plain, settle_together, stop_together, then_together}
 use Rattle.aml_laws.proofs.WorldsTogether.{lift_together, objects_together, runs, space_together, worlds}
-use Rattle.aml_laws.proofs.UnitsTogether.{bits_read_together, kept_together, read_field_together, write_field_together, write_units_together}
+use Rattle.aml_laws.proofs.UnitsTogether.{bits_read_together, kept_together, read_field_together, write_field_together, write_units_together, read_unit_together, write_whole_together}
 use Rattle.aml_laws.proofs.BridgesTogether.{behind_asked_together, bridges_above_together, secondary_bus_together}
 use Rattle.aml_laws.proofs.ChangesTogether.{entry_found_together, new_name_together}
 use Rattle.aml_laws.proofs.StoreTargetsTogether.{bytes_in_together, declaration_together}
@@ -179,15 +180,29 @@ module _ {S T : Type 0} {accesses : Accesses S} {accesses2 : Accesses T} {side :
   unfolding index_unit_written
   index_unit_written_together index behind f bytes u = then_together (kept_together f u (index_unit_together index behind f.access u)) (λ old. then_together (region_written_together index _) (λ chosen. region_written_together behind _))
 
+  bank_selected_together : (bank : RegionField) (value : ℕ) → Together side runs (bank_selected accesses call bank value) (bank_selected accesses2 call2 bank value)
+  unfolding bank_selected
+  bank_selected_together bank value = then_together (settle_together _) (λ held. region_written_together bank _)
+
+  bank_unit_together : (bank : RegionField) (value : ℕ) (r : Region) (w : Width) (u : Access) → Together side runs (bank_unit accesses call bank value r w u) (bank_unit accesses2 call2 bank value r w u)
+  unfolding bank_unit
+  bank_unit_together bank value r w u = then_together (bank_selected_together bank value) (λ selected. lift_together (space_together (read_unit_together r w u)))
+
+  bank_unit_written_together : (bank : RegionField) (value : ℕ) (r : Region) (f : FieldUnit) (bytes : List ℕ) (u : Access) → Together side runs (bank_unit_written accesses call bank value r f bytes u) (bank_unit_written accesses2 call2 bank value r f bytes u)
+  unfolding bank_unit_written
+  bank_unit_written_together bank value r f bytes u = then_together (kept_together f u (bank_unit_together bank value r f.access u)) (λ old. then_together (bank_selected_together bank value) (λ selected. lift_together (space_together (write_whole_together r f.access u.offset _))))
+
   field_unit_bits_together : (source : FieldSource) (f : FieldUnit) → Together side runs (field_unit_bits accesses call source f) (field_unit_bits accesses2 call2 source f)
-  unfolding index_bits
+  unfolding index_bits bank_bits
   field_unit_bits_together (sources.Region n) f = region_bits_together _
   field_unit_bits_together (sources.Index i d) f = then_together (lift_together (field_declared_together i)) (λ index. then_together (lift_together (field_declared_together d)) (λ behind. bits_read_together (index_unit_together index behind f.access) f))
+  field_unit_bits_together (sources.Bank n b) f = then_together (lift_together (field_declared_together b.field)) (λ bank. then_together (located_together n) (λ r. bits_read_together (bank_unit_together bank b.value r f.access) f))
 
   field_unit_written_together : (source : FieldSource) (f : FieldUnit) (bytes : List ℕ) → Together side runs (field_unit_written accesses call source f bytes) (field_unit_written accesses2 call2 source f bytes)
-  unfolding index_written
+  unfolding index_written bank_written
   field_unit_written_together (sources.Region n) f bytes = region_written_together _ bytes
   field_unit_written_together (sources.Index i d) f bytes = then_together (lift_together (field_declared_together i)) (λ index. then_together (lift_together (field_declared_together d)) (λ behind. write_units_together (index_unit_written_together index behind f bytes) (units_of f.bit_offset f.bits f.access)))
+  field_unit_written_together (sources.Bank n b) f bytes = then_together (lift_together (field_declared_together b.field)) (λ bank. then_together (located_together n) (λ r. write_units_together (bank_unit_written_together bank b.value r f bytes) (units_of f.bit_offset f.bits f.access)))
 
   bits_in_together : (f : Field) → Together side runs (bits_in accesses call f) (bits_in accesses2 call2 f)
   bits_in_together (field.Unit u) = field_unit_bits_together u.source u

@@ -15,6 +15,8 @@ use Rattle.aml_meaning.specs.declared.frame.Frame.{Frame}
 use Rattle.aml_meaning.specs.State.{State}
 use Rattle.aml_meaning.specs.Invocations.{invoked}
 use Rattle.aml_meaning.specs.Meaning.{meaning}
+use Rattle.aml_meaning.specs.Tasks.{Task, in_turn}
+use Rattle.aml_grammar.specs.Tree.{Trees}
 use Rattle.aml_laws.specs.Becomes.{Becomes}
 use Rattle.aml_meaning.specs.Slots.{opened}
 use Rattle.aml_meaning.specs.declared.profile.Profile.{Profile}
@@ -23,7 +25,7 @@ use Rattle.aml_laws.specs.Numbers.{numbers_of, RiseTo}
 use Rattle.aml_laws.proofs.WorldRelations.{WorldRelation, in_new_frame}
 use Rattle.aml_laws.proofs.NumbersRise.{next_frame_rises}
 use Rattle.aml_laws.proofs.OperandsAndCallsPreserve.{invoked_preserves_from}
-use Rattle.aml_laws.proofs.RulesPreserve.{meaning_preserves}
+use Rattle.aml_laws.proofs.RulesPreserve.{meaning_preserves, list_preserves}
 use Rattle.aml_laws.proofs.EvaluationsPreserve.{becomes_preserves, predefined_preserves}
 
 numbers_taken : (k : ℕ) (frames : List Frame) → numbers_of (take k frames) ≡ take k (numbers_of frames)
@@ -31,11 +33,11 @@ numbers_taken zero frames = refl
 numbers_taken (suc k) [] = refl
 numbers_taken (suc k) (f ∷ fs) = ap (λ ns. f.number ∷ ns) (numbers_taken k fs)
 
-numbers_length : (frames : List Frame) → length (numbers_of frames) ≡ length frames
+pub numbers_length : (frames : List Frame) → length (numbers_of frames) ≡ length frames
 numbers_length [] = refl
 numbers_length (f ∷ fs) = ap suc (numbers_length fs)
 
-numbers_pushed : (frames : List Frame) (f : Frame) → numbers_of (frames ++ f ∷ []) ≡ numbers_of frames ++ f.number ∷ []
+pub numbers_pushed : (frames : List Frame) (f : Frame) → numbers_of (frames ++ f ∷ []) ≡ numbers_of frames ++ f.number ∷ []
 numbers_pushed [] f = refl
 numbers_pushed (x ∷ xs) f = ap (λ ns. x.number ∷ ns) (numbers_pushed xs f)
 
@@ -50,7 +52,7 @@ pub numbers_of_closed : (frames : List Frame) (ns : List ℕ) (n : ℕ) → numb
 numbers_of_closed frames ns n is =
     numbers_taken (length frames - 1) frames ∙ ap (take (length frames - 1)) is ∙ front_of_pushed ns n (length frames) (sym (numbers_length frames) ∙ ap length is)
 
-abbrev frame_numbers_relation : {S : Type 0} (accesses : Accesses S) → WorldRelation accesses
+abbrev pub frame_numbers_relation : {S : Type 0} (accesses : Accesses S) → WorldRelation accesses
 frame_numbers_relation accesses = record {
   Leads = λ w v. numbers_of v.frames ≡ numbers_of w.frames;
   reflexive = λ w. refl;
@@ -65,6 +67,7 @@ frame_numbers_relation accesses = record {
   bridge_asked = λ u w at width wide asks h. h;
   arities_set = λ w list. refl;
   mutexes_released = λ w. refl;
+  passed_noted = λ listed u w scope e wide is h. h;
 }
 
 pub frames_are_balanced : {S : Type 0} (accesses : Accesses S) (w v : State S) → Becomes accesses w v → numbers_of v.frames ≡ numbers_of w.frames
@@ -73,6 +76,12 @@ frames_are_balanced accesses w v h = becomes_preserves (frame_numbers_relation a
 -- after a call too
 pub call_is_balanced : {S : Type 0} (accesses : Accesses S) (depth : ℕ) (p : List Seg) (body : List ℕ) (arguments : List Value) (s : State S × ℕ) → numbers_of (invoked (meaning accesses) depth p body arguments s).1.0.frames ≡ numbers_of s.0.frames
 call_is_balanced accesses depth p body arguments s = (invoked_preserves_from {relation = frame_numbers_relation accesses} (meaning accesses) meaning_preserves s.0 depth p body arguments (λ v h. h)).preserves_from s refl
+
+pub term_is_balanced : {S : Type 0} (accesses : Accesses S) (t : Task) (s : State S × ℕ) → numbers_of (meaning accesses t s).1.0.frames ≡ numbers_of s.0.frames
+term_is_balanced accesses t s = (meaning_preserves {relation = frame_numbers_relation accesses} t).preserves s
+
+pub list_is_balanced : {S : Type 0} (accesses : Accesses S) (scope : List Seg) (depth : ℕ) (ts : Trees) (s : State S × ℕ) → numbers_of (in_turn (meaning accesses) scope depth ts s).1.0.frames ≡ numbers_of s.0.frames
+list_is_balanced accesses scope depth ts s = (list_preserves {relation = frame_numbers_relation accesses} scope depth ts).preserves s
 
 -- ---- the numbers of frames rise
 
@@ -112,3 +121,5 @@ opened_behind_by_cases false x arguments w n is =
 pub frame_is_new : {S : Type 0} (arguments : List Value) (w : State S) (n : ℕ) → (opened arguments w).0 ≡ Ok n → numbers_of (opened arguments w).1.frames ≡ numbers_of w.frames ++ n ∷ []
 unfolding opened
 frame_is_new arguments w n is = opened_behind_by_cases (w.started == 2 ^ 64 - 1) (refusal.Evaluation ObjectLimit) arguments w n is
+
+pub ruleset frame_numbers_are_given_once = (frames_rise, frames_rise_always, frames_rise_opened, frame_is_new)

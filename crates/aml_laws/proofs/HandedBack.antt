@@ -1,13 +1,10 @@
 -- What is handed in is handed out again.
-use Rattle.std.specs.Prelude.{◌≡◌, ◌⊎◌, ◌<◌, ◌+◌, ◌^◌, ℕ, zero, suc, List, [], ◌∷◌, ◌++◌, length, slice_get, Option, Some, None, Ok, Err, refl}
+use Rattle.std.specs.Prelude.{◌≡◌, ◌<◌, ◌+◌, ◌^◌, ℕ, zero, suc, List, [], ◌∷◌, ◌++◌, length, Some, Ok, Err, refl}
 use Rattle.std.proofs.Common.{arith, inl, inr, ap, sym, subst, ◌∙◌, append-nil, append_assoc}
 use Rattle.std.proofs.Math.Nat.{mod-eq_of_lt}
-use Rattle.std.specs.FinMap.{get}
-use Rattle.ar_space.specs.declared.integer_width.IntegerWidth.{IntegerWidth}
-use Rattle.ar_space.specs.declared.refusal.Refusal.{Refusal}
 use Rattle.ar_space.specs.Accesses.{Accesses}
 use Rattle.ar_space.specs.Outcome.{Outcome, seen}
-use Rattle.ar_space.specs.Change.{Change, give, stop, settle, go_on, ◌>>=◌}
+use Rattle.ar_space.specs.Change.{give, stop, go_on, ◌>>=◌}
 use Rattle.aml_path.specs.declared.segment.Seg.{Seg}
 use Rattle.aml_path.specs.Paths.{resolved}
 use Rattle.aml_objects.specs.Objects.{make_string, make_buffer, make_package, string_in, buffer_in, elements_in, string_at, buffer_at, elements_at}
@@ -25,7 +22,7 @@ use Rattle.aml_namespace.specs.Search.{found}
 use Rattle.aml_convert.specs.Integers.{bits_of}
 use Rattle.aml_meaning.specs.Given.{Given, Nothing, Integer, Text, Bytes, Package, Named, Reference, Givens, none, more, givens}
 use Rattle.aml_meaning.specs.State.{State, on_objects}
-use Rattle.aml_meaning.specs.Run.{lift, charge}
+use Rattle.aml_meaning.specs.Run.{lift}
 use Rattle.aml_meaning.specs.Readings.{absolute, integer_kept, entry_found}
 use Rattle.aml_meaning.specs.Importing.{reference_to, imported_by, each_imported, elements_imported, package_imported, taken_back, imported}
 use Rattle.aml_meaning.specs.Exporting.{standing, path_of, text_exported, bytes_exported, reference_exported, value_exported, held_exported, element_exported, each_exported, elements_exported, package_exported, exported}

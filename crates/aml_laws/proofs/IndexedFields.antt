@@ -65,7 +65,7 @@ module _ {S : Type 0} (accesses : Accesses S) (call : List Seg → Run S ℕ) wh
   space_by false true c s scope w is = let same : ◌≡◌ {A = AddressSpace} spaces.Io s = cc is in ap (λ (t : AddressSpace). (Ok t, w)) same
   space_by false false c s scope w is = absurd (cc is)
 
-  located_is : (w : State S) (steps n : ℕ) (q : Region) → IsPlainRegion w (sources.Region n) q → located accesses call n (w, steps) ≡ (Ok q, (w, steps))
+  pub located_is : (w : State S) (steps n : ℕ) (q : Region) → IsPlainRegion w (sources.Region n) q → located accesses call n (w, steps) ≡ (Ok q, (w, steps))
   unfolding located region_declared declaration lift give settle ◌>>=◌ go_on
   located_is w steps n q is =
       let f = stands_plain (numbered n w.names.map) q is in
@@ -77,10 +77,10 @@ module _ {S : Type 0} (accesses : Accesses S) (call : List Seg → Run S ℕ) wh
 
 module _ {S : Type 0} (w : State S) (steps : ℕ) where
   -- the world and the steps, with this register space
-  abbrev with_space : S → State S × ℕ
+  abbrev pub with_space : S → State S × ℕ
   with_space s = (record w { space = s }, steps)
 
-  abbrev over : {A : Type 0} → Outcome A × S → Outcome A × (State S × ℕ)
+  abbrev pub over : {A : Type 0} → Outcome A × S → Outcome A × (State S × ℕ)
   over x = (x.0, with_space x.1)
 
   pub record Over {A : Type 0} (m : Run S A) (k : Change S A) : Type 0 where
@@ -91,7 +91,7 @@ module _ {S : Type 0} (w : State S) (steps : ℕ) where
   go_over (Ok a) s j l all = (all a).over_is s
   go_over (Err e) s j l all = refl
 
-  then_over : {A B : Type 0} (m : Run S A) (k : Change S A) (j : A → Run S B) (l : A → Change S B) → Over m k → ((a : A) → Over (j a) (l a)) → Over (m >>= j) (k >>= l)
+  pub then_over : {A B : Type 0} (m : Run S A) (k : Change S A) (j : A → Run S B) (l : A → Change S B) → Over m k → ((a : A) → Over (j a) (l a)) → Over (m >>= j) (k >>= l)
   unfolding ◌>>=◌
   then_over {A} m k j l h all = record { over_is = λ s. ap (λ (x : Outcome A × (State S × ℕ)). go_on x.0 x.1 j) (h.over_is s) ∙ go_over (k s).0 (k s).1 j l all }
 
@@ -99,7 +99,7 @@ module _ {S : Type 0} (w : State S) (steps : ℕ) where
   unfolding give
   give_over a = record { over_is = λ s. refl }
 
-  space_over : {A : Type 0} (k l : Change S A) → ((s : S) → k s ≡ l s) → Over (lift (on_space k)) l
+  pub space_over : {A : Type 0} (k l : Change S A) → ((s : S) → k s ≡ l s) → Over (lift (on_space k)) l
   unfolding lift on_space
   space_over k l same = record { over_is = λ s. ap (λ x. over x) (same s) }
 
@@ -108,11 +108,11 @@ module _ {S : Type 0} (w : State S) (steps : ℕ) where
   read_units_over m k each [] = give_over _
   read_units_over m k each (u ∷ us) = then_over _ _ _ _ (each u) (λ unit. then_over _ _ _ _ (read_units_over m k each us) (λ bits. give_over _))
 
-  bits_read_over : (m : Access → Run S ℕ) (k : Access → Change S ℕ) → ((u : Access) → Over (m u) (k u)) → (f : FieldUnit) → Over (bits_read m f) (bits_read k f)
+  pub bits_read_over : (m : Access → Run S ℕ) (k : Access → Change S ℕ) → ((u : Access) → Over (m u) (k u)) → (f : FieldUnit) → Over (bits_read m f) (bits_read k f)
   unfolding bits_read
   bits_read_over m k each f = then_over _ _ _ _ (read_units_over m k each (units_of f.bit_offset f.bits f.access)) (λ bits. give_over _)
 
-  write_units_over : (m : Access → Run S (Unit {0})) (k : Access → Change S (Unit {0})) → ((u : Access) → Over (m u) (k u)) → (us : List Access) → Over (write_units m us) (write_units k us)
+  pub write_units_over : (m : Access → Run S (Unit {0})) (k : Access → Change S (Unit {0})) → ((u : Access) → Over (m u) (k u)) → (us : List Access) → Over (write_units m us) (write_units k us)
   unfolding write_units
   write_units_over m k each [] = give_over _
   write_units_over m k each (u ∷ us) = then_over _ _ _ _ (each u) (λ done. write_units_over m k each us)
@@ -120,11 +120,11 @@ module _ {S : Type 0} (w : State S) (steps : ℕ) where
   -- ---- registers
 
   module _ (accesses : Accesses S) (call : List Seg → Run S ℕ) where
-    located_over : {A : Type 0} (n : ℕ) (q : Region) (m : Region → Run S A) (k : Change S A) → IsPlainRegion w (sources.Region n) q → Over (m q) k → Over (located accesses call n >>= m) k
+    pub located_over : {A : Type 0} (n : ℕ) (q : Region) (m : Region → Run S A) (k : Change S A) → IsPlainRegion w (sources.Region n) q → Over (m q) k → Over (located accesses call n >>= m) k
     unfolding ◌>>=◌ go_on
     located_over n q m k is h = record { over_is = λ s. ap (λ (x : Outcome Region × (State S × ℕ)). go_on x.0 x.1 m) (located_is accesses call (record w { space = s }) steps n q is) ∙ h.over_is s }
 
-    declared_over : {A : Type 0} (n : ℕ) (register : Register) (is : IsRegister w n register) (m : RegionField → Run S A) (k : Change S A) → Over (m is.field) k → Over (lift (field_declared n) >>= m) k
+    pub declared_over : {A : Type 0} (n : ℕ) (register : Register) (is : IsRegister w n register) (m : RegionField → Run S A) (k : Change S A) → Over (m is.field) k → Over (lift (field_declared n) >>= m) k
     unfolding field_declared declaration lift settle ◌>>=◌ go_on
     declared_over n register is m k h = record { over_is = λ s. rw (is.stands, is.declared) (h.over_is s) }
 
@@ -141,7 +141,7 @@ module _ {S : Type 0} (w : State S) (steps : ℕ) where
           placed = ap (λ k. unit_place is.region register.width (k / 8)) (omega arith) ∙ is.placed;
         }
 
-    chosen_over : (n : ℕ) (register : Register) (is : IsRegister w n register) (number : ℕ) → Over (region_written accesses call is.field (unit_bytes number)) (write_access accesses register.at register.width (number % 2 ^ bit_count register.width))
+    pub chosen_over : (n : ℕ) (register : Register) (is : IsRegister w n register) (number : ℕ) → Over (region_written accesses call is.field (unit_bytes number)) (write_access accesses register.at register.width (number % 2 ^ bit_count register.width))
     unfolding region_written
     chosen_over n register is number = located_over is.field.region is.region _ _ is.plain (space_over _ _ (register_written accesses is.region is.field.unit register (whole_register n register is) number))
 
@@ -236,3 +236,5 @@ module _ {S : Type 0} (w : State S) (steps : ℕ) (accesses : Accesses S) (call 
       (declared_over w steps accesses call i index is _ _
       (declared_over w steps accesses call d behind so _ _
       (write_units_over w steps _ _ (λ u. unit_merged_over f bytes u keeps wide) (units_of f.bit_offset f.bits f.access)))).over_is w.space
+
+pub ruleset index_fields_are_accessed_unit_by_unit = (read_in_turn, written_in_turn, kept_in_turn)

@@ -1,5 +1,5 @@
 -- An integer is read back from the strings that it is converted to.
-use Rattle.std.specs.Prelude.{◌≡◌, ◌<◌, ◌≤◌, ℕ, zero, suc, ◌+◌, ◌-◌, ◌*◌, ◌/◌, ◌%◌, ◌^◌, ◌==◌, ◌&&◌, ◌||◌, nat_le, Bool, true, false, if◌then◌else◌, List, [], ◌∷◌, ◌++◌, map, length, take, slice_index, decimal, Option, Some, None, Ok, Err, refl}
+use Rattle.std.specs.Prelude.{◌≡◌, ◌<◌, ◌≤◌, ℕ, zero, suc, ◌+◌, ◌*◌, ◌/◌, ◌%◌, ◌^◌, ◌==◌, ◌&&◌, ◌||◌, nat_le, Bool, true, false, if◌then◌else◌, List, [], ◌∷◌, ◌++◌, map, length, take, slice_index, decimal, Some, Ok, refl}
 use Rattle.std.proofs.Common.{arith, ap, sym, subst, ◌∙◌, append-nil}
 use Rattle.std.proofs.Math.Nat.{mod-eq_of_lt, mod-lt, add-mul, mul_assoc, pow-succ'}
 use Rattle.std.proofs.lemmas.Bool.Decides.{nat_tests}
@@ -12,7 +12,6 @@ use Rattle.byteorder.specs.Endian.{big_from, big_bytes}
 use Rattle.byteorder.specs.Numbers.{big_from-bytes, big_from-cons, length-bytes_high_first}
 use Rattle.hex.specs.Hex.{encode_with, encode_upper, hex_digit_value, upper_digits}
 use Rattle.hex.proofs.HexLemmas.{length-encode_with, IsDigits-upper_digits}
-use Rattle.ar_space.specs.Outcome.{Outcome}
 use Rattle.ar_space.specs.declared.integer_width.IntegerWidth.{IntegerWidth}
 use Rattle.ar_space.specs.declared.integer_width.IntegerWidth.TheVariants.{Bits32, Bits64}
 use Rattle.aml_objects.specs.Contents.{Integer, String}
@@ -173,3 +172,5 @@ decimal_numeral w (suc m) h =
 
 pub decimal_reads_back : (w : IntegerWidth) (n : ℕ) (text : List ℕ) → n < 2 ^ bits_of w → decimal_string_of (Integer n) ≡ Ok text → explicit_integer_of w (String text) ≡ Ok n
 decimal_reads_back w n text h is = let spelled : decimal n ≡ text = cc is in subst (λ s. numeral w s ≡ Ok n) spelled (decimal_numeral w n h)
+
+pub ruleset an_integer_is_read_back_from_its_string = (text_reads_back, decimal_reads_back)

@@ -323,3 +323,5 @@ module _ {S : Type 0} (w : State S) where
   pub field_within : (count : ℕ) (bytes : List ℕ) → ((i : ℕ) → slice_index bytes i < 256) → FormsWithin w (value_of_bits count bytes)
   unfolding value_of_bits integer_value integer_of_bits give on_objects ◌>>=◌
   field_within count bytes h v e = branch_within (nat_lt (bits_of w.width) count) w.width _ _ v (made_buffer_within w.width bytes w.objects v) (integer_then (WithinWidth w.width) _ w _ (λ n en u eu. integer_value_within w.width n u eu (integer_in_buffer_fits w.width bytes n h en)) v) e
+
+pub ruleset operators_form_integers_of_the_width = (kept_within, read_within, two_within, one_within, divided_within, test_within, turned_within, counted_within, field_within)

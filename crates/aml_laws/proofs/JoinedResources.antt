@@ -11,7 +11,7 @@ use Rattle.acpi_resources.specs.Items.{ResourceItem, with_body, large_item, firs
 use Rattle.acpi_resources.specs.EndTags.{item_length, length_before_end}
 use Rattle.acpi_resources.proofs.Splitting.{items_of_none, items_of_some}
 use Rattle.aml_objects.specs.Contents.{Buffer}
-use Rattle.aml_convert.specs.Concatenation.{front_of, before_end, buffer_bytes, resources_joined}
+use Rattle.aml_convert.specs.Concatenation.{front_of, before_end, resources_joined}
 use Rattle.aml_laws.specs.ResourceLists.{before_end_tag, end_tag}
 
 -- ---- the bytes of the first item are read as that item whatever follows

@@ -1,13 +1,17 @@
 -- The lemmas. One about a definition is named by the definition and by what is proved of it: `x_preserves` (x leads each world to one
--- that every world relation relates to it), `x_maintains` (where what is known of a state holds, it holds after x, and what x gives
--- fits), `x_counts` (x over a space with a counter does what it does without), `x_clean` (x answers with no fault of the register
--- space), `x_explains` (a fault of the register space that x is refused by is what its last access answered, and no other access is
--- answered with one), `x_together` (x goes the same way over two register spaces until they part), `x_unnoted` (noting the accesses of x
--- changes nothing), `x_respects`, `x_keeps_kinds`, `x_fits`, `x_stands`;
+-- that every world relation relates to it), `x_leads` (so it is of relations by how many control methods are being called),
+-- `x_maintains` (where what is known of a state holds, it holds after x, and what x gives fits), `x_counts` (x over a space with a
+-- counter does what it does without), `x_clean` (x answers with no fault of the register space), `x_reads` (x is refused, if at all,
+-- by what is told of terms and names), `x_explains` (a fault of the register space that x is refused by is what its last access
+-- answered, and no other access is answered with one), `x_together` (x goes the same way over two register spaces until they part),
+-- `x_unnoted` (noting the accesses of x changes nothing), `x_respects`, `x_keeps_kinds`, `x_fits`, `x_stands`;
 -- a lemma that goes through the cases for another ends with `_by_cases`.
 pub mod AnswersTogether
 pub mod ArgumentsAndAnswersPreserve
 pub mod AskedBridges
+pub mod BanksDeclared
+pub mod BanksSelected
+pub mod BodiesPassNothing
 pub mod BridgesAsked
 pub mod BridgesTogether
 pub mod BufferFieldAnswers
@@ -15,6 +19,7 @@ pub mod BufferFieldWrites
 pub mod BusesFound
 pub mod ChangesNothing
 pub mod Charges
+pub mod Claims
 pub mod ChangesPreserve
 pub mod ChangesTogether
 pub mod CleanChanges
@@ -38,6 +43,7 @@ pub mod CountedOperations
 pub mod CountedRules
 pub mod CountedStoreTargets
 pub mod CountedTerms
+pub mod CountedTrees
 pub mod CountedMatches
 pub mod CountedWideTerms
 pub mod DecimalCodes
@@ -61,6 +67,7 @@ pub mod FaultsOfStoreTargets
 pub mod FaultsOfTerms
 pub mod FaultsOfMatches
 pub mod FaultsOfWideTerms
+pub mod FieldSources
 pub mod FieldsInOrder
 pub mod FieldsLaidOut
 pub mod FieldsPreserve
@@ -71,22 +78,33 @@ pub mod HandedBack
 pub mod HandedIn
 pub mod IndexRegisters
 pub mod IndexedFields
+pub mod BankedFields
+pub mod IntegersClaimed
 pub mod IntegersInStrings
 pub mod IntegersOfAnswers
 pub mod IntegersOfContents
-pub mod IntegersOfEvents
-pub mod IntegersOfFields
-pub mod IntegersOfObjects
-pub mod IntegersOfOperands
+pub mod ListsGoOn
+pub mod ListsWithinTerms
+pub mod NotesKept
+pub mod NothingPassed
+pub mod PassableRefusals
+pub mod ReadingChanges
+pub mod ReadingRefusals
+pub mod TablesRefused
+pub mod TermRefusals
+pub mod ValuesOfEvents
+pub mod ValuesOfFields
+pub mod ValuesOfObjects
+pub mod ValuesOfOperands
 pub mod IntegersOfOperators
 pub mod IntegersOfPredefined
-pub mod IntegersOfRules
-pub mod IntegersOfSizes
+pub mod ValuesOfRules
+pub mod ValuesOfSizes
 pub mod IntegersOfTables
-pub mod IntegersOfTargets
-pub mod IntegersOfMatches
-pub mod IntegersOfWideTerms
-pub mod IntegersOfWorlds
+pub mod ValuesOfTargets
+pub mod ValuesOfMatches
+pub mod ValuesOfWideTerms
+pub mod ValuesOfWorlds
 pub mod Invariants
 pub mod MeaningTogether
 pub mod MoreSteps
@@ -122,16 +140,24 @@ pub mod RuleByParts
 pub mod RulesPreserve
 pub mod RulesTogether
 pub mod SignalsTaken
+pub mod SlotsPut
 pub mod SpaceFaultsExplained
 pub mod SpaceFaultsNoted
 pub mod SpaceReached
+pub mod StepsOfParts
+pub mod StepsOfRules
+pub mod StepsOfTerms
 pub mod StoreTargetsPreserve
 pub mod StoreTargetsTogether
 pub mod Together
 pub mod TreesCost
 pub mod UnitsTogether
+pub mod UnreferencedSlots
 pub mod UnreadUnits
+pub mod ItemsOfLists
+pub mod ItemsTogether
 pub mod JoinedResources
+pub mod Levels
 pub mod LimitsRefused
 pub mod LimitsTaken
 pub mod LocatedRegions

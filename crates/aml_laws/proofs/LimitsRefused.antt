@@ -1,11 +1,10 @@
 -- Each limit is refused exactly above it.
 use Rattle.std.specs.Prelude.{◌≡◌, ◌≤◌, ◌<◌, ℕ, nat_le, nat_lt, true, false, List, [], ◌∷◌, ◌++◌, length, Ok, Err, refl}
-use Rattle.std.proofs.Common.{arith, ap}
+use Rattle.std.proofs.Common.{arith}
 use Rattle.std.proofs.lemmas.Bool.Decides.{nat_tests}
 use Rattle.ar_space.specs.declared.refusal.Refusal.TheVariants as refusal
 use Rattle.ar_space.specs.declared.refusal.EvaluationFault.TheVariants.{ObjectLimit, CallDepth}
 use Rattle.ar_space.specs.Accesses.{Accesses}
-use Rattle.ar_space.specs.Outcome.{Outcome}
 use Rattle.ar_space.specs.Change.{settle, go_on, ◌>>=◌}
 use Rattle.aml_path.specs.declared.segment.Seg.{Seg}
 use Rattle.aml_objects.specs.Objects.{Objects, make, fits, few, make_string, make_buffer, make_package}
@@ -13,10 +12,7 @@ use Rattle.aml_objects.specs.declared.object.Element.{Element}
 use Rattle.aml_objects.specs.declared.object.Object.{Object}
 use Rattle.aml_objects.specs.declared.value.Value.{Value}
 use Rattle.aml_meaning.specs.State.{State}
-use Rattle.aml_meaning.specs.Run.{lift}
-use Rattle.aml_meaning.specs.Invocations.{shallow, body_terms, frame_arguments, leaving, invoked}
-use Rattle.aml_meaning.specs.Slots.{opened}
-use Rattle.aml_meaning.specs.Tasks.{in_turn}
+use Rattle.aml_meaning.specs.Invocations.{shallow, invoked}
 use Rattle.aml_meaning.specs.Meaning.{meaning}
 
 pub object_made : (x : Object) (h : Objects) → length h < 262144 → make x h ≡ (Ok (length h), h ++ x ∷ [])
@@ -60,3 +56,5 @@ call_deep depth more = let test : nat_lt depth 32 ≡ false = grind (arith, nat_
 pub call_refused : {S : Type 0} (accesses : Accesses S) (depth : ℕ) (p : List Seg) (body : List ℕ) (arguments : List Value) (s : State S × ℕ) → 32 ≤ depth → invoked (meaning accesses) depth p body arguments s ≡ (Err (refusal.Evaluation CallDepth), s)
 unfolding invoked settle go_on ◌>>=◌
 call_refused accesses depth p body arguments s more = rw (call_deep depth more) refl
+
+pub ruleset limits_are_refused = (object_made, object_refused, string_refused, buffer_refused, package_refused, call_refused)

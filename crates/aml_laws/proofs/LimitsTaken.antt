@@ -97,3 +97,7 @@ module _ {S : Type 0} (accesses : Accesses S) where
   pub handed_out_refused : (w : State S) (n o steps : ℕ) → IsNested w.objects n o → 64 < n → 64 ≤ steps → (exported accesses (value.Package o) (w, steps)).0 ≡ Err (refusal.Evaluation ObjectLimit)
   unfolding exported value_exported
   handed_out_refused w n o steps h more enough = nested_refused n 64 o steps w h more enough
+
+pub ruleset what_is_within_the_limits_is_taken = (string_made, buffer_made, package_made, call_begins)
+
+pub ruleset packages_nest_at_most_64_deep = (package_taken, deep_package_refused, handed_out_refused)

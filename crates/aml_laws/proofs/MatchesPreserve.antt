@@ -2,7 +2,6 @@
 use Rattle.std.specs.Prelude.{Bool, List, None, Option, Some, false, refl, suc, true, zero, ℕ}
 use Rattle.ar_space.specs.Accesses.{Accesses}
 use Rattle.aml_path.specs.declared.segment.Seg.{Seg}
-use Rattle.aml_path.specs.Paths.{Name}
 use Rattle.aml_grammar.specs.Tree.{Tree}
 use Rattle.aml_objects.specs.declared.object.Element.{Element}
 use Rattle.aml_objects.specs.declared.object.Element.TheVariants as element
@@ -10,17 +9,16 @@ use Rattle.aml_objects.specs.declared.value.Value.{Value}
 use Rattle.aml_objects.specs.declared.value.Value.TheVariants as value
 use Rattle.aml_meaning.specs.declared.flow.Flow.{Flow}
 use Rattle.aml_meaning.specs.declared.searches.Search.{Search}
-use Rattle.aml_meaning.specs.declared.searches.Searching.{Searching}
 use Rattle.aml_meaning.specs.declared.store_target.Held.{Held}
 use Rattle.aml_meaning.specs.Run.{Run}
 use Rattle.aml_meaning.specs.Tasks.{Task}
 use Rattle.aml_meaning.specs.MatchTerms.{search_begun, name_held, held_by, element_held, meets, value_meets, held_meets, if_held, element_meets, found_or, none_matches, searched_last, match_rule}
 use Rattle.aml_laws.proofs.ObjectKinds.{element_at_keeps_kinds}
-use Rattle.aml_laws.proofs.WorldRelations.{WorldRelation, Preserves, RunPreserves, give_preserves, lift_preserves, on_objects_preserves, run_give_preserves, run_settle_preserves, run_then_preserves, settle_preserves, then_preserves, unchanged_preserves}
+use Rattle.aml_laws.proofs.WorldRelations.{PartsLead, Levels, WorldRelationOf, Preserves, RunPreserves, give_preserves, lift_preserves, on_objects_preserves, run_give_preserves, run_settle_preserves, run_then_preserves, settle_preserves, then_preserves, unchanged_preserves}
 use Rattle.aml_laws.proofs.ChangesPreserve.{integer_in_preserves, integer_kept_preserves, size_held_preserves}
-use Rattle.aml_laws.proofs.OperandsAndCallsPreserve.{held_value_preserves, value_at_preserves}
+use Rattle.aml_laws.proofs.OperandsAndCallsPreserve.{held_value_preserves, value_at_leads}
 
-module _ {S : Type 0} {accesses : Accesses S} {relation : WorldRelation accesses} where
+module _ {S : Type 0} {listed : Bool} {accesses : Accesses S} {relation : WorldRelationOf listed accesses} where
   search_begun_preserves : (p : Value) (k : ℕ) (a : Value) (l : ℕ) (b start : Value) → Preserves relation (search_begun p k a l b start)
   unfolding search_begun
   search_begun_preserves p k a l b start = then_preserves _ _ (settle_preserves _) (λ o. then_preserves _ _ (settle_preserves _) (λ x. then_preserves _ _ (settle_preserves _) (λ y. then_preserves _ _ (integer_in_preserves start) (λ i. then_preserves _ _ (size_held_preserves _) (λ n. settle_preserves _)))))
@@ -46,23 +44,23 @@ module _ {S : Type 0} {accesses : Accesses S} {relation : WorldRelation accesses
   value_meets_preserves x (value.Package o) = meets_preserves x _
   value_meets_preserves x (value.Reference r) = meets_preserves x _
 
-module _ {S : Type 0} {accesses : Accesses S} {relation : WorldRelation accesses} (ev : Task → Run S Flow) (parts : (t : Task) → RunPreserves relation (ev t)) where
-  if_held_preserves : (depth : ℕ) (x : Search) (o : Option Held) → RunPreserves relation (if_held accesses ev depth x o)
+module _ {S : Type 0} {accesses : Accesses S} {levels : Levels accesses} (ev : Task → Run S Flow) (parts : PartsLead levels ev) where
+  if_held_preserves : (depth : ℕ) (x : Search) (o : Option Held) → RunPreserves (levels.at depth) (if_held accesses ev depth x o)
   unfolding held_meets
   if_held_preserves depth x None = run_give_preserves _
   if_held_preserves depth x (Some h) = run_then_preserves _ _ (held_value_preserves ev parts depth h) (λ v. lift_preserves _ (value_meets_preserves x v))
 
-  found_or_preserves : (met : Bool) (i : ℕ) (m : Run S Flow) → RunPreserves relation m → RunPreserves relation (found_or met i m)
+  found_or_preserves : {depth : ℕ} (met : Bool) (i : ℕ) (m : Run S Flow) → RunPreserves (levels.at depth) m → RunPreserves (levels.at depth) (found_or met i m)
   found_or_preserves true i m h = run_give_preserves _
   found_or_preserves false i m h = h
 
-  searched_last_preserves : (depth : ℕ) (x : Search) (left : ℕ) → RunPreserves relation (searched_last accesses ev depth x left)
+  searched_last_preserves : (depth : ℕ) (x : Search) (left : ℕ) → RunPreserves (levels.at depth) (searched_last accesses ev depth x left)
   unfolding searched_last none_matches element_meets
   searched_last_preserves depth x zero = run_then_preserves _ _ (lift_preserves _ (integer_kept_preserves _)) (λ v. run_give_preserves _)
   searched_last_preserves depth x (suc n) = run_then_preserves _ _ (run_then_preserves _ _ (lift_preserves _ (element_held_preserves x.source _)) (λ o. if_held_preserves depth x o)) (λ met. found_or_preserves met _ _ (searched_last_preserves depth x n))
 
-  pub match_rule_preserves : (scope : List Seg) (depth : ℕ) (t : Tree) → RunPreserves relation (match_rule accesses ev scope depth t)
+  pub match_rule_preserves : (scope : List Seg) (depth : ℕ) (t : Tree) → RunPreserves (levels.at depth) (match_rule accesses ev scope depth t)
   unfolding match_rule
   match_rule_preserves scope depth t =
-      run_then_preserves _ _ (value_at_preserves ev parts scope depth t 0) (λ p. run_then_preserves _ _ (run_settle_preserves _) (λ k. run_then_preserves _ _ (value_at_preserves ev parts scope depth t 2) (λ a. run_then_preserves _ _ (run_settle_preserves _) (λ l. run_then_preserves _ _ (value_at_preserves ev parts scope depth t 4) (λ b.
-      run_then_preserves _ _ (value_at_preserves ev parts scope depth t 5) (λ i. run_then_preserves _ _ (lift_preserves _ (search_begun_preserves p k a l b i)) (λ x. searched_last_preserves depth x.search x.left)))))))
+      run_then_preserves _ _ (value_at_leads ev parts scope depth t 0) (λ p. run_then_preserves _ _ (run_settle_preserves _) (λ k. run_then_preserves _ _ (value_at_leads ev parts scope depth t 2) (λ a. run_then_preserves _ _ (run_settle_preserves _) (λ l. run_then_preserves _ _ (value_at_leads ev parts scope depth t 4) (λ b.
+      run_then_preserves _ _ (value_at_leads ev parts scope depth t 5) (λ i. run_then_preserves _ _ (lift_preserves _ (search_begun_preserves p k a l b i)) (λ x. searched_last_preserves depth x.search x.left)))))))

@@ -1,5 +1,5 @@
 -- What Acquire and Release do to the count of a mutex.
-use Rattle.std.specs.Prelude.{◌≡◌, ◌<◌, ℕ, suc, ◌+◌, ◌-◌, ◌^◌, ◌==◌, List, true, false, Some, Ok, Err, refl}
+use Rattle.std.specs.Prelude.{◌≡◌, ◌<◌, ℕ, ◌+◌, ◌-◌, ◌^◌, ◌==◌, List, false, Some, Ok, Err, refl}
 use Rattle.std.proofs.Common.{arith}
 use Rattle.std.proofs.lemmas.Bool.Decides.{nat_tests}
 use Rattle.std.specs.FinMap.{get}
@@ -33,3 +33,5 @@ module _ {S : Type 0} (w : State S) (path : List Seg) (n : ℕ) where
   pub free_refused : get w.names.map path ≡ Some (mutex_entry n 0) → given_back path w ≡ (Err (refusal.Evaluation NotAcquired), w)
   unfolding given_back mutex_count settle go_on ◌>>=◌
   free_refused at = rw at refl
+
+pub ruleset acquisitions_are_counted_one_by_one = (acquire_adds, full_refused, release_takes, free_refused)

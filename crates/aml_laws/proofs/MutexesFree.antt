@@ -38,3 +38,5 @@ loaded_frees_mutexes accesses bytes steps w = ending_frees_mutexes _ w
 pub answered_frees_mutexes : {S : Type 0} (accesses : Accesses S) (p : List Seg) (arguments : List Given) (steps : ℕ) (w : State S) → AllFree (answered accesses p arguments steps w).1
 unfolding answered
 answered_frees_mutexes accesses p arguments steps w = ending_frees_mutexes _ w
+
+pub ruleset no_mutex_stays_acquired = (loaded_frees_mutexes, answered_frees_mutexes)

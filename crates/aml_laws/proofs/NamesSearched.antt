@@ -1,6 +1,6 @@
 -- What a name finds: the nearest where it is searched for, else what stands at its one path; an alias in one step.
 use Rattle.std.specs.Prelude.{◌≡◌, ◌⊎◌, ◌≤◌, ◌<◌, ℕ, zero, suc, Bool, true, false, if◌then◌else◌, List, ◌++◌, length, take, Option, Some, None, Ok, Err, refl}
-use Rattle.std.proofs.Common.{arith, inl, inr, ap, sym, subst, ◌∙◌}
+use Rattle.std.proofs.Common.{arith, inl, inr, ap, ◌∙◌}
 use Rattle.std.proofs.lemmas.Bool.{cases_lt}
 use Rattle.std.specs.Option.{option_map}
 use Rattle.std.specs.FinMap.{get}
@@ -147,3 +147,5 @@ one_path_empty m scope n path is at none =
 pub no_path : (m : Map) (scope : List Seg) (n : Name) (e : Refusal) → is_searched n ≡ false → resolved n scope ≡ Err e → found m scope n ≡ Err e
 unfolding ◌>>=◌
 no_path m scope n e is at = found_by m scope n (Err e) (resolved_first m scope n (Err e) is at) ∙ stays_refused m e
+
+pub ruleset any_other_name_stands_at_one_path = (one_path_found, one_path_empty, no_path)

@@ -37,6 +37,7 @@ names_relation accesses p = record {
   bridge_asked = λ u w at width wide asks h o. h o;
   arities_set = λ w list o. kept_reflexive w.names.map p o;
   mutexes_released = λ w o. kept_released w.names p o;
+  passed_noted = λ listed u w scope e wide is h o. h o;
 }
 
 -- a path that is outside of control methods stays so

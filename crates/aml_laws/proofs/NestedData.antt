@@ -1,9 +1,9 @@
 -- What is handed in and what is handed out nests at most 64 deep.
-use Rattle.std.specs.Prelude.{◌≡◌, ℕ, zero, suc, Bool, true, false, List, [], ◌∷◌, ◌++◌, length, nat_lt, Option, Some, None, Ok, Err, refl, if◌then◌else◌}
+use Rattle.std.specs.Prelude.{◌≡◌, ℕ, zero, suc, Bool, true, false, List, [], ◌∷◌, ◌++◌, length, nat_lt, Option, Some, None, Ok, Err, if◌then◌else◌}
 use Rattle.std.proofs.Common.{subst}
 use Rattle.ar_space.specs.Accesses.{Accesses}
 use Rattle.ar_space.specs.Outcome.{Outcome, seen}
-use Rattle.ar_space.specs.Change.{Change, give, stop, ◌>>=◌}
+use Rattle.ar_space.specs.Change.{give, stop, ◌>>=◌}
 use Rattle.aml_path.specs.declared.segment.Seg.{Seg}
 use Rattle.aml_objects.specs.declared.object.Element.{Element}
 use Rattle.aml_objects.specs.declared.object.Element.TheVariants as element
@@ -25,7 +25,7 @@ use Rattle.aml_meaning.specs.declared.name_use.NameUse.TheVariants as uses
 use Rattle.aml_meaning.specs.Given as given
 use Rattle.aml_meaning.specs.Given.{Given, Givens, givens}
 use Rattle.aml_meaning.specs.State.{State, on_objects}
-use Rattle.aml_meaning.specs.Run.{Run, lift, charge}
+use Rattle.aml_meaning.specs.Run.{lift}
 use Rattle.aml_meaning.specs.Regions.{given_of_bits}
 use Rattle.aml_meaning.specs.Fields.{field_given}
 use Rattle.aml_meaning.specs.Importing.{imported_by, each_imported, elements_imported, package_imported, taken_back, imported}

@@ -20,7 +20,8 @@ use Rattle.aml_laws.proofs.Together.{SideBySide, Shape, Goes, alike, goes_from, 
 use Rattle.aml_laws.proofs.WorldsTogether.{worlds, runs, world_over}
 use Rattle.aml_laws.proofs.UnitsTogether.{read_field_together, write_field_together}
 use Rattle.aml_laws.proofs.OperandsTogether.{invoked_together}
-use Rattle.aml_laws.proofs.MeaningTogether.{meaning_together, list_together}
+use Rattle.aml_laws.proofs.Levels.{one_profile}
+use Rattle.aml_laws.proofs.MeaningTogether.{meaning_together, meaning_parts, list_together}
 use Rattle.aml_laws.proofs.EvaluationsTogether.{loaded_together, evaluated_together, answered_together}
 
 module _ {S : Type 0} (accesses : Accesses S) where
@@ -59,19 +60,19 @@ module _ {S : Type 0} (accesses : Accesses S) where
 
   pub term_unnoted : (t : Task) (s : State (WithNotes S) × ℕ) → meaning accesses t (without_notes s.0, s.1) ≡ outcome_without_notes (meaning (noted accesses) t s)
   unfolding noting
-  term_unnoted t s = run_unnoted _ _ (goes_from noting runs _ _ ((meaning_together {side = alike noting} t).goes (without_notes s.0, s.1) s.0.space refl))
+  term_unnoted t s = run_unnoted _ _ (goes_from noting runs _ _ ((one_profile noting t.depth (meaning_together (alike noting) t)).goes (without_notes s.0, s.1) s.0.space refl))
 
   pub list_unnoted : (scope : List Seg) (depth : ℕ) (ts : Trees) (s : State (WithNotes S) × ℕ) → in_turn (meaning accesses) scope depth ts (without_notes s.0, s.1) ≡ outcome_without_notes (in_turn (meaning (noted accesses)) scope depth ts s)
   unfolding noting
-  list_unnoted scope depth ts s = run_unnoted _ _ (goes_from noting runs _ _ ((list_together {side = alike noting} scope depth ts).goes (without_notes s.0, s.1) s.0.space refl))
+  list_unnoted scope depth ts s = run_unnoted _ _ (goes_from noting runs _ _ ((one_profile noting depth (list_together (alike noting) scope depth ts)).goes (without_notes s.0, s.1) s.0.space refl))
 
   pub call_unnoted : (depth : ℕ) (p : List Seg) (body : List ℕ) (arguments : List Value) (s : State (WithNotes S) × ℕ) → invoked (meaning accesses) depth p body arguments (without_notes s.0, s.1) ≡ outcome_without_notes (invoked (meaning (noted accesses)) depth p body arguments s)
   unfolding noting
-  call_unnoted depth p body arguments s = run_unnoted _ _ (goes_from noting runs _ _ ((invoked_together {side = alike noting} meaning_together depth p body arguments).goes (without_notes s.0, s.1) s.0.space refl))
+  call_unnoted depth p body arguments s = run_unnoted _ _ (goes_from noting runs _ _ ((one_profile noting 1 (invoked_together {side = alike noting} meaning_parts 1 depth p body arguments)).goes (without_notes s.0, s.1) s.0.space refl))
 
   pub table_unnoted : (bytes : List ℕ) (steps : ℕ) (w : State (WithNotes S)) → loaded accesses bytes steps (without_notes w) ≡ ((loaded (noted accesses) bytes steps w).0, without_notes (loaded (noted accesses) bytes steps w).1)
   unfolding noting
-  table_unnoted bytes steps w = world_unnoted _ _ (goes_from noting worlds _ _ ((loaded_together {side = alike noting} bytes steps).goes (without_notes w) w.space refl))
+  table_unnoted bytes steps w = world_unnoted _ _ (goes_from noting worlds _ _ ((one_profile noting 0 (loaded_together (alike noting) bytes steps)).goes (without_notes w) w.space refl))
 
   pub value_unnoted : (p : List Seg) (arguments : List Value) (steps : ℕ) (w : State (WithNotes S)) → evaluated accesses p arguments steps (without_notes w) ≡ ((evaluated (noted accesses) p arguments steps w).0, without_notes (evaluated (noted accesses) p arguments steps w).1)
   unfolding noting
@@ -90,3 +91,5 @@ module _ {S : Type 0} (accesses : Accesses S) where
   pub field_written_unnoted : (r : Region) (f : FieldUnit) (source : List ℕ) (s : WithNotes S) → write_field accesses r f source s.0 ≡ ((write_field (noted accesses) r f source s).0, (write_field (noted accesses) r f source s).1.0)
   unfolding noting
   field_written_unnoted r f source s = space_unnoted _ _ (goes_from noting spaces _ _ ((write_field_together {side = alike noting} r f source).goes s.0 s refl))
+
+pub ruleset noting_changes_nothing = (term_unnoted, list_unnoted, call_unnoted, table_unnoted, value_unnoted, answer_unnoted, field_read_unnoted, field_written_unnoted)

@@ -34,6 +34,7 @@ numbers_rise_relation accesses = record {
   bridge_asked = λ u w at width wide asks h. record { next = h.next; started = h.started };
   arities_set = λ w list. record { next = omega arith; started = omega arith };
   mutexes_released = λ w. record { next = omega arith; started = omega arith };
+  passed_noted = λ listed u w scope e wide is h. record { next = h.next; started = h.started };
 }
 
 pub next_declaration_rises : {S : Type 0} (accesses : Accesses S) (w v : State S) → Becomes accesses w v → w.names.next ≤ v.names.next

@@ -22,6 +22,7 @@ object_kinds_relation accesses = record {
   bridge_asked = λ u w at width wide asks h. h;
   arities_set = λ w list. kinds_reflexive w.objects;
   mutexes_released = λ w. kinds_reflexive w.objects;
+  passed_noted = λ listed u w scope e wide is h. h;
 }
 
 pub object_kinds_stay : {S : Type 0} (accesses : Accesses S) (w v : State S) → Becomes accesses w v → KeepsKinds w.objects v.objects

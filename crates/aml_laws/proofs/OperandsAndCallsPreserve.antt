@@ -21,98 +21,124 @@ use Rattle.aml_meaning.specs.Run.{Run}
 use Rattle.aml_meaning.specs.Tasks.{Task, operand_value, value_at, two_values, operand_integer, goes_on, in_turn}
 use Rattle.aml_meaning.specs.Invocations.{invoked, method_value}
 use Rattle.aml_meaning.specs.FieldCalls.{called_at, asked, method_integer, answer_over, answer_within, field_read, held_value, held_integer, referent_read, completed, stored_to, is_element, back_to, stored_back}
+use Rattle.aml_laws.proofs.ItemsOfLists.{item_preserves}
 use Rattle.aml_laws.proofs.FieldsPreserve.{field_value_preserves, field_integer_preserves, field_part_preserves, field_referent_preserves, field_stored_preserves}
 use Rattle.aml_laws.proofs.FoundNamesStand.{MethodStandsAt}
-use Rattle.aml_laws.proofs.WorldRelations.{WorldRelation, RunPreserves, RunPreservesFrom, CalledMethodStands, MayRemoveBelow, run_give_preserves, run_stop_preserves, run_settle_preserves, lift_preserves, run_then_preserves, found_then_preserves, run_preserves_from, then_preserves_from, body_preserves_from}
+use Rattle.aml_laws.proofs.WorldRelations.{PartsLead, WorldRelation, Levels, always, deeper_preserves, RunPreserves, RunPreservesFrom, CalledMethodStands, MayRemoveBelow, run_give_preserves, run_stop_preserves, run_settle_preserves, lift_preserves, run_then_preserves, found_then_preserves, run_preserves_from, then_preserves_from, body_preserves_from}
 use Rattle.aml_laws.proofs.ChangesPreserve.{invocation_found_finds_invocation, integer_in_preserves, body_terms_preserves}
 use Rattle.aml_laws.proofs.StoreTargetsPreserve.{stored_preserves}
 
-module _ {S : Type 0} {accesses : Accesses S} {relation : WorldRelation accesses} (ev : Task → Run S Flow) (parts : (t : Task) → RunPreserves relation (ev t)) where
-  pub operand_value_preserves : (scope : List Seg) (depth : ℕ) (t : Tree) → RunPreserves relation (operand_value ev scope depth t)
+module _ {S : Type 0} {accesses : Accesses S} {levels : Levels accesses} (ev : Task → Run S Flow) (parts : PartsLead levels ev) where
+  pub operand_value_leads : (scope : List Seg) (depth : ℕ) (t : Tree) → RunPreserves (levels.at depth) (operand_value ev scope depth t)
   unfolding operand_value
-  operand_value_preserves scope depth t = run_then_preserves _ _ (parts _) (λ f. run_settle_preserves _)
+  operand_value_leads scope depth t = run_then_preserves _ _ (parts.part _) (λ f. run_settle_preserves _)
 
-  pub operand_integer_preserves : (scope : List Seg) (depth : ℕ) (t : Tree) → RunPreserves relation (operand_integer ev scope depth t)
+  pub operand_integer_preserves : (scope : List Seg) (depth : ℕ) (t : Tree) → RunPreserves (levels.at depth) (operand_integer ev scope depth t)
   unfolding operand_integer
-  operand_integer_preserves scope depth t = run_then_preserves _ _ (operand_value_preserves scope depth t) (λ v. lift_preserves _ (integer_in_preserves v))
+  operand_integer_preserves scope depth t = run_then_preserves _ _ (operand_value_leads scope depth t) (λ v. lift_preserves _ (integer_in_preserves v))
 
-  pub value_at_preserves : (scope : List Seg) (depth : ℕ) (t : Tree) (i : ℕ) → RunPreserves relation (value_at ev scope depth t i)
+  pub value_at_leads : (scope : List Seg) (depth : ℕ) (t : Tree) (i : ℕ) → RunPreserves (levels.at depth) (value_at ev scope depth t i)
   unfolding value_at
-  value_at_preserves scope depth t i = run_then_preserves _ _ (run_settle_preserves _) (λ x. operand_value_preserves scope depth x)
+  value_at_leads scope depth t i = run_then_preserves _ _ (run_settle_preserves _) (λ x. operand_value_leads scope depth x)
 
-  pub two_values_preserves : (scope : List Seg) (depth : ℕ) (t : Tree) → RunPreserves relation (two_values ev scope depth t)
+  pub two_values_leads : (scope : List Seg) (depth : ℕ) (t : Tree) → RunPreserves (levels.at depth) (two_values ev scope depth t)
   unfolding two_values
-  two_values_preserves scope depth t = run_then_preserves _ _ (value_at_preserves scope depth t 0) (λ v. run_then_preserves _ _ (value_at_preserves scope depth t 1) (λ u. run_give_preserves _))
+  two_values_leads scope depth t = run_then_preserves _ _ (value_at_leads scope depth t 0) (λ v. run_then_preserves _ _ (value_at_leads scope depth t 1) (λ u. run_give_preserves _))
 
-  pub after_item_preserves : (go : Bool) (f : Flow) (m : Run S Flow) → RunPreserves relation m → RunPreserves relation (if go then m else give f)
-  after_item_preserves true f m h = h
-  after_item_preserves false f m h = run_give_preserves _
+  pub after_item_leads : {depth : ℕ} (go : Bool) (f : Flow) (m : Run S Flow) → RunPreserves (levels.at depth) m → RunPreserves (levels.at depth) (if go then m else give f)
+  after_item_leads true f m h = h
+  after_item_leads false f m h = run_give_preserves _
 
-  pub in_turn_preserves : (scope : List Seg) (depth : ℕ) (ts : Trees) → RunPreserves relation (in_turn ev scope depth ts)
+  pub in_turn_leads : (scope : List Seg) (depth : ℕ) (ts : Trees) → RunPreserves (levels.at depth) (in_turn ev scope depth ts)
   unfolding in_turn
-  in_turn_preserves scope depth no_trees = run_give_preserves _
-  in_turn_preserves scope depth (tree t ts) = run_then_preserves _ _ (parts _) (λ f. after_item_preserves (goes_on f) f _ (in_turn_preserves scope depth ts))
+  in_turn_leads scope depth no_trees = run_give_preserves _
+  in_turn_leads scope depth (tree t ts) = run_then_preserves _ _ (item_preserves levels ev parts scope depth t) (λ f. after_item_leads (goes_on f) f _ (in_turn_leads scope depth ts))
 
   -- a call of a control method
-  pub invoked_preserves_from : (u : State S) (depth : ℕ) (q : List Seg) (body : List ℕ) (arguments : List Value) → MayRemoveBelow relation u q → RunPreservesFrom relation u (invoked ev depth q body arguments)
+  pub invoked_leads_from : {level : ℕ} (u : State S) (depth : ℕ) (q : List Seg) (body : List ℕ) (arguments : List Value) → MayRemoveBelow (levels.at level) u q → RunPreservesFrom (levels.at level) u (invoked ev depth q body arguments)
   unfolding invoked
-  invoked_preserves_from u depth q body arguments gone =
-      then_preserves_from u _ _ (run_preserves_from u _ (run_settle_preserves _)) (λ few. then_preserves_from u _ _ (run_preserves_from u _ (lift_preserves _ (body_terms_preserves q body))) (λ ts. body_preserves_from u _ q _ gone (in_turn_preserves q _ ts)))
+  invoked_leads_from u depth q body arguments gone =
+      then_preserves_from u _ _ (run_preserves_from u _ (run_settle_preserves _)) (λ few. then_preserves_from u _ _ (run_preserves_from u _ (lift_preserves _ (body_terms_preserves q body))) (λ ts. body_preserves_from u _ q _ gone (deeper_preserves levels depth _ (in_turn_leads q _ ts))))
 
-  pub method_value_preserves_from : (u : State S) (depth : ℕ) (q : List Seg) (body : List ℕ) (arguments : List Value) → MethodStandsAt u.names.map q → RunPreservesFrom relation u (method_value ev depth q body arguments)
+  pub method_value_preserves_from : {level : ℕ} (u : State S) (depth : ℕ) (q : List Seg) (body : List ℕ) (arguments : List Value) → MethodStandsAt u.names.map q → RunPreservesFrom (levels.at level) u (method_value ev depth q body arguments)
   unfolding method_value
-  method_value_preserves_from u depth q body arguments at = then_preserves_from u _ _ (invoked_preserves_from u depth q body arguments (λ v. relation.names_removed u v q at)) (λ f. run_preserves_from u _ (run_give_preserves _))
+  method_value_preserves_from {level = level} u depth q body arguments at = then_preserves_from u _ _ (invoked_leads_from u depth q body arguments (λ v. (levels.at level).names_removed u v q at)) (λ f. run_preserves_from u _ (run_give_preserves _))
 
   -- ---- field units
 
-  asked_preserves : (answer : Invocation → Run S ℕ) → ((u : State S) (i : Invocation) → CalledMethodStands u i → RunPreservesFrom relation u (answer i)) → (q : List Seg) → RunPreserves relation (asked answer q)
+  asked_preserves : {level : ℕ} (answer : Invocation → Run S ℕ) → ((u : State S) (i : Invocation) → CalledMethodStands u i → RunPreservesFrom (levels.at level) u (answer i)) → (q : List Seg) → RunPreserves (levels.at level) (asked answer q)
   unfolding asked
   asked_preserves answer each q = found_then_preserves _ _ (invocation_found_finds_invocation _ _ _) each
 
-  answer_over_preserves_from : (k : ℕ) (call : List Seg → Run S ℕ) → ((q : List Seg) → RunPreserves relation (call q)) → (u : State S) (i : Invocation) → CalledMethodStands u i → RunPreservesFrom relation u (answer_over accesses ev k call i)
+  answer_over_preserves_from : {level : ℕ} (k : ℕ) (call : List Seg → Run S ℕ) → ((q : List Seg) → RunPreserves (levels.at level) (call q)) → (u : State S) (i : Invocation) → CalledMethodStands u i → RunPreservesFrom (levels.at level) u (answer_over accesses ev k call i)
   unfolding method_integer
   answer_over_preserves_from k call each u (invocations.Value v) at = run_preserves_from u _ (run_settle_preserves _)
   answer_over_preserves_from k call each u (invocations.Field f) at = run_preserves_from u _ (field_part_preserves call each f)
   answer_over_preserves_from k call each u (invocations.Method q body) at = then_preserves_from u _ _ (method_value_preserves_from u _ q body _ (at q body refl)) (λ v. run_preserves_from u _ (run_settle_preserves _))
   answer_over_preserves_from k call each u invocations.Osi at = run_preserves_from u _ (run_stop_preserves _)
 
-  answer_within_preserves_from : (k : ℕ) (u : State S) (i : Invocation) → CalledMethodStands u i → RunPreservesFrom relation u (answer_within accesses ev k i)
+  answer_within_preserves_from : {level : ℕ} (k : ℕ) (u : State S) (i : Invocation) → CalledMethodStands u i → RunPreservesFrom (levels.at level) u (answer_within accesses ev k i)
   unfolding answer_within
   answer_within_preserves_from zero u i at = run_preserves_from u _ (run_stop_preserves _)
   answer_within_preserves_from (suc k) u i at = answer_over_preserves_from k _ (asked_preserves _ (answer_within_preserves_from k)) u i at
 
-  pub called_at_preserves : (depth : ℕ) (q : List Seg) → RunPreserves relation (called_at accesses ev depth q)
+  pub called_at_preserves : {level : ℕ} (depth : ℕ) (q : List Seg) → RunPreserves (levels.at level) (called_at accesses ev depth q)
   called_at_preserves depth q = asked_preserves _ (answer_within_preserves_from _) q
 
-  pub field_read_preserves : (depth : ℕ) (u : Field) → RunPreserves relation (field_read accesses ev depth u)
+  pub field_read_preserves : {level : ℕ} (depth : ℕ) (u : Field) → RunPreserves (levels.at level) (field_read accesses ev depth u)
   field_read_preserves depth u = field_value_preserves _ (called_at_preserves depth) u
 
-  pub held_integer_preserves : (depth : ℕ) (h : Held) → RunPreserves relation (held_integer accesses ev depth h)
+  pub held_integer_preserves : {level : ℕ} (depth : ℕ) (h : Held) → RunPreserves (levels.at level) (held_integer accesses ev depth h)
   held_integer_preserves depth (held.Value v) = lift_preserves _ (integer_in_preserves v)
   held_integer_preserves depth (held.Field u) = field_integer_preserves _ (called_at_preserves depth) u
 
-  pub referent_read_preserves : (depth : ℕ) (r : Referent) → RunPreserves relation (referent_read accesses ev depth r)
+  pub referent_read_preserves : {level : ℕ} (depth : ℕ) (r : Referent) → RunPreserves (levels.at level) (referent_read accesses ev depth r)
   referent_read_preserves depth (referent.Value v) = run_give_preserves _
   referent_read_preserves depth (referent.Object t) = run_give_preserves _
   referent_read_preserves depth (referent.Field u) = field_referent_preserves _ (called_at_preserves depth) u
   referent_read_preserves depth (referent.Bytes n) = run_give_preserves _
 
-  pub completed_preserves : (depth : ℕ) (s : Stored) (v : Value) → RunPreserves relation (completed accesses ev depth s v)
+  pub completed_preserves : {level : ℕ} (depth : ℕ) (s : Stored) (v : Value) → RunPreserves (levels.at level) (completed accesses ev depth s v)
   completed_preserves depth store.Done v = run_give_preserves _
   completed_preserves depth (store.Field u) v = field_stored_preserves _ (called_at_preserves depth) u v
 
-  pub stored_to_preserves : (depth : ℕ) (q : StoreTarget) (v : Value) → RunPreserves relation (stored_to accesses ev depth q v)
+  pub stored_to_preserves : {level : ℕ} (depth : ℕ) (q : StoreTarget) (v : Value) → RunPreserves (levels.at level) (stored_to accesses ev depth q v)
   unfolding stored_to
   stored_to_preserves depth q v = run_then_preserves _ _ (lift_preserves _ (stored_preserves q v)) (λ s. completed_preserves depth s v)
 
-  pub held_value_preserves : (depth : ℕ) (h : Held) → RunPreserves relation (held_value accesses ev depth h)
+  pub held_value_preserves : {level : ℕ} (depth : ℕ) (h : Held) → RunPreserves (levels.at level) (held_value accesses ev depth h)
   held_value_preserves depth (held.Value v) = run_give_preserves _
   held_value_preserves depth (held.Field u) = field_read_preserves depth u
 
-  back_to_preserves : (b : Bool) (depth : ℕ) (h : Held) (q : StoreTarget) (v : Value) → RunPreserves relation (back_to accesses ev b depth h q v)
+  back_to_preserves : {level : ℕ} (b : Bool) (depth : ℕ) (h : Held) (q : StoreTarget) (v : Value) → RunPreserves (levels.at level) (back_to accesses ev b depth h q v)
   back_to_preserves true depth h q v = stored_to_preserves depth q v
   back_to_preserves false depth (held.Value old) q v = stored_to_preserves depth q v
   back_to_preserves false depth (held.Field u) q v = field_stored_preserves _ (called_at_preserves depth) u v
 
-  pub stored_back_preserves : (depth : ℕ) (h : Held) (q : StoreTarget) (v : Value) → RunPreserves relation (stored_back accesses ev depth h q v)
+  pub stored_back_preserves : {level : ℕ} (depth : ℕ) (h : Held) (q : StoreTarget) (v : Value) → RunPreserves (levels.at level) (stored_back accesses ev depth h q v)
   stored_back_preserves depth h q v = back_to_preserves (is_element q) depth h q v
+
+-- ---- the same at all depths
+
+module _ {S : Type 0} {accesses : Accesses S} {relation : WorldRelation accesses} (ev : Task → Run S Flow) (parts : (t : Task) → RunPreserves relation (ev t)) where
+  pub at_all_depths : PartsLead (always relation) ev
+  at_all_depths = record { part = λ t. record { preserves = (parts t).preserves } }
+
+  pub operand_value_preserves : (scope : List Seg) (depth : ℕ) (t : Tree) → RunPreserves relation (operand_value ev scope depth t)
+  operand_value_preserves scope depth t = record { preserves = (operand_value_leads {levels = always relation} ev at_all_depths scope depth t).preserves }
+
+  pub value_at_preserves : (scope : List Seg) (depth : ℕ) (t : Tree) (i : ℕ) → RunPreserves relation (value_at ev scope depth t i)
+  value_at_preserves scope depth t i = record { preserves = (value_at_leads {levels = always relation} ev at_all_depths scope depth t i).preserves }
+
+  pub two_values_preserves : (scope : List Seg) (depth : ℕ) (t : Tree) → RunPreserves relation (two_values ev scope depth t)
+  two_values_preserves scope depth t = record { preserves = (two_values_leads {levels = always relation} ev at_all_depths scope depth t).preserves }
+
+  pub in_turn_preserves : (scope : List Seg) (depth : ℕ) (ts : Trees) → RunPreserves relation (in_turn ev scope depth ts)
+  in_turn_preserves scope depth ts = record { preserves = (in_turn_leads {levels = always relation} ev at_all_depths scope depth ts).preserves }
+
+  pub after_item_preserves : (go : Bool) (f : Flow) (m : Run S Flow) → RunPreserves relation m → RunPreserves relation (if go then m else give f)
+  after_item_preserves true f m h = h
+  after_item_preserves false f m h = run_give_preserves _
+
+  pub invoked_preserves_from : (u : State S) (depth : ℕ) (q : List Seg) (body : List ℕ) (arguments : List Value) → MayRemoveBelow relation u q → RunPreservesFrom relation u (invoked ev depth q body arguments)
+  invoked_preserves_from u depth q body arguments gone = record { preserves_from = (invoked_leads_from {levels = always relation} ev at_all_depths {level = depth} u depth q body arguments gone).preserves_from }

@@ -1,6 +1,6 @@
 -- Two values of one type are in a total order.
 use Rattle.std.specs.Prelude.{◌≡◌, ◌⊎◌, ◌<◌, ℕ, List, [], ◌∷◌, ◌++◌, Ok, refl}
-use Rattle.std.proofs.Common.{arith, inl, inr, ap, sym, ◌∙◌}
+use Rattle.std.proofs.Common.{inl, inr, ap, sym, ◌∙◌}
 use Rattle.std.specs.Ordering.{nat_cmp, ordering_reverse}
 use Rattle.std.specs.Cmp.{IsTotalOrder, nat_cmp_is}
 use Rattle.std.specs.Cmp.Lexicographic.{slice_cmp}
@@ -88,3 +88,5 @@ lesser_buffer w front a b s t h = ap (λ o. Ok o) (first_less front a b s t h)
 pub shorter_buffer : (w : IntegerWidth) (front : List ℕ) (a : ℕ) (s : List ℕ) → compared w (Buffer front) (Buffer (front ++ a ∷ s)) ≡ Ok Less
 unfolding compared ◌>>=◌
 shorter_buffer w front a s = ap (λ o. Ok o) (front_less front a s)
+
+pub ruleset values_of_one_type_are_in_a_total_order = (integers_are_ordered, strings_are_ordered, buffers_are_ordered, lesser_integer, lesser_string, shorter_string, lesser_buffer, shorter_buffer)

@@ -1,6 +1,6 @@
 -- What is refused for want of steps leaves none: `x_explains` says it of each rule, beside what it says of faults. A new rule needs its
 -- line in `FaultsOfRules` or `FaultsOfWideTerms`, and none here.
-use Rattle.std.specs.Prelude.{◌≡◌, ℕ, List, Ok, Err}
+use Rattle.std.specs.Prelude.{◌≡◌, ℕ, List, Err}
 use Rattle.std.proofs.Common.{subst}
 use Rattle.ar_space.specs.declared.refusal.Refusal.TheVariants as refusal
 use Rattle.ar_space.specs.declared.refusal.EvaluationFault.TheVariants.{OutOfSteps}
@@ -42,3 +42,5 @@ module _ {S : Type 0} (accesses : Accesses S) where
 
   pub answer_spent : (p : List Seg) (count : ℕ) (arguments : List Given) (s : State S × ℕ) → (answer_exported accesses p count arguments s).0 ≡ Err (refusal.Evaluation OutOfSteps) → (answer_exported accesses p count arguments s).1.1 ≡ 0
   answer_spent p count arguments s e = none_left _ _ ((answer_exported_explains accesses p count arguments).spent s) e
+
+pub ruleset no_step_is_left_where_steps_run_out = (term_spent, list_spent, call_spent, table_spent, value_spent, answer_spent)

@@ -1,6 +1,6 @@
 -- A region of PCI_Config belongs to the nearest device with an address, and the bridges above that are asked.
-use Rattle.std.specs.Prelude.{◌≡◌, ◌⊎◌, ◌≤◌, ◌<◌, ◌+◌, ◌-◌, ◌==◌, ◌&&◌, ℕ, zero, suc, not, Bool, true, false, List, [], ◌∷◌, ◌++◌, length, take, Option, Some, None, Ok, Err, is_some, refl, if◌then◌else◌}
-use Rattle.std.proofs.Common.{arith, ap, inl, inr, sym, subst, ◌∙◌, length-take-le, take-take}
+use Rattle.std.specs.Prelude.{◌≡◌, ◌≤◌, ◌<◌, ◌-◌, ◌==◌, ◌&&◌, ℕ, zero, suc, not, Bool, true, false, List, [], ◌∷◌, ◌++◌, length, take, Option, Some, None, Ok, Err, is_some, refl, if◌then◌else◌}
+use Rattle.std.proofs.Common.{arith, ap, sym, subst, ◌∙◌, length-take-le, take-take}
 use Rattle.std.proofs.lemmas.Bool.Decides.{nat_tests}
 use Rattle.std.specs.FinMap.{get}
 use Rattle.ar_space.specs.declared.refusal.Refusal.TheVariants as refusal
@@ -15,7 +15,7 @@ use Rattle.aml_meaning.specs.declared.pci_functions.Sought.{Sought}
 use Rattle.aml_meaning.specs.declared.pci_functions.Sought.TheVariants as sought
 use Rattle.aml_meaning.specs.declared.profile.Profile.TheVariants as profiles
 use Rattle.aml_meaning.specs.State.{State}
-use Rattle.aml_meaning.specs.PciFunctions.{adr, hid, base_bus, is_device_object, is_device, has, is_function, is_bridge, fits, nearest_from, nearest, or_deep, or_behind, behind_asked, pci_function}
+use Rattle.aml_meaning.specs.PciFunctions.{adr, hid, is_device_object, is_device, has, is_function, is_bridge, fits, nearest_from, nearest, or_behind, behind_asked, pci_function}
 use Rattle.aml_laws.specs.PciScopes.{StandsIn, IsFunctionAt, IsBridgeAt, IsNearestSuch, NoneSuch}
 
 -- ---- what is tested, in words
@@ -180,3 +180,5 @@ module _ {S : Type 0} (w : State S) where
         let long = above_long in
         let some = nearest_some names_of sought.Bridge (above (take k scope)) j (length (above (take k scope))) (bridge_tested names_of (take j (above (take k scope))) (subst (IsBridgeAt names_of) (sym (front_above j le)) bridge)) (omega (arith, le, long)) in
         rw (found_near, some.1, core) refl
+
+pub ruleset a_region_of_pci_config_belongs_to_the_nearest_device = (nearest_function, function_behind, function_deep, no_function)

@@ -10,7 +10,7 @@ use Rattle.aml_laws.specs.Becomes.{Becomes}
 use Rattle.aml_laws.proofs.WorldRelations.{WorldRelation}
 use Rattle.aml_laws.proofs.EvaluationsPreserve.{becomes_preserves, predefined_preserves}
 
-abbrev profile_relation : {S : Type 0} (accesses : Accesses S) → WorldRelation accesses
+abbrev pub profile_relation : {S : Type 0} (accesses : Accesses S) → WorldRelation accesses
 profile_relation accesses = record {
   Leads = λ w v. v.profile ≡ w.profile;
   reflexive = λ w. refl;
@@ -25,6 +25,7 @@ profile_relation accesses = record {
   bridge_asked = λ u w at width wide asks h. h;
   arities_set = λ w list. refl;
   mutexes_released = λ w. refl;
+  passed_noted = λ listed u w scope e wide is h. h;
 }
 
 pub profile_is_kept : {S : Type 0} (accesses : Accesses S) (w v : State S) → Becomes accesses w v → v.profile ≡ w.profile

@@ -258,3 +258,5 @@ module _ {S : Type 0} (w : State S) (v : Value) where
   arguments_refused n zero r end c less = refl
   arguments_refused n (suc m) r end (alone _) less = absurd (omega arith)
   arguments_refused n (suc m) r end (link k _ q _ l c) less = one_on m r q l ∙ arguments_refused k m q end c (omega arith)
+
+pub ruleset at_most_64_references_are_followed = (chain_followed, chain_refused, name_followed_through, slot_followed_through, arguments_followed, arguments_refused)

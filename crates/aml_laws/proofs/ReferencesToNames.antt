@@ -125,3 +125,5 @@ module _ {S : Type 0} (w : State S) (p : List Seg) (r : Reference) (h : Numbered
 
   pub name_gives_back : given_back_at (targets.Refers r) w ≡ given_back p w
   name_gives_back = let f = name_found w p r e in subst (λ (y : Reference). given_back_at (targets.Refers y) w ≡ given_back p w) (sym f.is) (given_back_by_number_is w p f.entry f.there h)
+
+pub ruleset a_reference_to_a_name_finds_its_declaration = (name_reference_is, declaration_is, declared_once_is, name_copies)

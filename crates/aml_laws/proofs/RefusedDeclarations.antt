@@ -41,3 +41,5 @@ refused_name_changes_nothing module_level p o w e h = go_on_declared_refused _ p
 pub refused_method_changes_nothing : {S : Type 0} (module_level : Bool) (p : List Seg) (flags : MethodFlags) (body : List ℕ) (w : State S) (e : Refusal) → (new_method module_level p flags body w).0 ≡ Err e → (new_method module_level p flags body w).1 ≡ w
 unfolding new_method
 refused_method_changes_nothing module_level p flags body w e h = refused_name_changes_nothing module_level p _ w e h
+
+pub ruleset refused_names_change_nothing = (refused_name_changes_nothing, refused_method_changes_nothing)

@@ -15,7 +15,7 @@ use Rattle.aml_fields.specs.declared.region.AddressSpace.TheVariants as spaces
 use Rattle.aml_fields.specs.declared.region.Region.{Region}
 use Rattle.aml_fields.specs.declared.field_units.Unit.{Unit as Access}
 use Rattle.aml_fields.specs.Units.{units_of}
-use Rattle.aml_fields.specs.Regions.{place_in, or_limit, unit_place, read_access, read_unit, read_field, write_access, write_unit, write_field}
+use Rattle.aml_fields.specs.Regions.{place_in, or_limit, unit_place, read_access, read_unit, read_field, write_access, write_unit, write_field, write_whole}
 use Rattle.aml_meaning.specs.Regions.{pci_space}
 use Rattle.aml_laws.specs.Reached.{Reached}
 use Rattle.aml_laws.specs.Reached as by
@@ -106,9 +106,13 @@ module _ {S : Type 0} (accesses : Accesses S) (declared : OperationRegion) where
   write_access_only_within at width value lies = record { respects = λ s. within.written s at width value lies within.none }
 
   module _ (region : Region) (is : IsRegion declared region) where
-    read_unit_only_within : (width : Width) (u : Access) → OnlyWithin (read_unit accesses region width u)
+    pub read_unit_only_within : (width : Width) (u : Access) → OnlyWithin (read_unit accesses region width u)
     unfolding read_unit
     read_unit_only_within width u = settle_then_respects _ _ (λ at e. read_access_only_within at width (unit_lies_within declared region width u.offset at is e))
+
+    pub write_whole_only_within : (width : Width) (offset value : ℕ) → OnlyWithin (write_whole accesses region width offset value)
+    unfolding write_whole
+    write_whole_only_within width offset value = settle_then_respects _ _ (λ at e. write_access_only_within at width value (unit_lies_within declared region width offset at is e))
 
     write_unit_only_within : (f : FieldUnit) (source : List ℕ) (u : Access) → OnlyWithin (write_unit accesses region f source u)
     unfolding write_unit

@@ -1,11 +1,12 @@
--- A Wait takes what a Signal gave, and leaves the world as it was before both.
-use Rattle.std.specs.Prelude.{◌≡◌, ℕ, ◌+◌, ◌-◌, ◌^◌, ◌==◌, List, Bool, true, false, Option, Some, None, Ok, Err, refl, cond}
+-- A Wait takes what a Signal gave, and leaves the world as it was before both, unless it is refused for its timeout.
+use Rattle.std.specs.Prelude.{◌≡◌, ℕ, ◌+◌, ◌-◌, ◌^◌, ◌==◌, List, Bool, true, false, Some, Ok, Err, refl, cond}
 use Rattle.std.proofs.Common.{ap, sym, subst, ◌∙◌, arith}
 use Rattle.std.proofs.lemmas.Bool.Decides.{nat_tests}
 use Rattle.std.specs.Ordering.{eq_by_cmp}
 use Rattle.std.specs.FinMap.{get, insert, get-insert, same_map}
 use Rattle.ar_space.specs.Outcome.{Outcome}
 use Rattle.ar_space.specs.Change.{settle, give, go_on, ◌>>=◌}
+use Rattle.ar_space.specs.declared.refusal.Refusal.{Refusal}
 use Rattle.ar_space.specs.declared.refusal.Refusal.TheVariants as refusal
 use Rattle.ar_space.specs.declared.refusal.EvaluationFault.TheVariants.{ObjectLimit}
 use Rattle.aml_path.specs.declared.segment.Seg.{Seg}
@@ -62,6 +63,10 @@ module _ {S : Type 0} (w : State S) (path : List Seg) (n count : ℕ) (standing 
   unfolding waited signal_taken settle give ◌>>=◌ go_on
   taken timeout time is some = rw (under_is, is, some, put_is (count - 1)) refl
 
+  pub wait_refused : (timeout : Value) (e : Refusal) → integer_in timeout w ≡ (Err e, w) → waited (Some n) timeout w ≡ (Err e, w)
+  unfolding waited settle ◌>>=◌ go_on
+  wait_refused timeout e is = rw (under_is, is) refl
+
 module _ {S : Type 0} (w after : State S) (path : List Seg) (n count : ℕ) (standing : Numbered w.names) (at : get w.names.map path ≡ Some (event_entry n count)) where
   next_at : get (with_signals w path n (count + 1)).names.map path ≡ Some (event_entry n (count + 1))
   next_at = get-insert path_total w.names.map path (event_entry n (count + 1)) path ∙ ap (λ b. cond b (Some (event_entry n (count + 1))) (get w.names.map path)) (path_itself path)
@@ -80,6 +85,12 @@ module _ {S : Type 0} (w after : State S) (path : List Seg) (n count : ℕ) (sta
       ∙ taken u path n (count + 1) (numbered_replaced w.names path (object.Event (count + 1)) (event_entry n count) standing at) next_at timeout time (subst (λ (x : State S). integer_in timeout x ≡ (Ok time, x)) is reads) some
       ∙ ap (λ x. (Ok (value.Integer 0), x)) whole
 
+  left_in : (timeout : Value) (e : Refusal) (v : State S) → v ≡ with_signals w path n (count + 1) → integer_in timeout v ≡ (Err e, v) → waited (Some n) timeout v ≡ (Err e, v)
+  left_in timeout e v is reads =
+      let u = with_signals w path n (count + 1) in
+      let fails = subst (λ (x : State S). integer_in timeout x ≡ (Err e, x)) is reads in
+      subst (λ (x : State S). waited (Some n) timeout x ≡ (Err e, x)) (sym is) (wait_refused u path n (count + 1) (numbered_replaced w.names path (object.Event (count + 1)) (event_entry n count) standing at) next_at timeout e fails)
+
   by_limit : (b : Bool) → (count == 2 ^ 64 - 1) ≡ b → event_changed changes.Signal (Some n) w ≡ (Ok tt, after) → after ≡ with_signals w path n (count + 1)
   by_limit true is e =
       let outcomes : Err (refusal.Evaluation ObjectLimit) ≡ Ok (tt {0}) = ap (λ (x : Outcome (Unit {0}) × State S). x.0) (sym (refused w path n count standing at is) ∙ e) in
@@ -88,3 +99,6 @@ module _ {S : Type 0} (w after : State S) (path : List Seg) (n count : ℕ) (sta
 
   pub signal_taken_back : (timeout : Value) (time : ℕ) → event_changed changes.Signal (Some n) w ≡ (Ok tt, after) → integer_in timeout after ≡ (Ok time, after) → waited (Some n) timeout after ≡ (Ok (value.Integer 0), w)
   signal_taken_back timeout time e reads = taken_from timeout time after (by_limit (count == 2 ^ 64 - 1) refl e) reads
+
+  pub signal_left : (timeout : Value) (x : Refusal) → event_changed changes.Signal (Some n) w ≡ (Ok tt, after) → integer_in timeout after ≡ (Err x, after) → waited (Some n) timeout after ≡ (Err x, after)
+  signal_left timeout x e reads = left_in timeout x after (by_limit (count == 2 ^ 64 - 1) refl e) reads

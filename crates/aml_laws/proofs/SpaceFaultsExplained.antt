@@ -65,3 +65,7 @@ module _ {S : Type 0} (accesses : Accesses S) where
 
   pub never_of_answer : (fault : SpaceFault) (p : List Seg) (arguments : List Given) (steps : ℕ) (w : State S) → NeverFaults accesses fault → (answered accesses p arguments steps w).0 ≢ Err (Space fault)
   never_of_answer fault p arguments steps w never e = let h = fault_of_answer fault p arguments steps w e in no_such_access fault h.last _ never h.faults
+
+pub ruleset space_faults_are_reached_by_accesses = (fault_of_term, fault_of_list, fault_of_call, fault_of_table, fault_of_value, fault_of_answer, fault_of_field_read, fault_of_field_written)
+
+pub ruleset faults_that_no_access_answers_are_never_refused = (never_of_table, never_of_value, never_of_answer)

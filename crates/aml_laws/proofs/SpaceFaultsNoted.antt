@@ -45,3 +45,5 @@ module _ {S : Type 0} (accesses : Accesses S) where
 
   pub notes_of_field_written : (r : Region) (f : FieldUnit) (source : List ℕ) (s : WithNotes S) → TellsNotes (write_field (noted accesses) r f source s).0 s (write_field (noted accesses) r f source s).1
   notes_of_field_written r f source s = explained_told accesses _ _ _ ((write_field_explains (noted accesses) r f source).explained s)
+
+pub ruleset space_faults_are_answers_of_the_last_access = (notes_of_term, notes_of_list, notes_of_call, notes_of_table, notes_of_value, notes_of_answer, notes_of_field_read, notes_of_field_written)

@@ -23,6 +23,7 @@ reached_relation accesses = record {
   bridge_asked = λ u w at width wide asks h. read w.space at width h;
   arities_set = λ w list. none;
   mutexes_released = λ w. none;
+  passed_noted = λ listed u w scope e wide is h. h;
 }
 
 pub space_reached : {S : Type 0} (accesses : Accesses S) (w v : State S) → Becomes accesses w v → Reached accesses w.space v.space

@@ -1,5 +1,5 @@
 -- Reading, storing and acquiring at a target preserve every world relation.
-use Rattle.std.specs.Prelude.{◌≡◌, ℕ, zero, suc, List, [], ◌∷◌, Option, Some, None, slice_get, slice_set, refl}
+use Rattle.std.specs.Prelude.{Bool, ◌≡◌, ℕ, zero, suc, List, [], ◌∷◌, Option, Some, None, slice_get, slice_set, refl}
 use Rattle.std.proofs.Common.{ap, ◌∙◌}
 use Rattle.ar_space.specs.Accesses.{Accesses}
 use Rattle.ar_space.specs.Change.{Change}
@@ -31,7 +31,7 @@ use Rattle.aml_meaning.specs.Stores.{with_frame, slot_put, copy_into_slot, copy_
 use Rattle.aml_meaning.specs.Mutexes.{mutex_count, acquired, given_back, acquired_by_number, given_back_by_number, acquired_by, given_back_by, acquired_at, given_back_at}
 use Rattle.aml_laws.specs.Numbers.{numbers_of}
 use Rattle.aml_laws.proofs.ObjectKinds.{byte_at_keeps_kinds, element_at_keeps_kinds, element_there_keeps_kinds, copied_keeps_kinds, write_element_keeps_kinds, write_string_keeps_kinds, write_buffer_keeps_kinds, write_byte_keeps_kinds}
-use Rattle.aml_laws.proofs.WorldRelations.{WorldRelation, Preserves, unchanged_preserves, give_preserves, stop_preserves, settle_preserves, then_preserves, on_objects_preserves, replaced_preserves}
+use Rattle.aml_laws.proofs.WorldRelations.{WorldRelationOf, Preserves, unchanged_preserves, give_preserves, stop_preserves, settle_preserves, then_preserves, on_objects_preserves, replaced_preserves}
 use Rattle.aml_laws.proofs.ChangesPreserve.{integer_in_preserves, entry_found_preserves}
 
 -- a slot's value does not change the frame's number
@@ -44,11 +44,11 @@ numbers_after_set [] k f g at is = absurd (cc at)
 numbers_after_set (x ∷ xs) zero f g at is = let same : f ≡ x = cc at in ap (λ n. n ∷ numbers_of xs) (is ∙ ap (λ (y : Frame). y.number) same)
 numbers_after_set (x ∷ xs) (suc k) f g at is = ap (λ ns. x.number ∷ ns) (numbers_after_set xs k f g at is)
 
-with_frame_numbers : (o : Option Frame) (k : ℕ) (slot : Slot) (v : Value) (frames : List Frame) → slice_get frames k ≡ o → numbers_of (with_frame o k slot v frames) ≡ numbers_of frames
+pub with_frame_numbers : (o : Option Frame) (k : ℕ) (slot : Slot) (v : Value) (frames : List Frame) → slice_get frames k ≡ o → numbers_of (with_frame o k slot v frames) ≡ numbers_of frames
 with_frame_numbers None k slot v frames at = refl
 with_frame_numbers (Some f) k slot v frames at = numbers_after_set frames k f _ at (with_slot_number f slot v)
 
-module _ {S : Type 0} {accesses : Accesses S} {relation : WorldRelation accesses} where
+module _ {S : Type 0} {listed : Bool} {accesses : Accesses S} {relation : WorldRelationOf listed accesses} where
   -- ---- what stands there
 
   pub held_at_preserves : (q : List Seg) → Preserves relation (held_at q)

@@ -12,6 +12,7 @@ use Rattle.ar_space.specs.Outcome.{Outcome}
 use Rattle.ar_space.specs.Change.{Change, give, stop, settle, go_on, ◌>>=◌}
 use Rattle.aml_meaning.specs.declared.profile.Profile.{Profile}
 use Rattle.aml_meaning.specs.declared.profile.Profile.TheVariants as profiles
+use Rattle.aml_meaning.specs.PassedOver.{is_passable}
 use Rattle.aml_laws.specs.Widened.{LeftOut}
 
 -- Spaces are in step where each access is answered alike by both, and leaves them in step, or parts them. Once they have parted, no
@@ -29,6 +30,16 @@ pub record SideBySide {S T : Type 0} (accesses : Accesses S) (accesses2 : Access
   pub right_reads : (s : S) (t : T) (place : Place) (width : Width) → Parted s t → Parted s (accesses2.reads t place width).1
   pub right_writes : (s : S) (t : T) (place : Place) (width : Width) (value : ℕ) → Parted s t → Parted s (accesses2.writes t place width value).1
 
+-- whether runs have the same profile, and no refusal ends their likeness that the wide profile passes over; or the right one is wide, with as
+-- many steps
+abbrev pub Passes : (Profile → Profile) → (Refusal → Type 0) → (ℕ → ℕ) → Type 0
+Passes raise Ends more = (((p : Profile) → raise p ≡ p) × ((e : Refusal) → is_passable e ≡ true → Ends e → ⊥)) ⊎ (((p : Profile) → raise p ≡ profiles.Wide) × ((n : ℕ) → more n ≡ n))
+
+-- a refusal that only the right one passes over
+abbrev pub MayPass : {raise : Profile → Profile} {Ends : Refusal → Type 0} {more : ℕ → ℕ} → Passes raise Ends more → Refusal → Type 0
+MayPass (inl h) e = ⊥
+MayPass (inr h) e = is_passable e ≡ true
+
 -- Runs side by side: over such spaces, and on the right in a profile that evaluates what the left one does, and with as many steps or
 -- more. A refusal by what a profile leaves out ends the likeness, where the profiles differ, and one for want of steps, where the steps
 -- do.
@@ -41,10 +52,11 @@ pub record Sides {S T : Type 0} (accesses : Accesses S) (accesses2 : Accesses T)
   pub more : ℕ → ℕ
   pub more_next : (n : ℕ) → more (suc n) ≡ suc (more n)
   pub none_left : ((n : ℕ) → more n ≡ n) ⊎ Ends (refusal.Evaluation OutOfSteps)
+  pub passes : Passes raise Ends more
 
 -- over such spaces in the same profile, with as many steps
 abbrev pub alike : {S T : Type 0} {accesses : Accesses S} {accesses2 : Accesses T} → SideBySide accesses accesses2 → Sides accesses accesses2
-alike side = record { beside = side; raise = λ p. p; Ends = λ e. ⊥; wide_stays = refl; core_stays = inl refl; more = λ n. n; more_next = λ n. refl; none_left = inl (λ n. refl) }
+alike side = record { beside = side; raise = λ p. p; Ends = λ e. ⊥; wide_stays = refl; core_stays = inl refl; more = λ n. n; more_next = λ n. refl; none_left = inl (λ n. refl); passes = inl (λ p. refl, λ e yes h. h) }
 
 -- bounds on the steps of the left one and of the right one: the same, or no less on the right where want of steps ends the likeness
 abbrev pub Fits : {S T : Type 0} {accesses : Accesses S} {accesses2 : Accesses T} → Sides accesses accesses2 → ℕ → ℕ → Type 0

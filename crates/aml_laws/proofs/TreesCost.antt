@@ -3,7 +3,7 @@ use Rattle.std.specs.Prelude.{◌≡◌, ℕ, zero, suc, List, Some, Ok, Err, re
 use Rattle.std.proofs.Common.{arith, ◌∙◌}
 use Rattle.ar_space.specs.Accesses.{Accesses}
 use Rattle.ar_space.specs.Outcome.{Outcome}
-use Rattle.ar_space.specs.Change.{give, settle, go_on, ◌>>=◌}
+use Rattle.ar_space.specs.Change.{give, stop, settle, go_on, ◌>>=◌}
 use Rattle.aml_path.specs.declared.segment.Seg.{Seg}
 use Rattle.aml_path.specs.Paths.{Name}
 use Rattle.aml_grammar.specs.declared.opcode.TermCode.{TermCode}
@@ -11,6 +11,7 @@ use Rattle.aml_grammar.specs.Tree.{Tree, term, Part, null, name, number, bytes, 
 use Rattle.aml_grammar.specs.Apart.{operand_of, name_of}
 use Rattle.aml_objects.specs.declared.object.Element.TheVariants as element
 use Rattle.aml_objects.specs.declared.value.Slot.{Slot}
+use Rattle.aml_objects.specs.declared.value.Value.{Value}
 use Rattle.aml_meaning.specs.declared.flow.Flow.{Flow}
 use Rattle.aml_meaning.specs.declared.store_target.TargetKind.{TargetKind}
 use Rattle.aml_meaning.specs.declared.store_target.TargetKind.TheVariants as kinds
@@ -18,9 +19,11 @@ use Rattle.aml_meaning.specs.declared.store_target.StoreTarget.{StoreTarget}
 use Rattle.aml_meaning.specs.declared.store_target.StoreTarget.TheVariants as targets
 use Rattle.aml_meaning.specs.State.{State}
 use Rattle.aml_meaning.specs.Run.{Run, lift, charge}
-use Rattle.aml_meaning.specs.Tasks.{Task, operand_value, value_at}
+use Rattle.aml_meaning.specs.Tasks.{Task, task, operand_value, value_at}
+use Rattle.aml_meaning.specs.Readings.{value_in}
+use Rattle.aml_meaning.specs.StoreTargets.{tested}
 use Rattle.aml_meaning.specs.Terms.{target_kind}
-use Rattle.aml_meaning.specs.TargetTerms.{target_named, name_target, indexed_target, dereferenced_target, target_by_kind, target_of, first_target, part_target, target_at}
+use Rattle.aml_meaning.specs.TargetTerms.{target_named, reference_in, name_target, indexed_target, dereferenced_target, target_by_kind, target_of, first_target, part_target, target_at}
 use Rattle.aml_meaning.specs.DataTerms.{named_element}
 use Rattle.aml_meaning.specs.Evaluation.{rule}
 use Rattle.aml_meaning.specs.Meaning.{meaning}
@@ -146,3 +149,69 @@ module _ {S : Type 0} (accesses : Accesses S) where
   pub name_costs_nothing : (scope : List Seg) (depth : ℕ) (t : Tree) (i : ℕ) (n : Name) → operand_of t i ≡ Some (name n) → CostsNothing {S = S} (target_at ev scope depth t i)
   unfolding name_target settle ◌>>=◌
   name_costs_nothing scope depth t i n is w steps = rw is (target_by_name (name_of (operand_of t i)) w steps scope)
+
+  pub referred_name_costs_nothing : (scope : List Seg) (depth : ℕ) (n : Name) (ps : Parts) → CostsNothing {S = S} (first_target ev scope depth (part (name n) ps))
+  unfolding lift first_target
+  referred_name_costs_nothing scope depth n ps w steps = refl
+
+  pub referred_null_costs_nothing : (scope : List Seg) (depth : ℕ) (ps : Parts) → CostsNothing {S = S} (first_target ev scope depth (part null ps))
+  unfolding give first_target
+  referred_null_costs_nothing scope depth ps w steps = refl
+
+  pub no_target_costs_nothing : (scope : List Seg) (depth : ℕ) (c : TermCode) (ps : Parts) → target_kind c ≡ kinds.Other → CostsNothing {S = S} (target_of ev scope depth (term c ps))
+  unfolding target_of stop
+  no_target_costs_nothing scope depth c ps is w steps = rw is refl
+
+  -- ---- targets that take the steps of terms
+
+  abbrev TakesNothing : {A : Type 0} → Run S A → Type 0
+  TakesNothing m = (s : State S × ℕ) → (m s).1.1 ≡ s.1
+
+  go_on_takes : {A B : Type 0} (r : Outcome A) (s : State S × ℕ) (k : A → Run S B) → ((a : A) → TakesNothing (k a)) → (go_on r s k).1.1 ≡ s.1
+  unfolding go_on
+  go_on_takes (Ok a) s k h = h a s
+  go_on_takes (Err e) s k h = refl
+
+  then_takes : {A B : Type 0} (m : Run S A) (k : A → Run S B) → ((a : A) → TakesNothing (k a)) → (s : State S × ℕ) → ((m >>= k) s).1.1 ≡ (m s).1.1
+  unfolding ◌>>=◌
+  then_takes m k h s = go_on_takes (m s).0 (m s).1 k h
+
+  settle_takes : {A : Type 0} (x : Outcome A) → TakesNothing (settle x)
+  unfolding settle
+  settle_takes x s = refl
+
+  referred_takes : (v : Value) → TakesNothing (settle (reference_in v) >>= (λ r. give (targets.Refers r)))
+  unfolding give
+  referred_takes v s = then_takes (settle (reference_in v)) _ (λ r t. refl) s ∙ settle_takes (reference_in v) s
+
+  tested_takes : (v : Value) → TakesNothing (settle (reference_in v) >>= (λ r. lift (tested r) >>= (λ there. give (targets.Refers r))))
+  unfolding give lift
+  tested_takes v s = then_takes (settle (reference_in v)) _ (λ r t. then_takes (lift (tested r)) _ (λ there u. refl) t) s ∙ settle_takes (reference_in v) s
+
+  value_takes : (scope : List Seg) (depth : ℕ) (t : Tree) (s : State S × ℕ) → (operand_value ev scope depth t s).1.1 ≡ (ev (task scope depth t) s).1.1
+  unfolding operand_value
+  value_takes scope depth t s = then_takes (ev (task scope depth t)) _ (λ f u. settle_takes (value_in f) u) s
+
+  pub index_takes : (scope : List Seg) (depth : ℕ) (c : TermCode) (ps : Parts) (s : State S × ℕ) → target_kind c ≡ kinds.Index → (target_of ev scope depth (term c ps) s).1.1 ≡ (ev (task scope depth (term c ps)) s).1.1
+  unfolding target_of indexed_target
+  index_takes scope depth c ps s is = rw is (then_takes (operand_value ev scope depth (term c ps)) _ referred_takes s ∙ value_takes scope depth (term c ps) s)
+
+  value_at_takes : (scope : List Seg) (depth : ℕ) (t u : Tree) (s : State S × ℕ) → operand_of t 0 ≡ Some (inner u) → (value_at ev scope depth t 0 s).1.1 ≡ (ev (task scope depth u) s).1.1
+  unfolding value_at settle ◌>>=◌ go_on
+  value_at_takes scope depth t u s is = rw is (value_takes scope depth u s)
+
+  pub dereferenced_takes : (scope : List Seg) (depth : ℕ) (t u : Tree) (s : State S × ℕ) → operand_of t 0 ≡ Some (inner u) → (operand_referred ev scope depth t s).1.1 ≡ (ev (task scope depth u) s).1.1
+  dereferenced_takes scope depth t u s is = then_takes (value_at ev scope depth t 0) _ tested_takes s ∙ value_at_takes scope depth t u s is
+
+  pub referred_is : (scope : List Seg) (depth : ℕ) (u : Tree) (ps : Parts) (s : State S × ℕ) → first_target ev scope depth (part (inner u) ps) s ≡ target_of ev scope depth u s
+  unfolding target_of first_target
+  referred_is scope depth u ps s = refl
+
+  pub operand_is : (scope : List Seg) (depth : ℕ) (t u : Tree) (i : ℕ) (s : State S × ℕ) → operand_of t i ≡ Some (inner u) → target_at ev scope depth t i s ≡ target_of ev scope depth u s
+  operand_is scope depth t u i s is = rw is refl
+
+pub ruleset each_tree_costs_a_step = (term_begins, reference_begins, dereference_begins, named_element_begins, named_element_stays)
+
+pub ruleset plain_targets_cost_nothing = (slot_costs_nothing, debug_costs_nothing, null_costs_nothing, name_costs_nothing, referred_name_costs_nothing, referred_null_costs_nothing, no_target_costs_nothing)
+
+pub ruleset a_target_takes_the_steps_of_its_terms = (index_takes, dereferenced_takes, referred_is, operand_is)

@@ -14,7 +14,7 @@ use Rattle.aml_fields.specs.declared.region.Region.{Region}
 use Rattle.aml_fields.specs.declared.field_units.Unit.{Unit as Access}
 use Rattle.aml_fields.specs.Units.{units_of}
 use Rattle.aml_fields.specs.UnitByUnit.{read_units, bits_read, write_units, kept_by, kept}
-use Rattle.aml_fields.specs.Regions.{faulted, read_access, read_unit, read_field, write_access, write_unit, write_field}
+use Rattle.aml_fields.specs.Regions.{faulted, read_access, read_unit, read_field, write_access, write_unit, write_field, write_whole}
 use Rattle.aml_laws.proofs.Together.{Sides, Shape, spaces, Together, Comes, plain, give_together, settle_together, then_together, either_together}
 
 module _ {S T X Y : Type 0} {accesses : Accesses S} {accesses2 : Accesses T} {side : Sides accesses accesses2} {shape : Shape S T X Y} where
@@ -67,6 +67,10 @@ module _ {S T : Type 0} {accesses : Accesses S} {accesses2 : Accesses T} {side :
   pub read_unit_together : (r : Region) (width : Width) (u : Access) → Together side spaces (read_unit accesses r width u) (read_unit accesses2 r width u)
   unfolding read_unit
   read_unit_together r width u = then_together (settle_together _) (λ p. read_access_together p width)
+
+  pub write_whole_together : (r : Region) (width : Width) (offset value : ℕ) → Together side spaces (write_whole accesses r width offset value) (write_whole accesses2 r width offset value)
+  unfolding write_whole
+  write_whole_together r width offset value = then_together (settle_together _) (λ p. write_access_together p width value)
 
   write_unit_together : (r : Region) (f : FieldUnit) (source : List ℕ) (u : Access) → Together side spaces (write_unit accesses r f source u) (write_unit accesses2 r f source u)
   unfolding write_unit

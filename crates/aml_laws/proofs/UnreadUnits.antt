@@ -1,13 +1,12 @@
 -- Under the update rules of ones and zeros no unit is read, and each other bit is a one or a zero.
-use Rattle.std.specs.Prelude.{◌≡◌, ◌≢◌, ◌⊎◌, ◌<◌, ◌≤◌, ◌+◌, ◌-◌, ◌^◌, ◌==◌, ℕ, zero, suc, Bool, true, false, List, [], ◌∷◌, length, drop, get_or, Ok, Err, refl, if◌then◌else◌}
-use Rattle.std.proofs.Common.{arith, inl, inr, ap, sym, subst, ◌∙◌}
+use Rattle.std.specs.Prelude.{◌≡◌, ◌≢◌, ◌⊎◌, ◌<◌, ◌≤◌, ◌+◌, ◌-◌, ◌^◌, ◌==◌, ℕ, Bool, true, false, List, [], ◌∷◌, length, drop, get_or, Ok, Err, refl, if◌then◌else◌}
+use Rattle.std.proofs.Common.{arith, inl, inr, ap, sym, ◌∙◌}
 use Rattle.std.proofs.lemmas.Nat.Bits.{bit_at_ones, bit_at-zero}
-use Rattle.std.specs.Int.{bit_at}
 use Rattle.ar_space.specs.declared.space.Place.{Place}
 use Rattle.ar_space.specs.declared.space.Width.{Width}
 use Rattle.ar_space.specs.Accesses.{Accesses, bit_count}
 use Rattle.ar_space.specs.Outcome.{Outcome}
-use Rattle.ar_space.specs.Change.{Change, settle, give, go_on, ◌>>=◌}
+use Rattle.ar_space.specs.Change.{Change, settle, go_on, ◌>>=◌}
 use Rattle.aml_objects.specs.declared.entry.FieldUnit.{FieldUnit}
 use Rattle.aml_objects.specs.declared.entry.UpdateRule.{UpdateRule}
 use Rattle.aml_objects.specs.declared.entry.UpdateRule.TheVariants.{Preserve, WriteAsOnes, WriteAsZeros}
@@ -138,3 +137,5 @@ pub unit_of_zeros : {S : Type 0} (accesses : Accesses S) (r : Region) (f : Field
     → (value : ℕ) × IsFilledWith false f source u value × (write_unit accesses r f source u s ≡ write_access accesses p f.access value s)
 unit_of_zeros accesses r f source u p s is within at =
     (merged (rest_of_unit f.update f.access 0) u.first (field_bits source u.position u.count), filled false f (inr (is, refl)) source u within 0, unit_written accesses false r f source u p s (inr (is, refl)) at)
+
+pub ruleset ones_and_zeros_read_nothing = (field_unread, unit_of_ones, unit_of_zeros)

@@ -25,18 +25,20 @@ use Rattle.aml_meaning.specs.Tasks.{Task}
 use Rattle.aml_meaning.specs.TargetTerms.{target_at, targeted}
 use Rattle.aml_meaning.specs.WideOperations.{decoded_in, number_coded, coded_in, decimal_text, new_decimal_string, decimal_string_in, hexadecimal_text, new_hexadecimal_string, hexadecimal_string_in, string_text, string_in, middle_content, middle_in, converted}
 use Rattle.aml_meaning.specs.FormedStores.{is_integer, is_string, is_buffer, formed_over_value, formed_over, formed_in_name, formed_in_declared, formed_through, formed_to}
-use Rattle.aml_meaning.specs.FieldTerms.{has_connection, asked_if, connections_asked}
+use Rattle.aml_meaning.specs.BankTerms.{banked_laid, bank_list_rule}
+use Rattle.aml_meaning.specs.FieldTerms.{fields_laid, has_connection, asked_if, connections_asked}
 use Rattle.aml_meaning.specs.Profiles.{asked_for}
 use Rattle.aml_meaning.specs.WideTerms.{in_wide, formed_at, convert_rule, to_string_rule, middle_rule, wide_rule}
 use Rattle.aml_laws.proofs.ObjectKinds.{make_string_keeps_kinds}
-use Rattle.aml_laws.proofs.WorldRelations.{WorldRelation, Preserves, RunPreserves, unchanged_preserves, give_preserves, stop_preserves, settle_preserves, then_preserves, on_objects_preserves, lift_preserves, run_give_preserves, run_then_preserves}
+use Rattle.aml_laws.proofs.WorldRelations.{PartsLead, Levels, WorldRelationOf, Preserves, RunPreserves, unchanged_preserves, give_preserves, stop_preserves, settle_preserves, then_preserves, on_objects_preserves, lift_preserves, run_give_preserves, run_then_preserves, run_settle_preserves}
 use Rattle.aml_laws.proofs.ChangesPreserve.{integer_in_preserves, made_of_keeps_kinds}
 use Rattle.aml_laws.proofs.StoreTargetsPreserve.{held_at_preserves, declaration_preserves, copy_into_name_preserves, store_over_value_preserves, store_in_slot_preserves, store_to_preserves}
-use Rattle.aml_laws.proofs.OperandsAndCallsPreserve.{value_at_preserves, two_values_preserves, completed_preserves}
+use Rattle.aml_laws.proofs.OperandsAndCallsPreserve.{value_at_leads, two_values_leads, completed_preserves}
+use Rattle.aml_laws.proofs.FieldsPreserve.{elements_laid_preserves, field_found_preserves, region_found_preserves}
 use Rattle.aml_laws.proofs.MatchesPreserve.{match_rule_preserves}
 use Rattle.aml_laws.proofs.EventsPreserve.{event_rule_preserves, wait_rule_preserves}
 
-module _ {S : Type 0} {accesses : Accesses S} {relation : WorldRelation accesses} where
+module _ {S : Type 0} {listed : Bool} {accesses : Accesses S} {relation : WorldRelationOf listed accesses} where
   decoded_in_preserves : (v : Value) → Preserves relation (decoded_in v)
   unfolding decoded_in
   decoded_in_preserves v = then_preserves _ _ (integer_in_preserves v) (λ n. settle_preserves _)
@@ -150,33 +152,41 @@ module _ {S : Type 0} {accesses : Accesses S} {relation : WorldRelation accesses
   connections_asked_preserves op ts = asked_if_preserves (has_connection ts) op
 
 -- aimed, stores: what finding a target does, and storing to it
-module _ {S : Type 0} {accesses : Accesses S} {relation : WorldRelation accesses} (ev : Task → Run S Flow) (parts : (t : Task) → RunPreserves relation (ev t))
-    (aimed : (scope : List Seg) (depth : ℕ) (t : Tree) (i : ℕ) → RunPreserves relation (target_at ev scope depth t i))
-    (stores : (scope : List Seg) (depth : ℕ) (t : Tree) (i : ℕ) (v : Value) → RunPreserves relation (targeted accesses ev scope depth t i v)) where
-  formed_at_preserves : (scope : List Seg) (depth : ℕ) (t : Tree) (i : ℕ) (v : Value) → RunPreserves relation (formed_at accesses ev scope depth t i v)
+module _ {S : Type 0} {accesses : Accesses S} {levels : Levels accesses} (ev : Task → Run S Flow) (parts : PartsLead levels ev)
+    (aimed : (scope : List Seg) (depth : ℕ) (t : Tree) (i : ℕ) → RunPreserves (levels.at depth) (target_at ev scope depth t i))
+    (stores : (scope : List Seg) (depth : ℕ) (t : Tree) (i : ℕ) (v : Value) → RunPreserves (levels.at depth) (targeted accesses ev scope depth t i v)) where
+  formed_at_preserves : (scope : List Seg) (depth : ℕ) (t : Tree) (i : ℕ) (v : Value) → RunPreserves (levels.at depth) (formed_at accesses ev scope depth t i v)
   unfolding formed_at
   formed_at_preserves scope depth t i v = run_then_preserves _ _ (aimed scope depth t i) (λ q. run_then_preserves _ _ (lift_preserves _ (formed_to_preserves q v)) (λ s. run_then_preserves _ _ (completed_preserves ev parts depth s v) (λ done. run_give_preserves _)))
 
-  convert_rule_preserves : (k : Conversion) (scope : List Seg) (depth : ℕ) (t : Tree) → RunPreserves relation (convert_rule accesses ev k scope depth t)
+  convert_rule_preserves : (k : Conversion) (scope : List Seg) (depth : ℕ) (t : Tree) → RunPreserves (levels.at depth) (convert_rule accesses ev k scope depth t)
   unfolding convert_rule
-  convert_rule_preserves k scope depth t = run_then_preserves _ _ (value_at_preserves ev parts scope depth t 0) (λ v. run_then_preserves _ _ (lift_preserves _ (converted_preserves k v)) (λ r. formed_at_preserves scope depth t 1 r))
+  convert_rule_preserves k scope depth t = run_then_preserves _ _ (value_at_leads ev parts scope depth t 0) (λ v. run_then_preserves _ _ (lift_preserves _ (converted_preserves k v)) (λ r. formed_at_preserves scope depth t 1 r))
 
-  to_string_rule_preserves : (scope : List Seg) (depth : ℕ) (t : Tree) → RunPreserves relation (to_string_rule accesses ev scope depth t)
+  to_string_rule_preserves : (scope : List Seg) (depth : ℕ) (t : Tree) → RunPreserves (levels.at depth) (to_string_rule accesses ev scope depth t)
   unfolding to_string_rule
-  to_string_rule_preserves scope depth t = run_then_preserves _ _ (two_values_preserves ev parts scope depth t) (λ y. run_then_preserves _ _ (lift_preserves _ (string_in_preserves y.0 y.1)) (λ r. formed_at_preserves scope depth t 2 r))
+  to_string_rule_preserves scope depth t = run_then_preserves _ _ (two_values_leads ev parts scope depth t) (λ y. run_then_preserves _ _ (lift_preserves _ (string_in_preserves y.0 y.1)) (λ r. formed_at_preserves scope depth t 2 r))
 
-  middle_rule_preserves : (scope : List Seg) (depth : ℕ) (t : Tree) → RunPreserves relation (middle_rule accesses ev scope depth t)
+  middle_rule_preserves : (scope : List Seg) (depth : ℕ) (t : Tree) → RunPreserves (levels.at depth) (middle_rule accesses ev scope depth t)
   unfolding middle_rule
-  middle_rule_preserves scope depth t = run_then_preserves _ _ (two_values_preserves ev parts scope depth t) (λ y. run_then_preserves _ _ (value_at_preserves ev parts scope depth t 2) (λ n. run_then_preserves _ _ (lift_preserves _ (middle_in_preserves y.0 y.1 n)) (λ r. stores scope depth t 3 r)))
+  middle_rule_preserves scope depth t = run_then_preserves _ _ (two_values_leads ev parts scope depth t) (λ y. run_then_preserves _ _ (value_at_leads ev parts scope depth t 2) (λ n. run_then_preserves _ _ (lift_preserves _ (middle_in_preserves y.0 y.1 n)) (λ r. stores scope depth t 3 r)))
 
-  wide_rule_preserves : (k : WideKind) (scope : List Seg) (depth : ℕ) (t : Tree) → RunPreserves relation (wide_rule accesses ev k scope depth t)
+  bank_list_rule_preserves : (scope : List Seg) (depth : ℕ) (t : Tree) → RunPreserves (levels.at depth) (bank_list_rule ev scope depth t)
+  unfolding bank_list_rule banked_laid fields_laid
+  bank_list_rule_preserves scope depth t =
+      run_then_preserves _ _ (run_settle_preserves _) (λ x. run_then_preserves _ _ (lift_preserves _ (region_found_preserves scope x)) (λ region. run_then_preserves _ _ (run_settle_preserves _) (λ y. run_then_preserves _ _ (lift_preserves _ (field_found_preserves scope y)) (λ bank.
+      run_then_preserves _ _ (value_at_leads ev parts scope depth t 2) (λ v. run_then_preserves _ _ (run_settle_preserves _) (λ flags. run_then_preserves _ _ (run_settle_preserves _) (λ ts.
+      run_then_preserves _ _ (lift_preserves _ (integer_in_preserves v)) (λ n. run_then_preserves _ _ (lift_preserves _ (elements_laid_preserves _ scope depth _ ts)) (λ laid. run_give_preserves _)))))))))
+
+  wide_rule_preserves : (k : WideKind) (scope : List Seg) (depth : ℕ) (t : Tree) → RunPreserves (levels.at depth) (wide_rule accesses ev k scope depth t)
   wide_rule_preserves (wides.Convert k) scope depth t = convert_rule_preserves k scope depth t
   wide_rule_preserves wides.ToString scope depth t = to_string_rule_preserves scope depth t
   wide_rule_preserves wides.Mid scope depth t = middle_rule_preserves scope depth t
   wide_rule_preserves wides.Match scope depth t = match_rule_preserves ev parts scope depth t
   wide_rule_preserves (wides.Event k) scope depth t = event_rule_preserves ev parts aimed k scope depth t
   wide_rule_preserves wides.Wait scope depth t = wait_rule_preserves ev parts aimed scope depth t
+  wide_rule_preserves wides.BankField scope depth t = bank_list_rule_preserves scope depth t
 
   -- the profile is asked first
-  pub in_wide_preserves : (op : Opcode) (k : WideKind) (scope : List Seg) (depth : ℕ) (t : Tree) → RunPreserves relation (in_wide op (wide_rule accesses ev k scope depth t))
+  pub in_wide_preserves : (op : Opcode) (k : WideKind) (scope : List Seg) (depth : ℕ) (t : Tree) → RunPreserves (levels.at depth) (in_wide op (wide_rule accesses ev k scope depth t))
   in_wide_preserves op k scope depth t = run_then_preserves _ _ (lift_preserves _ (asked_for_preserves op)) (λ wide. wide_rule_preserves k scope depth t)

@@ -32,7 +32,8 @@ use Rattle.aml_meaning.specs.Tasks.{Task}
 use Rattle.aml_meaning.specs.TargetTerms.{target_at, targeted}
 use Rattle.aml_meaning.specs.WideOperations.{decoded_in, number_coded, coded_in, decimal_text, new_decimal_string, decimal_string_in, hexadecimal_text, new_hexadecimal_string, hexadecimal_string_in, string_text, string_in, middle_content, middle_in, converted}
 use Rattle.aml_meaning.specs.FormedStores.{is_integer, is_string, is_buffer, formed_over_value, formed_over, formed_in_name, formed_in_declared, formed_through, formed_to}
-use Rattle.aml_meaning.specs.FieldTerms.{has_connection, asked_if, connections_asked}
+use Rattle.aml_meaning.specs.BankTerms.{banked_laid, bank_list_rule}
+use Rattle.aml_meaning.specs.FieldTerms.{fields_laid, has_connection, asked_if, connections_asked}
 use Rattle.aml_meaning.specs.Profiles.{evaluated_in, asked_for}
 use Rattle.aml_meaning.specs.WideTerms.{in_wide, formed_at, convert_rule, to_string_rule, middle_rule, wide_rule}
 use Rattle.aml_laws.proofs.Together.{Sides, Together, Comes, IsEnded, give_together, plain, settle_together, stop_together, then_together}
@@ -40,7 +41,9 @@ use Rattle.aml_laws.proofs.WorldsTogether.{lift_together, objects_together, runs
 use Rattle.aml_laws.specs.Widened.{LeftOut}
 use Rattle.aml_laws.proofs.ChangesTogether.{integer_in_together}
 use Rattle.aml_laws.proofs.StoreTargetsTogether.{held_at_together, declaration_together, copy_into_name_together, store_over_value_together, store_in_slot_together, store_to_together}
-use Rattle.aml_laws.proofs.OperandsTogether.{value_at_together, two_values_together, completed_together}
+use Rattle.aml_laws.proofs.Levels.{level}
+use Rattle.aml_laws.proofs.OperandsTogether.{PartsTogether, value_at_together, two_values_together, completed_together}
+use Rattle.aml_laws.proofs.FieldsTogether.{elements_laid_together, field_found_together, region_found_together}
 use Rattle.aml_laws.proofs.MatchesTogether.{match_rule_together}
 use Rattle.aml_laws.proofs.EventsTogether.{event_rule_together, wait_rule_together}
 
@@ -169,33 +172,41 @@ module _ {S T : Type 0} {accesses : Accesses S} {accesses2 : Accesses T} {side :
   connections_asked_together op ts = asked_if_together (has_connection ts) op
 
 -- aimed, stores: what finding a target does, and storing to it
-module _ {S T : Type 0} {accesses : Accesses S} {accesses2 : Accesses T} {side : Sides accesses accesses2} {ev : Task → Run S Flow} {ev2 : Task → Run T Flow} (parts : (t : Task) → Together side runs (ev t) (ev2 t))
-    (aimed : (scope : List Seg) (depth : ℕ) (t : Tree) (i : ℕ) → Together side runs (target_at ev scope depth t i) (target_at ev2 scope depth t i))
-    (stores : (scope : List Seg) (depth : ℕ) (t : Tree) (i : ℕ) (v : Value) → Together side runs (targeted accesses ev scope depth t i v) (targeted accesses2 ev2 scope depth t i v)) where
-  formed_at_together : (scope : List Seg) (depth : ℕ) (t : Tree) (i : ℕ) (v : Value) → Together side runs (formed_at accesses ev scope depth t i v) (formed_at accesses2 ev2 scope depth t i v)
+module _ {S T : Type 0} {accesses : Accesses S} {accesses2 : Accesses T} {side : Sides accesses accesses2} {ev : Task → Run S Flow} {ev2 : Task → Run T Flow} (parts : PartsTogether side ev ev2)
+    (aimed : (scope : List Seg) (depth : ℕ) (t : Tree) (i : ℕ) → Together (level side depth) runs (target_at ev scope depth t i) (target_at ev2 scope depth t i))
+    (stores : (scope : List Seg) (depth : ℕ) (t : Tree) (i : ℕ) (v : Value) → Together (level side depth) runs (targeted accesses ev scope depth t i v) (targeted accesses2 ev2 scope depth t i v)) where
+  formed_at_together : (scope : List Seg) (depth : ℕ) (t : Tree) (i : ℕ) (v : Value) → Together (level side depth) runs (formed_at accesses ev scope depth t i v) (formed_at accesses2 ev2 scope depth t i v)
   unfolding formed_at
   formed_at_together scope depth t i v = then_together (aimed scope depth t i) (λ q. then_together (lift_together (formed_to_together q v)) (λ s. then_together (completed_together parts depth s v) (λ done. give_together _)))
 
-  convert_rule_together : (k : Conversion) (scope : List Seg) (depth : ℕ) (t : Tree) → Together side runs (convert_rule accesses ev k scope depth t) (convert_rule accesses2 ev2 k scope depth t)
+  convert_rule_together : (k : Conversion) (scope : List Seg) (depth : ℕ) (t : Tree) → Together (level side depth) runs (convert_rule accesses ev k scope depth t) (convert_rule accesses2 ev2 k scope depth t)
   unfolding convert_rule
   convert_rule_together k scope depth t = then_together (value_at_together parts scope depth t 0) (λ v. then_together (lift_together (converted_together k v)) (λ r. formed_at_together scope depth t 1 r))
 
-  to_string_rule_together : (scope : List Seg) (depth : ℕ) (t : Tree) → Together side runs (to_string_rule accesses ev scope depth t) (to_string_rule accesses2 ev2 scope depth t)
+  to_string_rule_together : (scope : List Seg) (depth : ℕ) (t : Tree) → Together (level side depth) runs (to_string_rule accesses ev scope depth t) (to_string_rule accesses2 ev2 scope depth t)
   unfolding to_string_rule
   to_string_rule_together scope depth t = then_together (two_values_together parts scope depth t) (λ y. then_together (lift_together (string_in_together y.0 y.1)) (λ r. formed_at_together scope depth t 2 r))
 
-  middle_rule_together : (scope : List Seg) (depth : ℕ) (t : Tree) → Together side runs (middle_rule accesses ev scope depth t) (middle_rule accesses2 ev2 scope depth t)
+  middle_rule_together : (scope : List Seg) (depth : ℕ) (t : Tree) → Together (level side depth) runs (middle_rule accesses ev scope depth t) (middle_rule accesses2 ev2 scope depth t)
   unfolding middle_rule
   middle_rule_together scope depth t = then_together (two_values_together parts scope depth t) (λ y. then_together (value_at_together parts scope depth t 2) (λ n. then_together (lift_together (middle_in_together y.0 y.1 n)) (λ r. stores scope depth t 3 r)))
 
-  wide_rule_together : (k : WideKind) (scope : List Seg) (depth : ℕ) (t : Tree) → Together side runs (wide_rule accesses ev k scope depth t) (wide_rule accesses2 ev2 k scope depth t)
+  bank_list_rule_together : (scope : List Seg) (depth : ℕ) (t : Tree) → Together (level side depth) runs (bank_list_rule ev scope depth t) (bank_list_rule ev2 scope depth t)
+  unfolding bank_list_rule banked_laid fields_laid
+  bank_list_rule_together scope depth t =
+      then_together (settle_together _) (λ x. then_together (lift_together (region_found_together scope x)) (λ region. then_together (settle_together _) (λ y. then_together (lift_together (field_found_together scope y)) (λ bank.
+      then_together (value_at_together parts scope depth t 2) (λ v. then_together (settle_together _) (λ flags. then_together (settle_together _) (λ ts.
+      then_together (lift_together (integer_in_together v)) (λ n. then_together (lift_together (elements_laid_together _ scope depth _ ts)) (λ laid. give_together _)))))))))
+
+  wide_rule_together : (k : WideKind) (scope : List Seg) (depth : ℕ) (t : Tree) → Together (level side depth) runs (wide_rule accesses ev k scope depth t) (wide_rule accesses2 ev2 k scope depth t)
   wide_rule_together (wides.Convert k) scope depth t = convert_rule_together k scope depth t
   wide_rule_together wides.ToString scope depth t = to_string_rule_together scope depth t
   wide_rule_together wides.Mid scope depth t = middle_rule_together scope depth t
   wide_rule_together wides.Match scope depth t = match_rule_together parts scope depth t
   wide_rule_together (wides.Event k) scope depth t = event_rule_together parts aimed k scope depth t
   wide_rule_together wides.Wait scope depth t = wait_rule_together parts aimed scope depth t
+  wide_rule_together wides.BankField scope depth t = bank_list_rule_together scope depth t
 
   -- the profile is asked first
-  pub in_wide_together : (op : Opcode) (k : WideKind) (scope : List Seg) (depth : ℕ) (t : Tree) → Together side runs (in_wide op (wide_rule accesses ev k scope depth t)) (in_wide op (wide_rule accesses2 ev2 k scope depth t))
+  pub in_wide_together : (op : Opcode) (k : WideKind) (scope : List Seg) (depth : ℕ) (t : Tree) → Together (level side depth) runs (in_wide op (wide_rule accesses ev k scope depth t)) (in_wide op (wide_rule accesses2 ev2 k scope depth t))
   in_wide_together op k scope depth t = then_together (lift_together (asked_for_together op)) (λ wide. wide_rule_together k scope depth t)

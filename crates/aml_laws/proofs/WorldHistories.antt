@@ -110,6 +110,7 @@ module _ {S : Type 0} (accesses : Accesses S) where
     bridge_asked = λ u w at width wide is h. bridge_asked u w at width h (history_profile u w h ∙ wide) is;
     arities_set = λ w list. changed w w _ (same w) (names_alike w _ refl refl refl);
     mutexes_released = λ w. changed w w _ (same w) (mutexes_free w);
+    passed_noted = λ listed u w scope e wide is h. changed u w _ h (names_alike w _ refl refl refl);
   }
 
   pub has_history : (w v : State S) → Becomes accesses w v → History accesses w v

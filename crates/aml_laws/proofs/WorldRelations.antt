@@ -27,9 +27,12 @@ use Rattle.aml_meaning.specs.declared.frame.Frame.{Frame}
 use Rattle.aml_meaning.specs.declared.invocation.Invocation.{Invocation}
 use Rattle.aml_meaning.specs.declared.profile.Profile.TheVariants as profiles
 use Rattle.aml_meaning.specs.declared.invocation.Invocation.TheVariants as invocation
+use Rattle.aml_meaning.specs.PassedOver.{is_passable}
+use Rattle.aml_meaning.specs.Passing.{with_passed}
 use Rattle.aml_meaning.specs.State.{State, on_objects, on_names}
 use Rattle.aml_meaning.specs.Run.{Run, lift, charge}
 use Rattle.aml_meaning.specs.Slots.{opened, closed}
+use Rattle.aml_meaning.specs.Tasks.{Task, module_level}
 use Rattle.aml_meaning.specs.Invocations.{leaving}
 use Rattle.aml_meaning.specs.Calling.{released, ending, with_steps, framed, in_frame, counted}
 use Rattle.aml_laws.specs.Histories.{with_declaration, RegionStands}
@@ -50,7 +53,8 @@ is_method_or_region _ = false
 abbrev pub in_new_frame : {S : Type 0} → List Value → State S → State S
 in_new_frame vs w = record w { frames = w.frames ++ record { number = w.started; locals = replicate 8 value.Uninitialized; arguments = vs } ∷ []; started = w.started + 1 }
 
-pub record WorldRelation {S : Type 0} (accesses : Accesses S) : Type 1 where
+-- listed: whether it is one of lists at module level, too
+pub record WorldRelationOf {S : Type 0} (listed : Bool) (accesses : Accesses S) : Type 1 where
   pub Leads : State S → State S → Type 0
   pub reflexive : (w : State S) → Leads w w
   pub transitive : (u v w : State S) → Leads u v → Leads v w → Leads u w
@@ -72,19 +76,55 @@ pub record WorldRelation {S : Type 0} (accesses : Accesses S) : Type 1 where
   -- a table tells how many arguments names take, and all mutexes are free after it
   pub arities_set : (w : State S) (list : List Arity) → Leads w (record w { arities = list })
   pub mutexes_released : (w : State S) → Leads w (released w)
+  -- in the wide profile what a list at module level passes over is noted
+  pub passed_noted : listed ≡ true → (u w : State S) (scope : List Seg) (e : Refusal) → u.profile ≡ profiles.Wide → is_passable e ≡ true → Leads u w → Leads u (with_passed scope e w)
+
+abbrev pub WorldRelation : {S : Type 0} → Accesses S → Type 1
+WorldRelation accesses = WorldRelationOf true accesses
+
+-- relations by how many control methods are being called: what evaluations in the body of a control method respect is respected everywhere
+pub record Levels {S : Type 0} (accesses : Accesses S) : Type 1 where
+  pub at : (depth : ℕ) → WorldRelationOf (module_level depth) accesses
+  pub deeper : (depth d : ℕ) (w v : State S) → (at (depth + 1)).Leads w v → (at d).Leads w v
+
+-- the same one everywhere
+abbrev pub always : {S : Type 0} {accesses : Accesses S} → WorldRelation accesses → Levels accesses
+always relation = record {
+  at = λ depth. record {
+    Leads = relation.Leads;
+    reflexive = relation.reflexive;
+    transitive = relation.transitive;
+    objects_change = relation.objects_change;
+    name_declared = relation.name_declared;
+    object_replaced = relation.object_replaced;
+    slots_written = relation.slots_written;
+    frame_closed = relation.frame_closed;
+    names_removed = relation.names_removed;
+    region_accessed = relation.region_accessed;
+    bridge_asked = relation.bridge_asked;
+    arities_set = relation.arities_set;
+    mutexes_released = relation.mutexes_released;
+    passed_noted = λ listed. relation.passed_noted refl;
+  };
+  deeper = λ depth d w v h. h;
+}
 
 -- a change that leads each world to a related one; an evaluation that does, and one that does so from where one world has come
-pub record Preserves {S A : Type 0} {accesses : Accesses S} (relation : WorldRelation accesses) (m : Change (State S) A) : Type 0 where
+pub record Preserves {S A : Type 0} {listed : Bool} {accesses : Accesses S} (relation : WorldRelationOf listed accesses) (m : Change (State S) A) : Type 0 where
   pub preserves : (w : State S) → relation.Leads w (m w).1
 
-pub record RunPreserves {S A : Type 0} {accesses : Accesses S} (relation : WorldRelation accesses) (m : Run S A) : Type 0 where
+pub record RunPreserves {S A : Type 0} {listed : Bool} {accesses : Accesses S} (relation : WorldRelationOf listed accesses) (m : Run S A) : Type 0 where
   pub preserves : (s : State S × ℕ) → relation.Leads s.0 (m s).1.0
 
-pub record RunPreservesFrom {S A : Type 0} {accesses : Accesses S} (relation : WorldRelation accesses) (u : State S) (m : Run S A) : Type 0 where
+pub record RunPreservesFrom {S A : Type 0} {listed : Bool} {accesses : Accesses S} (relation : WorldRelationOf listed accesses) (u : State S) (m : Run S A) : Type 0 where
   pub preserves_from : (s : State S × ℕ) → relation.Leads u s.0 → relation.Leads u (m s).1.0
 
+-- the parts of terms do, each by its depth
+pub record PartsLead {S : Type 0} {accesses : Accesses S} (levels : Levels accesses) (ev : Task → Run S Flow) : Type 0 where
+  pub part : (t : Task) → RunPreserves (levels.at t.depth) (ev t)
+
 -- as a relation of worlds with the steps that are left
-abbrev pub run_preorder : {S : Type 0} {accesses : Accesses S} → WorldRelation accesses → Preorder (State S × ℕ)
+abbrev pub run_preorder : {S : Type 0} {listed : Bool} {accesses : Accesses S} → WorldRelationOf listed accesses → Preorder (State S × ℕ)
 run_preorder relation = record { Leads = λ s t. relation.Leads s.0 t.0; reflexive = λ s. relation.reflexive s.0; transitive = λ s t u. relation.transitive s.0 t.0 u.0 }
 
 -- what is called is a control method that stands
@@ -92,7 +132,7 @@ abbrev pub CalledMethodStands : {S : Type 0} → State S → Invocation → Type
 CalledMethodStands w i = (q : List Seg) (body : List ℕ) → i ≡ invocation.Method q body → MethodStandsAt w.names.map q
 
 -- the names below a path may be removed from what the world has become
-abbrev pub MayRemoveBelow : {S : Type 0} {accesses : Accesses S} → WorldRelation accesses → State S → List Seg → Type 0
+abbrev pub MayRemoveBelow : {S : Type 0} {listed : Bool} {accesses : Accesses S} → WorldRelationOf listed accesses → State S → List Seg → Type 0
 MayRemoveBelow {S = S} relation u q = (v : State S) → relation.Leads u v → relation.Leads u (record v { names = without_below q v.names })
 
 -- a change that finds what is called, and changes nothing
@@ -116,18 +156,18 @@ then_finds_invocation m k h i = record { same = λ w. go_on_unchanged (m w).0 w 
 
 -- ---- names that are declared, and replaced
 
-declared_by_cases : {S : Type 0} {accesses : Accesses S} (relation : WorldRelation accesses) (w : State S) (b c d : Bool) (q : List Seg) (o : NamedObject) (e f g : Refusal) → contains_key w.names.map q ≡ c
+declared_by_cases : {S : Type 0} {listed : Bool} {accesses : Accesses S} (relation : WorldRelationOf listed accesses) (w : State S) (b c d : Bool) (q : List Seg) (o : NamedObject) (e f g : Refusal) → contains_key w.names.map q ≡ c
     → relation.Leads w (record w { names = (if◌then◌else◌ {A = Outcome ℕ × Namespace} b (if c then (Err e, w.names) else (if d then (Err f, w.names) else (Ok w.names.next, with_declaration q o w.names))) (Err g, w.names)).1 })
 declared_by_cases relation w true true d q o e f g is = relation.reflexive w
 declared_by_cases relation w true false true q o e f g is = relation.reflexive w
 declared_by_cases relation w true false false q o e f g is = relation.name_declared w q o is
 declared_by_cases relation w false c d q o e f g is = relation.reflexive w
 
-replaced_by_cases : {S : Type 0} {accesses : Accesses S} (relation : WorldRelation accesses) (w : State S) (q : List Seg) (o : NamedObject) (e : Option Entry) → get w.names.map q ≡ e → is_method_or_region o ≡ false → relation.Leads w (record w { names = (replaced_in q o w.names e).1 })
+replaced_by_cases : {S : Type 0} {listed : Bool} {accesses : Accesses S} (relation : WorldRelationOf listed accesses) (w : State S) (q : List Seg) (o : NamedObject) (e : Option Entry) → get w.names.map q ≡ e → is_method_or_region o ≡ false → relation.Leads w (record w { names = (replaced_in q o w.names e).1 })
 replaced_by_cases relation w q o None at is = relation.reflexive w
 replaced_by_cases relation w q o (Some e) at is = relation.object_replaced w q o e at is
 
-module _ {S : Type 0} {accesses : Accesses S} {relation : WorldRelation accesses} where
+module _ {S : Type 0} {listed : Bool} {accesses : Accesses S} {relation : WorldRelationOf listed accesses} where
   -- ---- changes of the world
 
   -- one that leaves it as it is
@@ -260,3 +300,6 @@ module _ {S : Type 0} {accesses : Accesses S} {relation : WorldRelation accesses
   pub found_then_preserves : {A : Type 0} (m : Change (State S) Invocation) (k : Invocation → Run S A) → FindsInvocation m → ((u : State S) (i : Invocation) → CalledMethodStands u i → RunPreservesFrom relation u (k i)) → RunPreserves relation (lift m >>= k)
   unfolding lift ◌>>=◌
   found_then_preserves m k f h = record { preserves = λ s. found_invocation_by_cases s.0 (m s.0).1 s.1 (m s.0).0 k (f.same s.0) (λ i e. h s.0 i (f.called s.0 i e)) }
+
+pub deeper_preserves : {S A : Type 0} {accesses : Accesses S} (levels : Levels accesses) (depth : ℕ) {d : ℕ} (m : Run S A) → RunPreserves (levels.at (depth + 1)) m → RunPreserves (levels.at d) m
+deeper_preserves levels depth {d = d} m h = record { preserves = λ s. levels.deeper depth d s.0 (m s).1.0 (h.preserves s) }

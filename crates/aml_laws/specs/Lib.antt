@@ -1,5 +1,8 @@
 pub mod AllWithin
 pub mod Answered
+pub mod BankDeclarations
+pub mod BankFields
+pub mod BankRegisters
 pub mod Becomes
 pub mod BusesFound
 pub mod Calls
@@ -8,6 +11,7 @@ pub mod Copyable
 pub mod CostsOfTrees
 pub mod Counted
 pub mod CountedEvaluations
+pub mod CountedTrees
 pub mod Declares
 pub mod Digits
 pub mod Events
@@ -17,6 +21,7 @@ pub mod HandedBack
 pub mod HandedIn
 pub mod Histories
 pub mod IndexRegisters
+pub mod InnerLists
 pub mod Kinds
 pub mod Limits
 pub mod Mutexes
@@ -26,6 +31,8 @@ pub mod Numbers
 pub mod Ordered
 pub mod Outside
 pub mod Parts
+pub mod PassedNotes
+pub mod PassedNumbers
 pub mod PciScopes
 pub mod Plain
 pub mod Reached
@@ -33,6 +40,8 @@ pub mod RegionAccesses
 pub mod ResourceLists
 pub mod SpaceFaults
 pub mod Steps
+pub mod StepsTaken
 pub mod UnitValues
+pub mod Unreferenced
 pub mod Widened
 pub mod Within

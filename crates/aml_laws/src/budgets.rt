@@ -17,7 +17,7 @@ ghost use Rattle.aml_laws.specs.Steps.{with_more_left, value_with_more_left};
 /// More steps change nothing but how many are left: where an evaluation isn't refused for want of steps, it comes to
 /// the same value or refusal and the same world with any number of steps more, and leaves as many more. A rule that
 /// reads the steps that are left, or takes more of them where there are more, is refused by this.
-#[tactic(auto, using(crate::proofs::MoreSteps::term_lengthened, crate::proofs::MoreSteps::list_lengthened, crate::proofs::MoreSteps::call_lengthened, crate::proofs::MoreSteps::table_lengthened, crate::proofs::MoreSteps::value_lengthened, crate::proofs::MoreSteps::answer_lengthened))]
+#[tactic(auto, using(crate::proofs::MoreSteps::steps_only_bound_an_evaluation))]
 pub fn steps_only_bound_an_evaluation<S>()
     ensures terms { (accesses : Accesses S) (t : Task) (w : State S) (steps more : ℕ) →
         (meaning accesses t (w, steps)).0 ≢ Err (Evaluation OutOfSteps) →
@@ -47,7 +47,7 @@ pub fn steps_only_bound_an_evaluation<S>()
 /// An evaluation is refused for want of steps only where none is left: a term, a list of terms, a call of a control
 /// method, the terms of a table, the value of an object and what it answers. A rule that gives up early, as a loop
 /// after a number of turns of its own, is refused by this.
-#[tactic(auto, using(crate::proofs::OutOfSteps::term_spent, crate::proofs::OutOfSteps::list_spent, crate::proofs::OutOfSteps::call_spent, crate::proofs::OutOfSteps::table_spent, crate::proofs::OutOfSteps::value_spent, crate::proofs::OutOfSteps::answer_spent))]
+#[tactic(auto, using(crate::proofs::OutOfSteps::no_step_is_left_where_steps_run_out))]
 pub fn no_step_is_left_where_steps_run_out<S>()
     ensures term { (accesses : Accesses S) (t : Task) (s : State S × ℕ) →
         (meaning accesses t s).0 ≡ Err (Evaluation OutOfSteps) → (meaning accesses t s).1.1 ≡ 0 }

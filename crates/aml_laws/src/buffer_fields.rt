@@ -19,7 +19,7 @@ pub fn a_buffer_field_is_read_as_it_was_written()
 
 /// A write of a buffer field leaves the length of the buffer, each bit of it that is outside the field, and all other
 /// objects. A write that fills the rest of a byte, or that makes another buffer, is refused by this.
-#[tactic(auto, using(crate::proofs::BufferFieldWrites::keeps_length, crate::proofs::BufferFieldWrites::keeps_other_bits, crate::proofs::BufferFieldWrites::keeps_other_objects))]
+#[tactic(auto, using(crate::proofs::BufferFieldWrites::a_write_of_a_buffer_field_leaves_other_bits))]
 pub fn a_write_of_a_buffer_field_leaves_other_bits()
     ensures length { (field : BufferField) (source : List ℕ) (before after : Objects) (old new : List ℕ) →
         write_buffer_field field source before ≡ (Ok tt, after) → (buffer_at field.buffer before).0 ≡ Ok old →
@@ -35,7 +35,7 @@ pub fn a_write_of_a_buffer_field_leaves_other_bits()
 
 /// A buffer field whose bits lie within its buffer is read, as those bits, and is written. A field that is refused
 /// where it ends with its buffer, or that is read from another bit, is refused by this.
-#[tactic(auto, using(crate::proofs::BufferFieldAnswers::field_is_read, crate::proofs::BufferFieldAnswers::field_answers))]
+#[tactic(auto, using(crate::proofs::BufferFieldAnswers::a_buffer_field_within_its_buffer_is_accessed))]
 pub fn a_buffer_field_within_its_buffer_is_accessed()
     ensures read { (field : BufferField) (objects : Objects) (bytes : List ℕ) →
         slice_get objects field.buffer ≡ Some (object.Buffer bytes) → length bytes ≤ 1048576 →

@@ -9,7 +9,7 @@ ghost use Rattle.aml_meaning.specs.Declaring.{new_name, new_method};
 
 /// A name that can't be declared, where another stands, for want of a parent, or in a control method, leaves the
 /// world as it is: it has neither the name, nor the body of the control method that it was to be.
-#[tactic(auto, using(crate::proofs::RefusedDeclarations::refused_name_changes_nothing, crate::proofs::RefusedDeclarations::refused_method_changes_nothing))]
+#[tactic(auto, using(crate::proofs::RefusedDeclarations::refused_names_change_nothing))]
 pub fn refused_names_change_nothing<S>()
     ensures names { (module_level : Bool) (path : List Seg) (object : NamedObject) (w : State S) (e : Refusal) →
         (new_name module_level path object w).0 ≡ Err e → (new_name module_level path object w).1 ≡ w }

@@ -1,6 +1,7 @@
 //! Events.
 ghost use Rattle.std.specs.Prelude.{◌≡◌, ◌<◌, ◌+◌, ◌-◌, ◌^◌, ℕ, List, length, Some, Ok, Err};
 ghost use Rattle.std.specs.FinMap.{get};
+ghost use Rattle.ar_space.specs.declared.refusal.Refusal.{Refusal};
 ghost use Rattle.ar_space.specs.declared.refusal.Refusal.TheVariants.{Evaluation};
 ghost use Rattle.ar_space.specs.declared.refusal.EvaluationFault.TheVariants.{ObjectLimit};
 ghost use Rattle.ar_space.specs.Accesses.{Accesses};
@@ -17,21 +18,26 @@ ghost use Rattle.aml_meaning.specs.Events.{event_changed, waited};
 ghost use Rattle.aml_meaning.specs.Calling.{with_steps, table_run, loaded, answer_exported, answered};
 ghost use Rattle.aml_laws.specs.Events.{event_entry, with_signals};
 
-/// A Wait takes what a Signal of the same event gave: it gives False, and the world is the one before both. A Wait
-/// that leaves the count, or takes it all, is refused by this. That the numbers of declarations are apart holds of all
-/// worlds (`numbers_are_given_once`).
-#[tactic(auto, using(crate::proofs::SignalsTaken::signal_taken_back))]
+/// A Wait takes what a Signal of the same event gave: it gives False, and the world is the one before both. Where its
+/// timeout doesn't convert to an integer it is refused for that, and leaves the signal. A Wait that leaves the count,
+/// or takes it all, is refused by this. That the numbers of declarations are apart holds of all worlds
+/// (`numbers_are_given_once`).
 pub fn a_wait_takes_a_signal<S>()
-    ensures { (w after : State S) (path : List Seg) (number count time : ℕ) (timeout : Value) → Numbered w.names →
+    ensures taken { (w after : State S) (path : List Seg) (number count time : ℕ) (timeout : Value) → Numbered w.names →
         get w.names.map path ≡ Some (event_entry number count) →
         event_changed Signal (Some number) w ≡ (Ok tt, after) → integer_in timeout after ≡ (Ok time, after) →
         waited (Some number) timeout after ≡ (Ok (Integer 0), w) }
+    ensures refused { (w after : State S) (path : List Seg) (number count : ℕ) (timeout : Value) (e : Refusal) →
+        Numbered w.names → get w.names.map path ≡ Some (event_entry number count) →
+        event_changed Signal (Some number) w ≡ (Ok tt, after) → integer_in timeout after ≡ (Err e, after) →
+        waited (Some number) timeout after ≡ (Err e, after) }
 {}
 
 /// The signals of an event are counted one by one: a Signal adds one, or is refused where 2^64 - 1 are counted; a Reset
-/// leaves none; a Wait takes one and gives False, or gives True where there is none. Nothing else of the world changes.
-/// A Signal of two that a Wait of two takes back is refused by this.
-#[tactic(auto, using(crate::proofs::EventsCounted::signal_adds, crate::proofs::EventsCounted::full_refused, crate::proofs::EventsCounted::reset_leaves_none, crate::proofs::EventsCounted::wait_takes, crate::proofs::EventsCounted::wait_finds_none))]
+/// leaves none; a Wait takes one and gives False, or gives True where there is none. Nothing else of the world changes;
+/// and nothing at all where the timeout of a Wait doesn't convert to an integer, which it is refused for then. A Signal
+/// of two that a Wait of two takes back is refused by this.
+#[tactic(auto, using(crate::proofs::EventsCounted::signals_are_counted_one_by_one))]
 pub fn signals_are_counted_one_by_one<S>()
     ensures added { (w : State S) (path : List Seg) (number count : ℕ) → Numbered w.names →
         get w.names.map path ≡ Some (event_entry number count) → count < 2 ^ 64 - 1 →
@@ -49,11 +55,14 @@ pub fn signals_are_counted_one_by_one<S>()
     ensures none { (w : State S) (path : List Seg) (number : ℕ) (timeout : Value) (time : ℕ) → Numbered w.names →
         get w.names.map path ≡ Some (event_entry number 0) → integer_in timeout w ≡ (Ok time, w) →
         waited (Some number) timeout w ≡ (Ok (Integer (ones w.width)), w) }
+    ensures left { (w : State S) (path : List Seg) (number count : ℕ) (timeout : Value) (e : Refusal) →
+        Numbered w.names → get w.names.map path ≡ Some (event_entry number count) →
+        integer_in timeout w ≡ (Err e, w) → waited (Some number) timeout w ≡ (Err e, w) }
 {}
 
 /// Signals that no Wait took outlive the table or the answer in which they were given: where it ends the event counts
 /// what its last term left, though mutexes are free then.
-#[tactic(auto, using(crate::proofs::EventsCounted::table_keeps_signals, crate::proofs::EventsCounted::answer_keeps_signals))]
+#[tactic(auto, using(crate::proofs::EventsCounted::signals_outlive_an_answer))]
 pub fn signals_outlive_an_answer<S>()
     ensures tables { (path : List Seg) (number count : ℕ) (accesses : Accesses S) (bytes : List ℕ) (steps : ℕ)
         (w : State S) → get (table_run accesses steps bytes w).1.names.map path ≡ Some (event_entry number count) →

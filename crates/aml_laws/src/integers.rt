@@ -29,7 +29,7 @@ ghost use Rattle.aml_laws.specs.Within.{Below, Within, WithinWidth, FormsWithin}
 
 /// Each integer that a constant, an operator, a conversion or a field forms is below two to the width, where the
 /// operands hold integers below it, or bytes below 256.
-#[tactic(auto, using(crate::proofs::IntegersOfOperators::kept_within, crate::proofs::IntegersOfOperators::read_within, crate::proofs::IntegersOfOperators::two_within, crate::proofs::IntegersOfOperators::one_within, crate::proofs::IntegersOfOperators::divided_within, crate::proofs::IntegersOfOperators::test_within, crate::proofs::IntegersOfOperators::turned_within, crate::proofs::IntegersOfOperators::counted_within, crate::proofs::IntegersOfOperators::field_within))]
+#[tactic(auto, using(crate::proofs::IntegersOfOperators::operators_form_integers_of_the_width))]
 pub fn operators_form_integers_of_the_width<S>()
     ensures constants { (w : State S) (n : ℕ) → FormsWithin w (integer_kept n) }
     ensures read { (w : State S) (v : Value) (n : ℕ) → Within w v → (integer_in v w).0 ≡ Ok n → Below w n }
@@ -50,7 +50,7 @@ pub fn operators_form_integers_of_the_width<S>()
 /// evaluation, however it ends; and a value that it gives is, or that an answer hands out. Integers that are handed in
 /// may be any. So it is from the predefined names on, in either profile. A string or a buffer has at most 1,048,576
 /// bytes, a package at most 65,535 elements, a field at most 8,388,608 bits.
-#[tactic(auto, using(crate::proofs::IntegersOfRules::term_value_within))]
+#[tactic(auto, using(crate::proofs::IntegersOfTables::term_value_within))]
 pub fn integers_stay_below_two_to_the_width<S>()
     ensures first { (profile : Profile) (width : IntegerWidth) (osi : List (List ℕ)) (space : S) →
         AllWithin width (predefined (fresh_as profile width osi space)).1 }

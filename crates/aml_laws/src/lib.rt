@@ -1,6 +1,8 @@
 //! What holds of every evaluation (ACPI 6.5, 5.3 and 5.5): each law is the contract of a function that does nothing.
 #![tactic(auto)]
 
+mod bank_declarations;
+mod bank_fields;
 mod budgets;
 mod buffer_fields;
 mod calls;
@@ -8,9 +10,11 @@ mod copies;
 mod declarations;
 mod events;
 mod field_lists;
+mod field_sources;
 mod frames;
 mod handed;
 mod index_fields;
+mod inner_lists;
 mod integers;
 mod limits;
 mod mutexes;
@@ -18,18 +22,25 @@ mod names;
 mod notes;
 mod numbers;
 mod objects;
+mod passing;
 mod pci_functions;
 mod profiles;
 mod reading;
 mod references;
 mod regions;
 mod searches;
+mod slots;
 mod space;
 mod steps;
 mod trees;
 mod updates;
 mod values;
 
+pub use bank_declarations::a_bank_field_is_declared_in_order;
+pub use bank_fields::{
+    a_bank_is_selected_before_each_unit, a_bank_is_selected_by_a_write_of_its_field,
+    a_bank_that_its_field_cannot_hold_is_refused, a_region_is_located_before_its_bank_is_selected,
+};
 pub use budgets::{no_step_is_left_where_steps_run_out, steps_only_bound_an_evaluation};
 pub use buffer_fields::{
     a_buffer_field_is_read_as_it_was_written, a_buffer_field_within_its_buffer_is_accessed,
@@ -42,12 +53,20 @@ pub use events::{
     a_wait_takes_a_signal, signals_are_counted_one_by_one, signals_outlive_an_answer,
 };
 pub use field_lists::{fields_lie_where_their_list_lays_them_out, fields_of_a_list_are_in_order};
+pub use field_sources::{
+    a_bank_field_is_found_first, a_field_is_accessed_by_its_source,
+    a_field_of_a_region_is_accessed_in_it,
+};
 pub use frames::{frame_numbers_are_given_once, frames_are_balanced};
 pub use handed::{
     data_nests_at_most_64_deep, what_is_handed_in_is_handed_out_as_it_was,
     what_is_within_the_limits_is_handed_in,
 };
 pub use index_fields::index_fields_are_accessed_unit_by_unit;
+pub use inner_lists::{
+    lists_of_branches_are_evaluated_in_turn, lists_of_loops_are_evaluated_in_turn,
+    lists_of_scopes_are_evaluated_in_turn,
+};
 pub use integers::{integers_stay_below_two_to_the_width, operators_form_integers_of_the_width};
 pub use limits::{
     at_most_64_references_are_followed, limits_are_refused, packages_nest_at_most_64_deep,
@@ -58,6 +77,12 @@ pub use names::{declared_names_stand, names_stay, outside_of_control_methods};
 pub use notes::{noting_changes_nothing, space_faults_are_answers_of_the_last_access};
 pub use numbers::{numbers_are_given_once, numbers_never_fall, what_is_gone_stays_gone};
 pub use objects::objects_keep_number_and_kind;
+pub use passing::{
+    a_list_goes_on_behind_an_item_that_is_passed_over, control_methods_pass_nothing_over,
+    no_list_is_refused_by_what_is_passed_over, the_core_profile_passes_nothing_over,
+    the_first_that_are_passed_over_are_kept, what_is_passed_over_is_counted_one_by_one,
+    what_may_be_passed_over_is_told_by_its_number,
+};
 pub use pci_functions::{
     a_pci_address_is_told_by_its_objects, a_region_of_pci_config_belongs_to_the_nearest_device,
     bridges_above_a_function_are_asked_from_the_outermost_on,
@@ -72,6 +97,10 @@ pub use references::{
 };
 pub use regions::registers_are_reached_within_regions;
 pub use searches::{a_searched_name_finds_the_nearest, any_other_name_stands_at_one_path};
+pub use slots::{
+    a_call_changes_no_slot_of_its_caller, a_store_changes_its_slot_alone,
+    slots_change_through_references_alone,
+};
 pub use space::{
     faults_that_no_access_answers_are_never_refused, space_faults_are_reached_by_accesses,
     space_is_reached_by_accesses,
@@ -79,7 +108,10 @@ pub use space::{
 pub use steps::{
     no_more_terms_than_steps, terms_of_tables_and_answers_are_counted, terms_that_begin_are_counted,
 };
-pub use trees::{each_tree_costs_a_step, plain_targets_cost_nothing};
+pub use trees::{
+    a_rule_takes_no_step_of_its_own, a_target_takes_the_steps_of_its_terms, each_tree_costs_a_step,
+    plain_targets_cost_nothing, trees_that_begin_are_counted,
+};
 pub use updates::ones_and_zeros_read_nothing;
 pub use values::{
     an_integer_is_read_back_from_its_string, binary_coded_decimal_has_the_decimal_digits,

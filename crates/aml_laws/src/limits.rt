@@ -30,7 +30,7 @@ ghost use Rattle.aml_laws.specs.Limits.{Chain, ArgumentChain, nested, IsNested};
 /// Objects are refused from the 262,145th on, and not before; strings and buffers of more than 1,048,576 bytes,
 /// packages of more than 65,535 elements, and a call inside 32 others are refused, and leave everything as it was.
 /// A limit that is one too low or too high for objects, and one too high for the others, is refused by this.
-#[tactic(auto, using(crate::proofs::LimitsRefused::object_made, crate::proofs::LimitsRefused::object_refused, crate::proofs::LimitsRefused::string_refused, crate::proofs::LimitsRefused::buffer_refused, crate::proofs::LimitsRefused::package_refused, crate::proofs::LimitsRefused::call_refused))]
+#[tactic(auto, using(crate::proofs::LimitsRefused::limits_are_refused))]
 pub fn limits_are_refused<S>()
     ensures made { (x : Object) (objects : Objects) → length objects < 262144 →
         make x objects ≡ (Ok (length objects), objects ++ x ∷ []) }
@@ -50,7 +50,7 @@ pub fn limits_are_refused<S>()
 /// What is within a limit is taken: a string or a buffer of 1,048,576 bytes and a package of 65,535 elements, or
 /// fewer, where there is room for an object; and a call inside fewer than 32 others begins as the outermost one does.
 /// With `limits_are_refused` each of these is refused exactly above its limit.
-#[tactic(auto, using(crate::proofs::LimitsTaken::string_made, crate::proofs::LimitsTaken::buffer_made, crate::proofs::LimitsTaken::package_made, crate::proofs::LimitsTaken::call_begins))]
+#[tactic(auto, using(crate::proofs::LimitsTaken::what_is_within_the_limits_is_taken))]
 pub fn what_is_within_the_limits_is_taken<S>()
     ensures strings { (bytes : List ℕ) (objects : Objects) → length bytes ≤ 1048576 → length objects < 262144 →
         make_string bytes objects ≡ (Ok (value.String (length objects)), objects ++ object.String bytes ∷ []) }
@@ -69,7 +69,7 @@ pub fn what_is_within_the_limits_is_taken<S>()
 /// with CopyObject through arguments that hold references: it goes to the last, from which as many more are followed
 /// as are left, and changes nothing where there are more than 64. An answer that is another name's type, or that stops
 /// at a reference on the way, is refused by this.
-#[tactic(auto, using(crate::proofs::ReferenceChains::chain_followed, crate::proofs::ReferenceChains::chain_refused, crate::proofs::ReferenceChains::name_followed_through, crate::proofs::ReferenceChains::slot_followed_through, crate::proofs::ReferenceChains::arguments_followed, crate::proofs::ReferenceChains::arguments_refused))]
+#[tactic(auto, using(crate::proofs::ReferenceChains::at_most_64_references_are_followed))]
 pub fn at_most_64_references_are_followed<S>()
     ensures followed { (w : State S) (n : ℕ) (r : Reference) (x : Referent) → Chain w n r x → n ≤ 64 →
         target_referent (targets.Refers r) w ≡ (Ok x, w) }
@@ -90,7 +90,7 @@ pub fn at_most_64_references_are_followed<S>()
 /// is room for their objects, and refused as too much where it is longer. A package that has another as its first
 /// element, and so on 65 deep or deeper, isn't handed out: it is refused so where there are steps for 64 elements. Of
 /// all other data `what_is_within_the_limits_is_handed_in` and `data_nests_at_most_64_deep` speak.
-#[tactic(auto, using(crate::proofs::LimitsTaken::package_taken, crate::proofs::LimitsTaken::deep_package_refused, crate::proofs::LimitsTaken::handed_out_refused))]
+#[tactic(auto, using(crate::proofs::LimitsTaken::packages_nest_at_most_64_deep))]
 pub fn packages_nest_at_most_64_deep<S>()
     ensures taken { (w : State S) (n : ℕ) → n ≤ 64 → length w.objects + n ≤ 262144 →
         (v : Value) × ((imported (nested n) w).0 ≡ Ok v) }

@@ -12,7 +12,7 @@ ghost use Rattle.aml_meaning.specs.Mutexes.{acquired, given_back};
 ghost use Rattle.aml_laws.specs.Mutexes.{mutex_entry, with_acquisitions, AllFree};
 
 /// No mutex is held after a table or an answer, however it ended.
-#[tactic(auto, using(crate::proofs::MutexesFree::loaded_frees_mutexes, crate::proofs::MutexesFree::answered_frees_mutexes))]
+#[tactic(auto, using(crate::proofs::MutexesFree::no_mutex_stays_acquired))]
 pub fn no_mutex_stays_acquired<S>()
     ensures tables { (accesses : Accesses S) (bytes : List ℕ) (steps : ℕ) (w : State S) →
         AllFree (loaded accesses bytes steps w).1 }
@@ -23,7 +23,7 @@ pub fn no_mutex_stays_acquired<S>()
 /// How often a mutex is acquired is counted one by one: Acquire adds one, or is refused where 2^64 - 1 are counted;
 /// Release takes one, or is refused where there is none. Nothing else of the world changes. A Release that frees the
 /// mutex at once is refused by this.
-#[tactic(auto, using(crate::proofs::MutexesCounted::acquire_adds, crate::proofs::MutexesCounted::full_refused, crate::proofs::MutexesCounted::release_takes, crate::proofs::MutexesCounted::free_refused))]
+#[tactic(auto, using(crate::proofs::MutexesCounted::acquisitions_are_counted_one_by_one))]
 pub fn acquisitions_are_counted_one_by_one<S>()
     ensures added { (w : State S) (path : List Seg) (number count : ℕ) →
         get w.names.map path ≡ Some (mutex_entry number count) → count < 2 ^ 64 - 1 →

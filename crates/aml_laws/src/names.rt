@@ -1,5 +1,5 @@
 //! Which names stand after an evaluation.
-ghost use Rattle.std.specs.Prelude.{◌≡◌, ℕ, List, [], ◌∷◌, ◌++◌, true, Ok, Some};
+ghost use Rattle.std.specs.Prelude.{◌≡◌, ℕ, List, [], ◌∷◌, ◌++◌, true, false, Ok, Some};
 ghost use Rattle.std.specs.FinMap.{get};
 ghost use Rattle.ar_space.specs.Accesses.{Accesses};
 ghost use Rattle.aml_path.specs.declared.segment.Seg.{Seg};
@@ -12,6 +12,7 @@ ghost use Rattle.aml_meaning.specs.Meaning.{meaning};
 ghost use Rattle.aml_laws.specs.Becomes.{Becomes};
 ghost use Rattle.aml_laws.specs.Outside.{Outside, Stands, is_open, number_at};
 ghost use Rattle.aml_laws.specs.Declares.{Declares, IsItem};
+ghost use Rattle.aml_laws.specs.PassedNotes.{PassesNothing};
 
 /// A path is outside of control methods where at each path above it stands a name, and that of no control method. So
 /// the root is, and each path one level below a name that is outside of control methods and is none itself.
@@ -37,8 +38,9 @@ pub fn names_stay<S>()
 /// A term that declares a name outside of control methods by one of its operands, and is not refused, leaves it at
 /// the path that the operand stands for in its scope (the fields of a list, whose names its elements declare, aren't
 /// meant); and a list that is evaluated to its end leaves there the names of all its terms whose paths were outside
-/// of control methods when it began. The list of a device or another scope is evaluated so in the path of that scope.
-#[tactic(auto, using(crate::proofs::DeclaredNamesStand::term_declares_name, crate::proofs::DeclaredNamesStand::items_stand))]
+/// of control methods when it began, unless something was passed over meanwhile, which the count tells. The list of a
+/// device or another scope is evaluated so in the path of that scope.
+#[tactic(auto, using(crate::proofs::DeclaredNamesStand::declared_names_stand))]
 pub fn declared_names_stand<S>()
     ensures term { (accesses : Accesses S) (scope : List Seg) (depth : ℕ) (t : Tree) (path : List Seg)
         (s : State S × ℕ) (f : Flow) →
@@ -46,6 +48,8 @@ pub fn declared_names_stand<S>()
         Stands (meaning accesses (task scope depth t) s).1.0 path }
     ensures list { (accesses : Accesses S) (scope : List Seg) (depth : ℕ) (t : Tree) (ts : Trees)
         (path : List Seg) (s : State S × ℕ) →
-        IsItem t ts → Declares scope t path → Outside s.0 path → (in_turn (meaning accesses) scope depth ts s).0 ≡
-        Ok flow.Next → Stands (in_turn (meaning accesses) scope depth ts s).1.0 path }
+        IsItem t ts → Declares scope t path →
+        PassesNothing depth s.0 (in_turn (meaning accesses) scope depth ts s).1.0 → Outside s.0 path →
+        (in_turn (meaning accesses) scope depth ts s).0 ≡ Ok flow.Next →
+        Stands (in_turn (meaning accesses) scope depth ts s).1.0 path }
 {}

@@ -18,7 +18,7 @@ ghost use Rattle.aml_laws.specs.Noted.{WithNotes, noted, without_notes, outcome_
 /// The accesses of a register space can be noted, each with its answer, and that changes nothing: the value or the
 /// refusal of a term, a list of terms, a call of a control method, a table, an object with arguments, an answer or an
 /// access of a field is the one without notes, and so are the world, with its space, and the steps that are left.
-#[tactic(auto, using(crate::proofs::Noting::term_unnoted, crate::proofs::Noting::list_unnoted, crate::proofs::Noting::call_unnoted, crate::proofs::Noting::table_unnoted, crate::proofs::Noting::value_unnoted, crate::proofs::Noting::answer_unnoted, crate::proofs::Noting::field_read_unnoted, crate::proofs::Noting::field_written_unnoted))]
+#[tactic(auto, using(crate::proofs::Noting::noting_changes_nothing))]
 pub fn noting_changes_nothing<S>()
     ensures term { (accesses : Accesses S) (t : Task) (s : State (WithNotes S) × ℕ) →
         meaning accesses t (without_notes s.0, s.1) ≡ outcome_without_notes (meaning (noted accesses) t s) }
@@ -59,7 +59,7 @@ pub fn noting_changes_nothing<S>()
 /// access of a field is refused by a fault of the register space, the last of its own accesses is answered with that
 /// fault, and all those before it with values. However else it ends, all its accesses are answered with values: no
 /// fault of the register space is passed over.
-#[tactic(auto, using(crate::proofs::SpaceFaultsNoted::notes_of_term, crate::proofs::SpaceFaultsNoted::notes_of_list, crate::proofs::SpaceFaultsNoted::notes_of_call, crate::proofs::SpaceFaultsNoted::notes_of_table, crate::proofs::SpaceFaultsNoted::notes_of_value, crate::proofs::SpaceFaultsNoted::notes_of_answer, crate::proofs::SpaceFaultsNoted::notes_of_field_read, crate::proofs::SpaceFaultsNoted::notes_of_field_written))]
+#[tactic(auto, using(crate::proofs::SpaceFaultsNoted::space_faults_are_answers_of_the_last_access))]
 pub fn space_faults_are_answers_of_the_last_access<S>()
     ensures term { (accesses : Accesses S) (t : Task) (s : State (WithNotes S) × ℕ) →
         TellsNotes (meaning (noted accesses) t s).0 s.0.space (meaning (noted accesses) t s).1.0.space }

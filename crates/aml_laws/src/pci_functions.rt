@@ -22,7 +22,7 @@ ghost use Rattle.aml_laws.specs.PciScopes.{IsAskedBridge, IsAmong, GrowFrom};
 /// those above it. Where there is none it is refused (DeepPci). So it is in the core profile where a Device above that
 /// one has an `_ADR` and no `_HID`, and in the wide profile it isn't. Asking changes nothing. A search from the root
 /// down, one that takes a name that is no Device, or one that begins above the scope is refused by this.
-#[tactic(auto, using(crate::proofs::PciScopes::nearest_function, crate::proofs::PciScopes::function_behind, crate::proofs::PciScopes::function_deep, crate::proofs::PciScopes::no_function))]
+#[tactic(auto, using(crate::proofs::PciScopes::a_region_of_pci_config_belongs_to_the_nearest_device))]
 pub fn a_region_of_pci_config_belongs_to_the_nearest_device<S>()
     ensures nearest { (w : State S) (scope : List Seg) (k : ℕ) →
         IsNearestSuch (IsFunctionAt w.names.map) scope k → NoneSuch (IsBridgeAt w.names.map) scope (k - 1) →
@@ -50,7 +50,7 @@ pub fn segment_groups_and_buses_are_the_nearest<S>()
 /// from the outermost on: the Devices with an `_ADR` and without a `_HID` from which on down to the function no scope
 /// has a `_BBN`. A list that has another device, that leaves one out, or that begins with the innermost is refused by
 /// this.
-#[tactic(auto, using(crate::proofs::AskedBridges::each_is_asked, crate::proofs::AskedBridges::all_are_asked, crate::proofs::AskedBridges::asked_in_order))]
+#[tactic(auto, using(crate::proofs::AskedBridges::bridges_above_a_function_are_asked_from_the_outermost_on))]
 pub fn bridges_above_a_function_are_asked_from_the_outermost_on()
     ensures each { (names : Map) (function bridge : List Seg) → IsAmong bridge (bridges_to names function) →
         IsAskedBridge names function bridge }

@@ -12,7 +12,7 @@ ghost use Rattle.aml_meaning.specs.Tasks.{Task};
 ghost use Rattle.aml_meaning.specs.Meaning.{meaning};
 ghost use Rattle.aml_meaning.specs.Calling.{loaded, evaluated, answered};
 ghost use Rattle.aml_laws.specs.Becomes.{Becomes};
-ghost use Rattle.aml_laws.specs.Widened.{widened, outcome_widened, IsLeftOut};
+ghost use Rattle.aml_laws.specs.Widened.{widened, outcome_widened, IsLeftOut, IsLeftOutAt};
 
 /// A world keeps its profile: no evaluation changes it, however it ends. It is the one that the world was made with.
 #[tactic(auto, using(crate::proofs::ProfileKept::profile_is_kept, crate::proofs::ProfileKept::profile_is_given))]
@@ -25,14 +25,15 @@ pub fn evaluation_keeps_the_profile<S>()
 
 /// What the core profile answers, the wide one answers too: where an evaluation isn't refused for what the profile
 /// leaves out (a term, `Unsupported`, or what lies behind a bridge, `DeepPci`), it gives the same in the wide profile,
-/// with as many steps left, and leaves the same world.
-#[tactic(auto, using(crate::proofs::Widening::term_widened, crate::proofs::Widening::table_widened, crate::proofs::Widening::value_widened, crate::proofs::Widening::answer_widened, crate::proofs::Widening::predefined_widened))]
+/// with as many steps left, and leaves the same world. At module level a refusal that the wide profile passes over is
+/// another exception, and so is such a one of a table.
+#[tactic(auto, using(crate::proofs::Widening::the_wide_profile_answers_what_the_core_one_does))]
 pub fn the_wide_profile_answers_what_the_core_one_does<S>()
     ensures terms { (accesses : Accesses S) (t : Task) (s : State S × ℕ) →
-        IsLeftOut (meaning accesses t s).0 ⊎ (meaning accesses t (widened s.0, s.1) ≡
+        IsLeftOutAt t.depth (meaning accesses t s).0 ⊎ (meaning accesses t (widened s.0, s.1) ≡
         outcome_widened (meaning accesses t s)) }
     ensures tables { (accesses : Accesses S) (bytes : List ℕ) (steps : ℕ) (w : State S) →
-        IsLeftOut (loaded accesses bytes steps w).0 ⊎
+        IsLeftOutAt 0 (loaded accesses bytes steps w).0 ⊎
         (loaded accesses bytes steps (widened w) ≡ (
           (loaded accesses bytes steps w).0,
           widened (loaded accesses bytes steps w).1,

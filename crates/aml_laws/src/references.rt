@@ -21,7 +21,7 @@ ghost use Rattle.aml_laws.specs.Numbers.{numbers_of, RiseTo};
 /// RefOf of a name gives a reference to the declaration that stands at its path, and to no other: the number of that
 /// declaration finds its path and its object. DerefOf of the reference reads that object; where it holds neither a
 /// value nor a field, it gives the reference again. CopyObject through it takes its copy to the name.
-#[tactic(auto, using(crate::proofs::ReferencesToNames::name_reference_is, crate::proofs::ReferencesToNames::declaration_is, crate::proofs::ReferencesToNames::declared_once_is, crate::proofs::ReferencesToNames::name_copies))]
+#[tactic(auto, using(crate::proofs::ReferencesToNames::a_reference_to_a_name_finds_its_declaration))]
 pub fn a_reference_to_a_name_finds_its_declaration<S>()
     ensures given { (w : State S) (path : List Seg) (e : Entry) → get w.names.map path ≡ Some e →
         (reference_of (targets.Name path) w).0 ≡ Ok (reference.Name e.number) }

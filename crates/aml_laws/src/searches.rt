@@ -28,7 +28,7 @@ pub fn a_searched_name_finds_the_nearest()
 /// A name with a prefix or of more segments than one stands for one path, which its scope gives it: it finds what
 /// stands there, an alias's target in one step, and nothing else. A search above the scope for such a name is refused
 /// by this.
-#[tactic(auto, using(crate::proofs::NamesSearched::one_path_found, crate::proofs::NamesSearched::one_path_empty, crate::proofs::NamesSearched::no_path))]
+#[tactic(auto, using(crate::proofs::NamesSearched::any_other_name_stands_at_one_path))]
 pub fn any_other_name_stands_at_one_path()
     ensures stands { (names : Map) (scope : List Seg) (name : Name) (path : List Seg) (entry : Entry)
         (r : Outcome Found) → is_searched name ≡ false → resolved name scope ≡ Ok path →

@@ -33,7 +33,7 @@ pub fn space_is_reached_by_accesses<S>()
 /// access of a field is refused by a fault of the register space, accesses that are all answered with values lead
 /// from the space before it to a space at which one more is answered with that fault, and the space is left as that
 /// access leaves it. Of the accesses that were made themselves `space_faults_are_answers_of_the_last_access` says so.
-#[tactic(auto, using(crate::proofs::SpaceFaultsExplained::fault_of_term, crate::proofs::SpaceFaultsExplained::fault_of_list, crate::proofs::SpaceFaultsExplained::fault_of_call, crate::proofs::SpaceFaultsExplained::fault_of_table, crate::proofs::SpaceFaultsExplained::fault_of_value, crate::proofs::SpaceFaultsExplained::fault_of_answer, crate::proofs::SpaceFaultsExplained::fault_of_field_read, crate::proofs::SpaceFaultsExplained::fault_of_field_written))]
+#[tactic(auto, using(crate::proofs::SpaceFaultsExplained::space_faults_are_reached_by_accesses))]
 pub fn space_faults_are_reached_by_accesses<S>()
     ensures term { (accesses : Accesses S) (fault : SpaceFault) (t : Task) (s : State S × ℕ) →
         (meaning accesses t s).0 ≡ Err (Space fault) → LastFaults accesses fault s.0.space
@@ -66,7 +66,7 @@ pub fn space_faults_are_reached_by_accesses<S>()
 {}
 
 /// Where no access ever answers with a fault, no table, object or answer is refused by it.
-#[tactic(auto, using(crate::proofs::SpaceFaultsExplained::never_of_table, crate::proofs::SpaceFaultsExplained::never_of_value, crate::proofs::SpaceFaultsExplained::never_of_answer))]
+#[tactic(auto, using(crate::proofs::SpaceFaultsExplained::faults_that_no_access_answers_are_never_refused))]
 pub fn faults_that_no_access_answers_are_never_refused<S>()
     ensures table { (accesses : Accesses S) (fault : SpaceFault) (bytes : List ℕ) (steps : ℕ) (w : State S) →
         NeverFaults accesses fault → (loaded accesses bytes steps w).0 ≢ Err (Space fault) }

@@ -75,7 +75,7 @@ pub fn terms_that_begin_are_counted<S>()
 /// A table that is loaded, an object that is evaluated and one that answers a caller begin at most as many terms as
 /// they have steps, however they end. Counting changes nothing else: the value, the answer or the refusal, the steps
 /// that are left of a value, and the world are those without it.
-#[tactic(auto, using(crate::proofs::CountedEvaluations::table_is_bounded, crate::proofs::CountedEvaluations::table_is_the_same, crate::proofs::CountedEvaluations::value_is_bounded, crate::proofs::CountedEvaluations::value_is_the_same, crate::proofs::CountedEvaluations::answer_is_bounded, crate::proofs::CountedEvaluations::answer_is_the_same))]
+#[tactic(auto, using(crate::proofs::CountedEvaluations::terms_of_tables_and_answers_are_counted))]
 pub fn terms_of_tables_and_answers_are_counted<S>()
     ensures table_bounded { (accesses : Accesses S) (bytes : List ℕ) (steps : ℕ) (w : State (S × ℕ)) →
         terms_begun (counted_loaded accesses bytes steps w).1 ≤ terms_begun w + steps }

@@ -1,29 +1,36 @@
 //! What each tree costs.
-ghost use Rattle.std.specs.Prelude.{◌≡◌, ℕ, List, Some, Ok};
+ghost use Rattle.std.specs.Prelude.{◌≡◌, ◌≤◌, ◌<◌, ◌+◌, ℕ, List, Some, Ok};
 ghost use Rattle.ar_space.specs.Accesses.{Accesses};
 ghost use Rattle.aml_path.specs.declared.segment.Seg.{Seg};
 ghost use Rattle.aml_path.specs.Paths.{Name};
 ghost use Rattle.aml_grammar.specs.declared.opcode.TermCode.{TermCode};
-ghost use Rattle.aml_grammar.specs.Tree.{Tree, term, null, name, Parts};
+ghost use Rattle.aml_grammar.specs.Tree.{Tree, Trees, term, null, name, inner, Parts, part};
 ghost use Rattle.aml_grammar.specs.Apart.{operand_of};
 ghost use Rattle.aml_objects.specs.declared.value.Slot.{Slot};
+ghost use Rattle.aml_objects.specs.declared.value.Value.{Value};
 ghost use Rattle.aml_meaning.specs.declared.store_target.StoreTarget.TheVariants as targets;
 ghost use Rattle.aml_meaning.specs.declared.store_target.TargetKind.TheVariants as kinds;
+ghost use Rattle.aml_meaning.specs.declared.flow.Flow.{Flow};
 ghost use Rattle.aml_meaning.specs.State.{State};
-ghost use Rattle.aml_meaning.specs.Tasks.{Task};
+ghost use Rattle.aml_meaning.specs.Run.{Run};
+ghost use Rattle.aml_meaning.specs.Tasks.{Task, task, in_turn};
 ghost use Rattle.aml_meaning.specs.Terms.{target_kind};
 ghost use Rattle.aml_meaning.specs.TargetTerms.{target_of, target_at, first_target};
 ghost use Rattle.aml_meaning.specs.DataTerms.{named_element};
 ghost use Rattle.aml_meaning.specs.Evaluation.{rule};
+ghost use Rattle.aml_meaning.specs.Invocations.{invoked};
 ghost use Rattle.aml_meaning.specs.Meaning.{meaning};
+ghost use Rattle.aml_laws.specs.Counted.{without_counter, with_counter, outcome_without_counter};
+ghost use Rattle.aml_laws.specs.CountedTrees.{trees_begun, counting_trees, LeavesNoMore, begin_and_count, followed_by, both_counted};
+ghost use Rattle.aml_laws.specs.StepsTaken.{TakenInTerm, TakenByParts};
 ghost use Rattle.aml_laws.specs.CostsOfTrees.{CostsOneStep, CostsNothing, operand_referred, element_named};
 
 /// Each tree costs one step when it begins: a term that is evaluated, a RefOf or a DerefOf that names a target, and a
 /// name in a package. Where no step is left it is refused and nothing changes; else it goes on with one step less, by
 /// its rule or with its operand, and leaves no more than that, however it ends. So no more trees begin than there are
-/// steps. A tree that costs nothing, or two steps, is refused by this. That rules take no steps besides isn't said
-/// here.
-#[tactic(auto, using(crate::proofs::TreesCost::term_begins, crate::proofs::TreesCost::reference_begins, crate::proofs::TreesCost::dereference_begins, crate::proofs::TreesCost::named_element_begins, crate::proofs::TreesCost::named_element_stays))]
+/// steps. A tree that costs nothing, or two steps, is refused by this. That rules take no steps besides
+/// `a_rule_takes_no_step_of_its_own` says.
+#[tactic(auto, using(crate::proofs::TreesCost::each_tree_costs_a_step))]
 pub fn each_tree_costs_a_step<S>()
     ensures term { (accesses : Accesses S) (t : Task) →
         CostsOneStep (meaning accesses t) (rule accesses (meaning accesses) t) }
@@ -39,9 +46,10 @@ pub fn each_tree_costs_a_step<S>()
         CostsNothing {S = S} (element_named scope t) }
 {}
 
-/// A target that is a name, a local, an argument or Debug costs no step, nor does the null target. A store that takes
-/// a step for its target is refused by this.
-#[tactic(auto, using(crate::proofs::TreesCost::slot_costs_nothing, crate::proofs::TreesCost::debug_costs_nothing, crate::proofs::TreesCost::null_costs_nothing, crate::proofs::TreesCost::name_costs_nothing))]
+/// A target that is a name, a local, an argument or Debug costs no step, nor does the null target, nor what a RefOf
+/// refers to where that is a name or null; and what is no target is refused without a step. A store that takes a step
+/// for its target is refused by this.
+#[tactic(auto, using(crate::proofs::TreesCost::plain_targets_cost_nothing))]
 pub fn plain_targets_cost_nothing<S>()
     ensures slots { (accesses : Accesses S) (scope : List Seg) (depth : ℕ) (c : TermCode) (ps : Parts) (slot : Slot)
         (s : State S × ℕ) → target_kind c ≡ kinds.Slot slot →
@@ -53,4 +61,81 @@ pub fn plain_targets_cost_nothing<S>()
         operand_of t i ≡ Some null → target_at (meaning accesses) scope depth t i s ≡ (Ok targets.Nowhere, s) }
     ensures names { (accesses : Accesses S) (scope : List Seg) (depth : ℕ) (t : Tree) (i : ℕ) (n : Name) →
         operand_of t i ≡ Some (name n) → CostsNothing (target_at (meaning accesses) scope depth t i) }
+    ensures referred_names { (accesses : Accesses S) (scope : List Seg) (depth : ℕ) (n : Name) (ps : Parts) →
+        CostsNothing (first_target (meaning accesses) scope depth (part (name n) ps)) }
+    ensures referred_null { (accesses : Accesses S) (scope : List Seg) (depth : ℕ) (ps : Parts) →
+        CostsNothing (first_target (meaning accesses) scope depth (part null ps)) }
+    ensures no_target { (accesses : Accesses S) (scope : List Seg) (depth : ℕ) (c : TermCode) (ps : Parts) →
+        target_kind c ≡ kinds.Other → CostsNothing (target_of (meaning accesses) scope depth (term c ps)) }
+{}
+
+/// Any other target takes the steps of terms, and no step besides: an Index those of its term, and what a DerefOf
+/// refers to those of its operand. An operand that is a term is the target that this term names, and so is that of a
+/// RefOf, which may be a RefOf again: behind the step of `each_tree_costs_a_step` it takes what this target does. An
+/// Index that names a target and takes a step of its own is refused by this.
+#[tactic(auto, using(crate::proofs::TreesCost::a_target_takes_the_steps_of_its_terms))]
+pub fn a_target_takes_the_steps_of_its_terms<S>()
+    ensures index { (accesses : Accesses S) (scope : List Seg) (depth : ℕ) (c : TermCode) (ps : Parts)
+        (s : State S × ℕ) → target_kind c ≡ kinds.Index → (target_of (meaning accesses) scope depth (term c ps) s).1.1 ≡
+        (meaning accesses (task scope depth (term c ps)) s).1.1 }
+    ensures dereferenced { (accesses : Accesses S) (scope : List Seg) (depth : ℕ) (t u : Tree) (s : State S × ℕ) →
+        operand_of t 0 ≡ Some (inner u) → (operand_referred (meaning accesses) scope depth t s).1.1 ≡
+        (meaning accesses (task scope depth u) s).1.1 }
+    ensures referred { (accesses : Accesses S) (scope : List Seg) (depth : ℕ) (u : Tree) (ps : Parts)
+        (s : State S × ℕ) → first_target (meaning accesses) scope depth (part (inner u) ps) s ≡
+        target_of (meaning accesses) scope depth u s }
+    ensures operand { (accesses : Accesses S) (scope : List Seg) (depth : ℕ) (t u : Tree) (i : ℕ) (s : State S × ℕ) →
+        operand_of t i ≡ Some (inner u) → target_at (meaning accesses) scope depth t i s ≡
+        target_of (meaning accesses) scope depth u s }
+{}
+
+/// A rule takes no step of its own: those that it takes are taken by its parts, by the targets that its operands name,
+/// and by names among the elements of a package. A list of terms and a call take none but those of their terms. By
+/// `each_tree_costs_a_step`, `plain_targets_cost_nothing` and `a_target_takes_the_steps_of_its_terms` each of these
+/// steps is one that a tree begins with. A rule that takes a step besides is refused by this.
+#[tactic(auto, using(crate::proofs::StepsOfTerms::a_rule_takes_no_step_of_its_own))]
+pub fn a_rule_takes_no_step_of_its_own<S>()
+    ensures rules { (accesses : Accesses S) (ev : Task → Run S Flow) (t : Task) (s : State S × ℕ) →
+        TakenInTerm ev t s.1 (rule accesses ev t s).1.1 }
+    ensures lists { (accesses : Accesses S) (ev : Task → Run S Flow) (scope : List Seg) (depth : ℕ) (ts : Trees)
+        (s : State S × ℕ) → TakenByParts ev s.1 (in_turn ev scope depth ts s).1.1 }
+    ensures calls { (accesses : Accesses S) (ev : Task → Run S Flow) (depth : ℕ) (p : List Seg) (body : List ℕ)
+        (arguments : List Value) (s : State S × ℕ) →
+        TakenByParts ev s.1 (invoked ev depth p body arguments s).1.1 }
+{}
+
+/// An evaluation begins at most as many trees as it has steps: terms, and a RefOf or a DerefOf that names a target and
+/// names in packages as well. They are counted where they begin, by the steps that they take: each adds one to a
+/// counter beside the register space, and goes on; what is done one after another is counted one after another, and
+/// what takes no step adds nothing. Those that have begun and the steps that are left are together as many as before,
+/// however a term, a list of terms or a call of a control method ends. The count never falls, and a term for which a
+/// step is left adds at least one. Counting changes nothing else. That nothing but a tree is counted
+/// `a_rule_takes_no_step_of_its_own` says.
+#[tactic(auto, using(crate::proofs::CountedTrees::trees_that_begin_are_counted))]
+pub fn trees_that_begin_are_counted<S, A, B>()
+    ensures at_most { (accesses : Accesses S) (t : Task) (w : State S) (steps : ℕ) →
+        trees_begun (counting_trees (meaning accesses t) (with_counter 0 w, steps)).1.0 ≤ steps }
+    ensures begins { (m rest : Run S A) (s : State (S × ℕ) × ℕ) → CostsOneStep m rest →
+        counting_trees m s ≡ begin_and_count rest s }
+    ensures in_turn { (m : Run S A) (k : A → Run S B) (s : State (S × ℕ) × ℕ) → LeavesNoMore m →
+        ((a : A) → LeavesNoMore (k a)) →
+        counting_trees (followed_by m k) s ≡ both_counted m k s }
+    ensures nothing { (m : Run S A) (s : State (S × ℕ) × ℕ) → CostsNothing m →
+        trees_begun (counting_trees m s).1.0 ≡ trees_begun s.0 }
+    ensures term_total { (accesses : Accesses S) (t : Task) (s : State (S × ℕ) × ℕ) →
+        trees_begun (counting_trees (meaning accesses t) s).1.0 + (counting_trees (meaning accesses t) s).1.1 ≡
+        trees_begun s.0 + s.1 }
+    ensures list_total { (accesses : Accesses S) (scope : List Seg) (depth : ℕ) (ts : Trees) (s : State (S × ℕ) × ℕ) →
+        trees_begun (counting_trees (in_turn (meaning accesses) scope depth ts) s).1.0 +
+        (counting_trees (in_turn (meaning accesses) scope depth ts) s).1.1 ≡ trees_begun s.0 + s.1 }
+    ensures call_total { (accesses : Accesses S) (depth : ℕ) (p : List Seg) (body : List ℕ) (arguments : List Value)
+        (s : State (S × ℕ) × ℕ) →
+        trees_begun (counting_trees (invoked (meaning accesses) depth p body arguments) s).1.0 +
+        (counting_trees (invoked (meaning accesses) depth p body arguments) s).1.1 ≡ trees_begun s.0 + s.1 }
+    ensures adds_one { (accesses : Accesses S) (t : Task) (s : State (S × ℕ) × ℕ) → 0 < s.1 →
+        trees_begun s.0 < trees_begun (counting_trees (meaning accesses t) s).1.0 }
+    ensures never_falls { (m : Run S A) (s : State (S × ℕ) × ℕ) →
+        trees_begun s.0 ≤ trees_begun (counting_trees m s).1.0 }
+    ensures same { (m : Run S A) (s : State (S × ℕ) × ℕ) →
+        m (without_counter s.0, s.1) ≡ outcome_without_counter (counting_trees m s) }
 {}

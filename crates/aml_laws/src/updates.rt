@@ -13,7 +13,7 @@ ghost use Rattle.aml_laws.specs.UnitValues.{Reads, with_reads, IsFilledWith};
 /// reads are answered with. Each of its units (`units_hold_each_bit_once` of `aml_fields`) is written once, with the
 /// bits of the field, and all other bits ones, or zeros. A rule that reads the unit first, or that keeps what it held,
 /// is refused by this.
-#[tactic(auto, using(crate::proofs::UnreadUnits::field_unread, crate::proofs::UnreadUnits::unit_of_ones, crate::proofs::UnreadUnits::unit_of_zeros))]
+#[tactic(auto, using(crate::proofs::UnreadUnits::ones_and_zeros_read_nothing))]
 pub fn ones_and_zeros_read_nothing<S>()
     ensures unread { (accesses : Accesses S) (reads : Reads S) (region : Region) (field : FieldUnit) (source : List ℕ)
         (s : S) → field.update ≢ Preserve →

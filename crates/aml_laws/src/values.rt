@@ -18,7 +18,7 @@ ghost use Rattle.aml_laws.specs.ResourceLists.{before_end_tag, end_tag, HasEndTa
 /// An integer of a width is read back from the string that it is converted to, by its hexadecimal digits, and by
 /// ToInteger from what ToDecimalString gives. Digits in the wrong order, too few of them, or digits that are read in
 /// another base are refused by this.
-#[tactic(auto, using(crate::proofs::IntegersInStrings::text_reads_back, crate::proofs::IntegersInStrings::decimal_reads_back))]
+#[tactic(auto, using(crate::proofs::IntegersInStrings::an_integer_is_read_back_from_its_string))]
 pub fn an_integer_is_read_back_from_its_string()
     ensures hexadecimal { (width : IntegerWidth) (n : ℕ) (text : List ℕ) → n < 2 ^ bits_of width →
         to_text_of width (Integer n) ≡ Ok text → to_integer_of width (String text) ≡ Ok n }
@@ -29,7 +29,7 @@ pub fn an_integer_is_read_back_from_its_string()
 /// Two values of one type are in a total order: integers by their size, strings and buffers by the first byte in which
 /// they differ, and one that another goes on from comes before it. Orders that are turned round, that stop at the
 /// shorter length, or that call different values equal are refused by this.
-#[tactic(auto, using(crate::proofs::OrderedValues::integers_are_ordered, crate::proofs::OrderedValues::strings_are_ordered, crate::proofs::OrderedValues::buffers_are_ordered, crate::proofs::OrderedValues::lesser_integer, crate::proofs::OrderedValues::lesser_string, crate::proofs::OrderedValues::shorter_string, crate::proofs::OrderedValues::lesser_buffer, crate::proofs::OrderedValues::shorter_buffer))]
+#[tactic(auto, using(crate::proofs::OrderedValues::values_of_one_type_are_in_a_total_order))]
 pub fn values_of_one_type_are_in_a_total_order()
     ensures integers { (width : IntegerWidth) → IsTotal (λ n m. compared width (Integer n) (Integer m)) }
     ensures strings { (width : IntegerWidth) → IsTotal (λ s t. compared width (String s) (String t)) }
@@ -49,7 +49,7 @@ pub fn values_of_one_type_are_in_a_total_order()
 /// The hexadecimal digits of a number in binary coded decimal are the decimal digits of the number, so that ToBCD and
 /// FromBCD undo each other where both answer. Digits that are turned round, or that are read in the other base, are
 /// refused by this.
-#[tactic(auto, using(crate::proofs::DecimalCodes::coded_has_digits, crate::proofs::DecimalCodes::decoded_has_digits, crate::proofs::DecimalCodes::coded_decodes, crate::proofs::DecimalCodes::decoded_codes))]
+#[tactic(auto, using(crate::proofs::DecimalCodes::binary_coded_decimal_has_the_decimal_digits))]
 pub fn binary_coded_decimal_has_the_decimal_digits()
     ensures coded { (width : IntegerWidth) (n code : ℕ) → coded_decimal width n ≡ Ok code →
         digits_of 16 code ≡ digits_of 10 n }
@@ -74,7 +74,7 @@ pub fn joined_resources_have_the_items_of_both()
 /// decimal digits than the width has hexadecimal ones, and FromBCD of each whose hexadecimal digits are decimal ones.
 /// Two buffers of resource items are joined where each is empty or has an end tag. A conversion that refuses these, or
 /// that leaves leading zeros out of a hexadecimal string, is refused by this.
-#[tactic(auto, using(crate::proofs::ConversionsAnswered::text_answers, crate::proofs::ConversionsAnswered::decimal_answers, crate::proofs::ConversionsAnswered::buffer_answers, crate::proofs::ConversionsAnswered::coded_answers, crate::proofs::ConversionsAnswered::decoded_answers, crate::proofs::ConversionsAnswered::joined_answers))]
+#[tactic(auto, using(crate::proofs::ConversionsAnswered::conversions_answer))]
 pub fn conversions_answer()
     ensures hexadecimal { (width : IntegerWidth) (n : ℕ) → (text : List ℕ) ×
         ((to_text_of width (Integer n) ≡ Ok text) × ((length text ≡ 2 * bytes_of width) ×

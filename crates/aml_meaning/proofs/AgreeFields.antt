@@ -12,6 +12,7 @@ use Rattle.aml_objects.specs.declared.entry.FieldSource.{FieldSource}
 use Rattle.aml_objects.specs.declared.entry.FieldSource.TheVariants as sources
 use Rattle.aml_objects.specs.declared.entry.UpdateRule.{UpdateRule}
 use Rattle.aml_objects.specs.declared.entry.UpdateRule.TheVariants.{Preserve, WriteAsOnes, WriteAsZeros}
+use Rattle.aml_fields.specs.declared.region.Region.{Region}
 use Rattle.aml_fields.specs.declared.field_units.Unit.{Unit as Access}
 use Rattle.aml_fields.specs.Units.{units_of}
 use Rattle.aml_fields.specs.UnitByUnit.{read_units, bits_read, write_units, kept_by, kept}
@@ -20,7 +21,7 @@ use Rattle.aml_meaning.specs.declared.regions.RegionSpace.TheVariants as kinds
 use Rattle.aml_meaning.specs.declared.regions.RegionField.{RegionField}
 use Rattle.aml_meaning.specs.Run.{Run}
 use Rattle.aml_meaning.proofs.Agree.{Agree, agree_give, agree_stop, agree_settle, agree_lift, agree_bind}
-use Rattle.aml_meaning.specs.Fields.{part_in, inherited, bus_behind, bus_behind_all, pci_address, space_at, located, region_bits, region_written, index_unit, index_unit_written, index_bits, index_written, field_unit_bits, field_unit_written, bits_in, written_in, field_value, field_integer, field_part, field_referent, field_stored}
+use Rattle.aml_meaning.specs.Fields.{part_in, inherited, bus_behind, bus_behind_all, pci_address, space_at, located, region_bits, region_written, index_unit, index_unit_written, index_bits, index_written, bank_selected, bank_unit, bank_unit_written, bank_bits, bank_written, field_unit_bits, field_unit_written, bits_in, written_in, field_value, field_integer, field_part, field_referent, field_stored}
 
 -- ---- unit by unit
 
@@ -101,15 +102,30 @@ module _ {S : Type 0} {n : ℕ} (accesses : Accesses S) (call other : List Seg �
   agree_index_written index behind f bytes u =
       agree_bind _ _ _ _ (agree_kept f u _ _ (agree_index_unit index behind f.access u)) (λ old. agree_bind _ _ _ _ (agree_region_written index _) (λ chosen. agree_region_written behind _))
 
+  agree_selected : (bank : RegionField) (value : ℕ) → Agree n (bank_selected accesses call bank value) (bank_selected accesses other bank value)
+  unfolding bank_selected
+  agree_selected bank value = agree_bind _ _ _ _ (agree_settle _) (λ held. agree_region_written bank _)
+
+  agree_bank_unit : (bank : RegionField) (value : ℕ) (r : Region) (w : Width) (u : Access) → Agree n (bank_unit accesses call bank value r w u) (bank_unit accesses other bank value r w u)
+  unfolding bank_unit
+  agree_bank_unit bank value r w u = agree_bind _ _ _ _ (agree_selected bank value) (λ selected. agree_lift _)
+
+  agree_bank_written : (bank : RegionField) (value : ℕ) (r : Region) (f : FieldUnit) (bytes : List ℕ) (u : Access) → Agree n (bank_unit_written accesses call bank value r f bytes u) (bank_unit_written accesses other bank value r f bytes u)
+  unfolding bank_unit_written
+  agree_bank_written bank value r f bytes u =
+      agree_bind _ _ _ _ (agree_kept f u _ _ (agree_bank_unit bank value r f.access u)) (λ old. agree_bind _ _ _ _ (agree_selected bank value) (λ selected. agree_lift _))
+
   agree_unit_bits : (source : FieldSource) (f : FieldUnit) → Agree n (field_unit_bits accesses call source f) (field_unit_bits accesses other source f)
-  unfolding index_bits
+  unfolding index_bits bank_bits
   agree_unit_bits (sources.Region k) f = agree_region_bits _
   agree_unit_bits (sources.Index i d) f = agree_bind _ _ _ _ (agree_lift _) (λ index. agree_bind _ _ _ _ (agree_lift _) (λ behind. agree_bits _ _ (agree_index_unit index behind f.access) f))
+  agree_unit_bits (sources.Bank k b) f = agree_bind _ _ _ _ (agree_lift _) (λ bank. agree_bind _ _ _ _ (agree_located k) (λ r. agree_bits _ _ (agree_bank_unit bank b.value r f.access) f))
 
   agree_unit_written : (source : FieldSource) (f : FieldUnit) (bytes : List ℕ) → Agree n (field_unit_written accesses call source f bytes) (field_unit_written accesses other source f bytes)
-  unfolding index_written
+  unfolding index_written bank_written
   agree_unit_written (sources.Region k) f bytes = agree_region_written _ bytes
   agree_unit_written (sources.Index i d) f bytes = agree_bind _ _ _ _ (agree_lift _) (λ index. agree_bind _ _ _ _ (agree_lift _) (λ behind. agree_writes _ _ (agree_index_written index behind f bytes) (units_of f.bit_offset f.bits f.access)))
+  agree_unit_written (sources.Bank k b) f bytes = agree_bind _ _ _ _ (agree_lift _) (λ bank. agree_bind _ _ _ _ (agree_located k) (λ r. agree_writes _ _ (agree_bank_written bank b.value r f bytes) (units_of f.bit_offset f.bits f.access)))
 
   agree_bits_in : (f : Field) → Agree n (bits_in accesses call f) (bits_in accesses other f)
   agree_bits_in (field.Unit u) = agree_unit_bits u.source u

@@ -55,6 +55,7 @@ use Rattle.aml_meaning.specs.Invocations.{leaving, invoked, method_value}
 use Rattle.aml_meaning.specs.InvocationTerms.{arguments_in_turn, call_rule, osi_rule, field_rule, invocation_rule, name_value}
 use Rattle.aml_meaning.specs.FieldCalls.{asked, method_integer, answer_over, answer_within, field_read, held_value, held_integer, referent_read, completed, stored_to, is_element, back_to, stored_back}
 use Rattle.aml_meaning.specs.FieldTerms.{fields_laid, region_rule, field_list_rule, index_list_rule, sized_field_rule, bits_field_rule, region_term_rule}
+use Rattle.aml_meaning.proofs.AgreeItems.{agree_item}
 use Rattle.aml_meaning.proofs.AgreeFields.{agree_field_value, agree_field_integer, agree_field_part, agree_field_referent, agree_field_stored}
 use Rattle.aml_meaning.specs.declared.term_kind.WideKind.{WideKind}
 use Rattle.aml_meaning.specs.declared.term_kind.WideKind.TheVariants as wides
@@ -62,6 +63,7 @@ use Rattle.aml_meaning.specs.declared.term_kind.Conversion.{Conversion}
 use Rattle.aml_meaning.specs.declared.term_kind.EventChange.{EventChange}
 use Rattle.aml_meaning.specs.declared.searches.Search.{Search}
 use Rattle.aml_meaning.specs.MatchTerms.{held_meets, if_held, element_meets, found_or, none_matches, searched_last, match_rule}
+use Rattle.aml_meaning.specs.BankTerms.{banked_laid, bank_list_rule}
 use Rattle.aml_meaning.specs.WideTerms.{formed_at, convert_rule, to_string_rule, middle_rule, event_rule, wait_rule, wide_rule}
 use Rattle.aml_meaning.specs.Evaluation.{kind_rule, code_rule, rule}
 
@@ -77,7 +79,7 @@ module _ {S : Type 0} {n : ℕ} (accesses : Accesses S) (ev ew : Task → Run S 
   agree_turn : (scope : List Seg) (depth : ℕ) (ts : Trees) → Agree n (in_turn ev scope depth ts) (in_turn ew scope depth ts)
   unfolding in_turn
   agree_turn scope depth no_trees = agree_give _
-  agree_turn scope depth (tree t ts) = agree_bind _ _ _ _ (parts _) (λ f. agree_after (goes_on f) f _ _ (agree_turn scope depth ts))
+  agree_turn scope depth (tree t ts) = agree_bind _ _ _ _ (agree_item ev ew parts scope depth t) (λ f. agree_after (goes_on f) f _ _ (agree_turn scope depth ts))
 
   agree_leaving : (p : List Seg) (m k : Run S Flow) → Agree n m k → Agree n (leaving p m) (leaving p k)
   unfolding leaving
@@ -598,6 +600,12 @@ module _ {S : Type 0} {n : ℕ} (accesses : Accesses S) (ev ew : Task → Run S 
   unfolding wait_rule
   agree_wait scope depth t = agree_bind _ _ _ _ (agree_target scope depth t 0) (λ p. agree_bind _ _ _ _ (agree_lift _) (λ e. agree_bind _ _ _ _ (agree_value_at scope depth t 1) (λ v. agree_bind _ _ _ _ (agree_lift _) (λ r. agree_give _))))
 
+  agree_bank_list : (scope : List Seg) (depth : ℕ) (t : Tree) → Agree n (bank_list_rule ev scope depth t) (bank_list_rule ew scope depth t)
+  unfolding bank_list_rule banked_laid fields_laid
+  agree_bank_list scope depth t =
+      agree_bind _ _ _ _ (agree_settle _) (λ x. agree_bind _ _ _ _ (agree_lift _) (λ region. agree_bind _ _ _ _ (agree_settle _) (λ y. agree_bind _ _ _ _ (agree_lift _) (λ bank. agree_bind _ _ _ _ (agree_value_at scope depth t 2) (λ v.
+      agree_bind _ _ _ _ (agree_settle _) (λ flags. agree_bind _ _ _ _ (agree_settle _) (λ ts. agree_bind _ _ _ _ (agree_lift _) (λ k. agree_bind _ _ _ _ (agree_lift _) (λ laid. agree_give _)))))))))
+
   agree_wide : (k : WideKind) (scope : List Seg) (depth : ℕ) (t : Tree) → Agree n (wide_rule accesses ev k scope depth t) (wide_rule accesses ew k scope depth t)
   agree_wide (wides.Convert k) scope depth t = agree_convert k scope depth t
   agree_wide wides.ToString scope depth t = agree_to_string scope depth t
@@ -605,6 +613,7 @@ module _ {S : Type 0} {n : ℕ} (accesses : Accesses S) (ev ew : Task → Run S 
   agree_wide wides.Match scope depth t = agree_match scope depth t
   agree_wide (wides.Event k) scope depth t = agree_event k scope depth t
   agree_wide wides.Wait scope depth t = agree_wait scope depth t
+  agree_wide wides.BankField scope depth t = agree_bank_list scope depth t
 
   -- ---- which rule
 

@@ -11,7 +11,7 @@ use Rattle.std.specs.Cmp.Rules.{comparing}
 use Rattle.std.specs.FinMap.{get, entries, entries_sorted, get-entries, find, is_sorted, IsAntisymmetric, slice_cmp-IsAntisymmetric}
 use Rattle.std.specs.FinMap.Entries.{below_all}
 use Rattle.aml_path.specs.declared.segment.Seg.{Seg}
-use Rattle.aml_path.specs.Segments.{seg_cmp_exact}
+use Rattle.aml_path.proofs.Segments.{seg_cmp_exact}
 use Rattle.aml_path.specs.Paths.{path_cmp, path_eq}
 use Rattle.aml_grammar.specs.declared.arities.Arity.{Arity}
 use Rattle.aml_grammar.specs.Arities.{latest, or_else}

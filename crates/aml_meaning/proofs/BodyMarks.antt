@@ -14,6 +14,7 @@ use Rattle.aml_marked.specs.Marked.{trees_by}
 use Rattle.aml_objects.specs.Objects.{Objects}
 use Rattle.aml_meaning.specs.declared.frame.Frame.{Frame}
 use Rattle.aml_meaning.specs.declared.profile.Profile.{Profile}
+use Rattle.aml_meaning.specs.PassedOver.{PassedOver}
 use Rattle.aml_meaning.specs.State.{State}
 use Rattle.aml_meaning.specs.Invocations.{body_terms, body_arities}
 use Rattle.aml_meaning.specs.declared.known_names.ScannedBody.{ScannedBody}
@@ -26,13 +27,13 @@ unfolding body_terms
 body_read view (Ok v) path body w h = record { is = λ ne. ap (λ x. (seen trees_of x, w)) (h.is tt) }
 body_read view (Err e) path body w h = record { is = λ ne. ap (λ x. (seen trees_of x, w)) (h.is ne) }
 
-pub body_of_world : {S V : Type 0} (view : V → List Tree) (r : Outcome V) (path : List Seg) (body : List ℕ) (k k1 : Known) (o : Objects) (f : List Frame) (n : ℕ) (p : S) (i : List (List ℕ)) (d : IntegerWidth) (g : Profile) (w : State S)
-    → record { names = k.names; arities = k.arities; objects = o; frames = f; started = n; space = p; osi = i; width = d; profile = g } ≡ w → k1 ≡ k → Answers (seen view r) (reading body path true (known_arities k))
-    → Does (seen (λ v. trees_of (view v)) r) (record { names = k1.names; arities = k1.arities; objects = o; frames = f; started = n; space = p; osi = i; width = d; profile = g }) (body_terms path body) w
-body_of_world {S = S} view r path body k k1 o f n p i d g w e same h =
-    let before : State S = record { names = k.names; arities = k.arities; objects = o; frames = f; started = n; space = p; osi = i; width = d; profile = g } in
-    subst (λ (x : State S). Does (seen (λ v. trees_of (view v)) r) (record { names = k1.names; arities = k1.arities; objects = o; frames = f; started = n; space = p; osi = i; width = d; profile = g }) (body_terms path body) x) e
-    (subst (λ (x : Known). Does (seen (λ v. trees_of (view v)) r) (record { names = x.names; arities = x.arities; objects = o; frames = f; started = n; space = p; osi = i; width = d; profile = g }) (body_terms path body) before) (sym same)
+pub body_of_world : {S V : Type 0} (view : V → List Tree) (r : Outcome V) (path : List Seg) (body : List ℕ) (k k1 : Known) (o : Objects) (f : List Frame) (n : ℕ) (p : S) (i : List (List ℕ)) (d : IntegerWidth) (g : Profile) (q : PassedOver) (w : State S)
+    → record { names = k.names; arities = k.arities; objects = o; frames = f; started = n; space = p; osi = i; width = d; profile = g; passed = q } ≡ w → k1 ≡ k → Answers (seen view r) (reading body path true (known_arities k))
+    → Does (seen (λ v. trees_of (view v)) r) (record { names = k1.names; arities = k1.arities; objects = o; frames = f; started = n; space = p; osi = i; width = d; profile = g; passed = q }) (body_terms path body) w
+body_of_world {S = S} view r path body k k1 o f n p i d g q w e same h =
+    let before : State S = record { names = k.names; arities = k.arities; objects = o; frames = f; started = n; space = p; osi = i; width = d; profile = g; passed = q } in
+    subst (λ (x : State S). Does (seen (λ v. trees_of (view v)) r) (record { names = k1.names; arities = k1.arities; objects = o; frames = f; started = n; space = p; osi = i; width = d; profile = g; passed = q }) (body_terms path body) x) e
+    (subst (λ (x : Known). Does (seen (λ v. trees_of (view v)) r) (record { names = x.names; arities = x.arities; objects = o; frames = f; started = n; space = p; osi = i; width = d; profile = g; passed = q }) (body_terms path body) before) (sym same)
     (body_read view r path body before h))
 
 pub none_kept : (arities : List Arity) → IsKept arities None

@@ -4,7 +4,8 @@ use Rattle.std.proofs.Common.{arith, ◌∙◌, sub-one}
 use Rattle.ar_space.specs.declared.refusal.Refusal.TheVariants as refusal
 use Rattle.ar_space.specs.declared.refusal.EvaluationFault.TheVariants.{DeadReference}
 use Rattle.ar_space.specs.Outcome.{Outcome}
-use Rattle.ar_space.specs.Change.{Change, Does, stop, changing}
+use Rattle.ar_space.specs.Change.{Change, Does, stop}
+use Rattle.ar_space.proofs.Changes.{changing}
 use Rattle.aml_objects.specs.declared.value.Value.{Value}
 use Rattle.aml_objects.specs.declared.value.Reference.{Reference}
 use Rattle.aml_meaning.specs.declared.object_type.Referent.{Referent}

@@ -7,7 +7,8 @@ use Rattle.ar_space.specs.declared.refusal.Refusal.{Refusal}
 use Rattle.ar_space.specs.declared.refusal.Refusal.TheVariants as refusal
 use Rattle.ar_space.specs.declared.refusal.EvaluationFault.TheVariants.{ObjectLimit}
 use Rattle.ar_space.specs.Outcome.{Outcome}
-use Rattle.ar_space.specs.Change.{Change, Does, Same, stop, give, go_on, ◌>>=◌, does_memory, changing}
+use Rattle.ar_space.specs.Change.{Change, Does, Same, stop, give, go_on, ◌>>=◌}
+use Rattle.ar_space.proofs.Changes.{does_memory, changing}
 use Rattle.aml_path.specs.declared.segment.Seg.{Seg}
 use Rattle.aml_objects.specs.declared.object.Object.{Object}
 use Rattle.aml_objects.specs.Objects.{Objects}

@@ -1,5 +1,6 @@
 pub mod Agree
 pub mod AgreeFields
+mod AgreeItems
 pub mod AgreeTerms
 pub mod BodyCounts
 pub mod BodyDepths

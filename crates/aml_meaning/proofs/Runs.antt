@@ -3,7 +3,8 @@
 use Rattle.std.specs.Prelude.{◌≡◌, ℕ, Ok, Err, IsErr, IsErrAnd, refl}
 use Rattle.ar_space.specs.declared.refusal.Refusal.{Refusal}
 use Rattle.ar_space.specs.Outcome.{Outcome, NotMemory, seen}
-use Rattle.ar_space.specs.Change.{Change, Does, ◌>>=◌, does_ok, does_err, does_seen_err, changing}
+use Rattle.ar_space.specs.Change.{Change, Does, ◌>>=◌}
+use Rattle.ar_space.proofs.Changes.{does_ok, does_err, does_seen_err, changing}
 use Rattle.aml_objects.specs.declared.value.Value.{Value}
 use Rattle.aml_meaning.specs.State.{State}
 use Rattle.aml_meaning.specs.Run.{Run, lift}

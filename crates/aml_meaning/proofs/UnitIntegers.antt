@@ -104,12 +104,14 @@ module _ {S : Type 0} (accesses : Accesses S) (call : List Seg → Run S ℕ) wh
   unfolding region_bits lift on_space ◌>>=◌ go_on
   bits_are w steps u (sources.Region n) q is = rw (located_is w steps n q is) refl
   bits_are w steps u (sources.Index i d) q is = absurd is
+  bits_are w steps u (sources.Bank n b) q is = absurd is
 
   written_is : (w : State S) (steps : ℕ) (u : FieldUnit) (source : FieldSource) (q : Region) (bytes : List ℕ) → IsPlainRegion w source q
       → field_unit_written accesses call source u bytes (w, steps) ≡ ((write_field accesses q u bytes w.space).0, (record w { space = (write_field accesses q u bytes w.space).1 }, steps))
   unfolding region_written lift on_space ◌>>=◌ go_on
   written_is w steps u (sources.Region n) q bytes is = rw (located_is w steps n q is) refl
   written_is w steps u (sources.Index i d) q bytes is = absurd is
+  written_is w steps u (sources.Bank n b) q bytes is = absurd is
 
   module _ (w : State S) (steps : ℕ) (u : FieldUnit) (q : Region) (is : IsPlainRegion w u.source q) (after : S) where
     pub unit_read : (number : ℕ) → nat_lt (bits_of w.width) u.bits ≡ false → 0 < u.bits → number < 2 ^ u.bits → Does (Ok (packed (bits_from number 0 u.bits))) after (read_field accesses q u) w.space

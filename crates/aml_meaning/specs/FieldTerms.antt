@@ -174,6 +174,7 @@ region_found scope n = do
 abbrev pub in_region : ℕ → FieldSource → Outcome ℕ
 in_region n (sources.Region r) = Ok n
 in_region n (sources.Index i d) = Err (refusal.Value WrongType)
+in_region n (sources.Bank r b) = Err (refusal.Value WrongType)
 
 abbrev pub field_number : ℕ → NamedObject → Outcome ℕ
 field_number n (object.FieldUnit u) = in_region n u.source

@@ -1,4 +1,4 @@
--- Fields, read and written (ACPI 6.5, 5.5.2.4 and 19.6: OperationRegion, Field, IndexField, CreateField). An access of a field of a region
+-- Fields, read and written (ACPI 6.5, 5.5.2.4 and 19.6: OperationRegion, Field, IndexField, BankField, CreateField). An access of a field of a region
 -- asks for the region's address once; a buffer field is bits of its buffer, and makes no access. The source of a write is converted first.
 use Rattle.std.specs.Prelude.{ℕ, List, [], ◌∷◌, ◌++◌, Option, Some, None}
 use Rattle.ar_space.specs.declared.space.Width.{Width}
@@ -9,6 +9,7 @@ use Rattle.ar_space.specs.Change.{give, stop, settle, ◌>>=◌}
 use Rattle.aml_path.specs.declared.segment.Seg.{Seg}
 use Rattle.aml_objects.specs.declared.value.Value.{Value}
 use Rattle.aml_objects.specs.Fields.{bits_of_field}
+use Rattle.aml_objects.specs.declared.entry.Bank.{Bank}
 use Rattle.aml_objects.specs.declared.entry.Field.{Field}
 use Rattle.aml_objects.specs.declared.entry.Field.TheVariants as field
 use Rattle.aml_objects.specs.declared.entry.FieldUnit.{FieldUnit}
@@ -23,7 +24,7 @@ use Rattle.aml_fields.specs.BufferFields.{read_buffer_field, write_buffer_field}
 use Rattle.aml_fields.specs.Bits.{bits_from, bytes_within, field_bits, merged, rest_of_unit}
 use Rattle.aml_fields.specs.Units.{units_of}
 use Rattle.aml_fields.specs.UnitByUnit.{bits_read, kept, write_units}
-use Rattle.aml_fields.specs.Regions.{read_field, write_field}
+use Rattle.aml_fields.specs.Regions.{read_field, read_unit, write_field, write_whole}
 use Rattle.aml_meaning.specs.declared.pci_functions.Sought.TheVariants as sought
 use Rattle.aml_meaning.specs.declared.regions.RegionSpace.{RegionSpace}
 use Rattle.aml_meaning.specs.declared.regions.RegionSpace.TheVariants as kinds
@@ -35,7 +36,7 @@ use Rattle.aml_meaning.specs.Run.{Run, lift}
 use Rattle.aml_meaning.specs.Stores.{bytes_in}
 use Rattle.aml_meaning.specs.PciFunctions.{adr, segment_group, base_bus, nearest, pci_function}
 use Rattle.aml_meaning.specs.Bridges.{bridges_above, secondary_bus}
-use Rattle.aml_meaning.specs.Regions.{space_numbered, pci_space, region_declared, field_declared, integer_of_bits, value_of_bits, integer_alone, given_of_bits, referent_of_bits}
+use Rattle.aml_meaning.specs.Regions.{space_numbered, pci_space, region_declared, field_declared, bank_held, integer_of_bits, value_of_bits, integer_alone, given_of_bits, referent_of_bits}
 
 -- a number as the bytes of a unit, and the unit that bits make, cut or with zeros behind them
 abbrev pub unit_bytes : ℕ → List ℕ
@@ -130,15 +131,48 @@ module _ {S : Type 0} (accesses : Accesses S) (call : List Seg → Run S ℕ) wh
     behind ← lift (field_declared d)
     write_units (index_unit_written index behind f bytes) (units_of f.bit_offset f.bits f.access)
 
+  -- ---- fields of a bank: it is selected before each access of a unit, by its value in the bank field
+
+  unfoldable pub bank_selected : RegionField → ℕ → Run S (Unit {0})
+  bank_selected bank value = do
+    held ← settle (bank_held bank value)
+    region_written bank (unit_bytes value)
+
+  unfoldable pub bank_unit : RegionField → ℕ → Region → Width → Access → Run S ℕ
+  bank_unit bank value r w u = do
+    selected ← bank_selected bank value
+    lift (on_space (read_unit accesses r w u))
+
+  unfoldable pub bank_unit_written : RegionField → ℕ → Region → FieldUnit → List ℕ → Access → Run S (Unit {0})
+  bank_unit_written bank value r f bytes u = do
+    old ← kept f u (bank_unit bank value r f.access u)
+    selected ← bank_selected bank value
+    lift (on_space (write_whole accesses r f.access u.offset (merged (rest_of_unit f.update f.access old) u.first (field_bits bytes u.position u.count))))
+
+  -- the region is located once, before any unit
+  unfoldable pub bank_bits : ℕ → Bank → FieldUnit → Run S (List ℕ)
+  bank_bits n b f = do
+    bank ← lift (field_declared b.field)
+    r ← located n
+    bits_read (bank_unit bank b.value r f.access) f
+
+  unfoldable pub bank_written : ℕ → Bank → FieldUnit → List ℕ → Run S (Unit {0})
+  bank_written n b f bytes = do
+    bank ← lift (field_declared b.field)
+    r ← located n
+    write_units (bank_unit_written bank b.value r f bytes) (units_of f.bit_offset f.bits f.access)
+
   -- ---- any field
 
   abbrev pub field_unit_bits : FieldSource → FieldUnit → Run S (List ℕ)
   field_unit_bits (sources.Region n) f = region_bits (record { region = n; unit = f })
   field_unit_bits (sources.Index i d) f = index_bits i d f
+  field_unit_bits (sources.Bank n b) f = bank_bits n b f
 
   abbrev pub field_unit_written : FieldSource → FieldUnit → List ℕ → Run S (Unit {0})
   field_unit_written (sources.Region n) f bytes = region_written (record { region = n; unit = f }) bytes
   field_unit_written (sources.Index i d) f bytes = index_written i d f bytes
+  field_unit_written (sources.Bank n b) f bytes = bank_written n b f bytes
 
   abbrev pub bits_in : Field → Run S (List ℕ)
   bits_in (field.Unit u) = field_unit_bits u.source u

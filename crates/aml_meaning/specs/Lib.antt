@@ -1,3 +1,4 @@
+pub mod BankTerms
 pub mod Bridges
 pub mod Calling
 pub mod DataTerms
@@ -24,6 +25,8 @@ pub mod NewObjects
 pub mod Operations
 pub mod OperatorTerms
 pub mod Osi
+pub mod PassedOver
+pub mod Passing
 pub mod PciFunctions
 pub mod PlainRegions
 pub mod Predefined

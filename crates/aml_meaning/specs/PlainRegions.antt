@@ -28,3 +28,4 @@ plain_region _ = None
 abbrev pub IsPlainRegion : {S : Type 0} → State S → FieldSource → Region → Type 0
 IsPlainRegion w (sources.Region n) q = option_map (λ (e : List Seg × Entry). plain_region e.1.object) (numbered n w.names.map) ≡ Some (Some q)
 IsPlainRegion w (sources.Index i d) q = ⊥
+IsPlainRegion w (sources.Bank n b) q = ⊥

@@ -12,11 +12,12 @@ use Rattle.aml_namespace.specs.Namespace.{declared, root_alone}
 use Rattle.ar_space.specs.declared.integer_width.IntegerWidth.{IntegerWidth}
 use Rattle.aml_meaning.specs.declared.profile.Profile.{Profile}
 use Rattle.aml_meaning.specs.declared.profile.Profile.TheVariants.{Core}
+use Rattle.aml_meaning.specs.PassedOver.{nothing_passed}
 use Rattle.aml_meaning.specs.State.{State, on_objects, on_names}
 
 -- the world before anything is declared, of a profile, and of the core one
 abbrev pub fresh_as : {S : Type 0} → Profile → IntegerWidth → List (List ℕ) → S → State S
-fresh_as profile width osi space = record { names = root_alone; arities = []; objects = []; frames = []; started = 0; space = space; osi = osi; width = width; profile = profile }
+fresh_as profile width osi space = record { names = root_alone; arities = []; objects = []; frames = []; started = 0; space = space; osi = osi; width = width; profile = profile; passed = nothing_passed }
 
 abbrev pub fresh : {S : Type 0} → IntegerWidth → List (List ℕ) → S → State S
 fresh width osi space = fresh_as Core width osi space

@@ -1,5 +1,6 @@
--- Operation regions and the field units in them, as they were declared (ACPI 6.5, 5.5.2.4 and 19.6: OperationRegion, Field, IndexField).
-use Rattle.std.specs.Prelude.{ℕ, ◌/◌, ◌%◌, ◌==◌, nat_lt, ◌&&◌, List, length, Ok, Err, if◌then◌else◌}
+-- Operation regions and the field units in them, as they were declared (ACPI 6.5, 5.5.2.4 and 19.6: OperationRegion, Field, IndexField,
+-- BankField).
+use Rattle.std.specs.Prelude.{ℕ, ◌/◌, ◌%◌, ◌^◌, ◌==◌, nat_lt, ◌&&◌, List, length, Ok, Err, if◌then◌else◌}
 use Rattle.ar_space.specs.declared.refusal.Refusal.TheVariants as refusal
 use Rattle.ar_space.specs.declared.refusal.EvaluationFault.TheVariants.{DeadReference, NoValue}
 use Rattle.ar_space.specs.declared.refusal.FieldFault.TheVariants.{RegionLimit}
@@ -66,6 +67,7 @@ region_declared n = do
 abbrev pub region_field : FieldSource → FieldUnit → Outcome RegionField
 region_field (source.Region n) u = Ok (record { region = n; unit = u })
 region_field (source.Index i d) u = Err (refusal.Evaluation DeadReference)
+region_field (source.Bank n b) u = Err (refusal.Evaluation DeadReference)
 
 abbrev pub field_of_object : NamedObject → Outcome RegionField
 field_of_object (object.FieldUnit u) = region_field u.source u
@@ -75,6 +77,10 @@ unfoldable pub field_declared : {S : Type 0} → ℕ → Change (State S) Region
 field_declared n = do
   e ← declaration n
   settle (field_of_object e.1.object)
+
+-- a bank field has to hold the value that selects a bank
+abbrev pub bank_held : RegionField → ℕ → Outcome (Unit {0})
+bank_held bank value = if nat_lt value (2 ^ bank.unit.bits) then Ok tt else Err (refusal.Field RegionLimit)
 
 -- bits as an integer; as a value: an integer where they are no more than an integer has, else a buffer
 unfoldable pub integer_of_bits : {S : Type 0} → List ℕ → Change (State S) ℕ

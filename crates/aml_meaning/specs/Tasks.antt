@@ -1,5 +1,5 @@
 -- Terms to evaluate, one after another (ACPI 6.5, 5.5 and 19.6). Operands are evaluated from left to right.
-use Rattle.std.specs.Prelude.{ℕ, ◌==◌, List, Bool, true, false, if◌then◌else◌}
+use Rattle.std.specs.Prelude.{ℕ, ◌==◌, ◌&&◌, List, Bool, true, false, if◌then◌else◌}
 use Rattle.ar_space.specs.Change.{give, settle, ◌>>=◌}
 use Rattle.aml_path.specs.declared.segment.Seg.{Seg}
 use Rattle.aml_grammar.specs.Tree.{Tree, Trees, no_trees, tree}
@@ -7,7 +7,9 @@ use Rattle.aml_grammar.specs.Apart.{operand_of}
 use Rattle.aml_objects.specs.declared.value.Value.{Value}
 use Rattle.aml_meaning.specs.declared.flow.Flow.{Flow}
 use Rattle.aml_meaning.specs.declared.flow.Flow.TheVariants as flow
+use Rattle.aml_meaning.specs.declared.profile.Profile.{Profile}
 use Rattle.aml_meaning.specs.Run.{Run, lift}
+use Rattle.aml_meaning.specs.Passing.{is_wide, passing}
 use Rattle.aml_meaning.specs.Terms.{inner_of}
 use Rattle.aml_meaning.specs.Readings.{integer_in, value_in}
 
@@ -23,6 +25,11 @@ task scope depth t = record { scope = scope; depth = depth; term = t }
 -- names that no control method declares stand at module level
 abbrev pub module_level : ℕ → Bool
 module_level depth = depth == 0
+
+-- at module level the wide profile passes an item over that is refused, and the list goes on: tables declare names twice, and use such as
+-- nothing declares
+abbrev pub passes_over : ℕ → Profile → Bool
+passes_over depth p = module_level depth && is_wide p
 
 -- whether a list goes on after an item
 abbrev pub goes_on : Flow → Bool
@@ -62,8 +69,12 @@ module _ {S : Type 0} (ev : Task → Run S Flow) where
   abbrev pub after_item : Flow → Run S Flow → Run S Flow
   after_item f rest = if goes_on f then rest else give f
 
+  -- an item of a list
+  unfoldable pub item : List Seg → ℕ → Tree → Run S Flow
+  item scope depth t s = if passes_over depth s.0.profile then passing scope (ev (task scope depth t)) s else ev (task scope depth t) s
+
   unfoldable pub in_turn : List Seg → ℕ → Trees → Run S Flow
   in_turn scope depth no_trees = give flow.Next
   in_turn scope depth (tree t ts) = do
-    f ← ev (task scope depth t)
+    f ← item scope depth t
     after_item f (in_turn scope depth ts)

@@ -190,6 +190,7 @@ wide_kind opcodes.Match = Some wide.Match
 wide_kind opcodes.Signal = Some (wide.Event changes.Signal)
 wide_kind opcodes.Reset = Some (wide.Event changes.Reset)
 wide_kind opcodes.Wait = Some wide.Wait
+wide_kind opcodes.BankField = Some wide.BankField
 wide_kind _ = None
 
 -- the kind of a term: one of those above, or it is not evaluated

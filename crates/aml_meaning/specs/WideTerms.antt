@@ -21,6 +21,7 @@ use Rattle.aml_meaning.specs.WideOperations.{converted, string_in, middle_in}
 use Rattle.aml_meaning.specs.FormedStores.{formed_to}
 use Rattle.aml_meaning.specs.MatchTerms.{match_rule}
 use Rattle.aml_meaning.specs.Events.{event_named, event_changed, waited}
+use Rattle.aml_meaning.specs.BankTerms.{bank_list_rule}
 
 abbrev pub in_wide : {S : Type 0} → Opcode → Run S Flow → Run S Flow
 in_wide op m = lift (asked_for op) >> m
@@ -78,3 +79,4 @@ module _ {S : Type 0} (accesses : Accesses S) (ev : Task → Run S Flow) where
   wide_rule kinds.Match scope depth t = match_rule accesses ev scope depth t
   wide_rule (kinds.Event k) scope depth t = event_rule k scope depth t
   wide_rule kinds.Wait scope depth t = wait_rule scope depth t
+  wide_rule kinds.BankField scope depth t = bank_list_rule ev scope depth t

@@ -100,7 +100,7 @@ fn pass_scope(
 }
 
 /// The bus behind a bridge.
-#[tactic(auto, using(ar_space::specs::Change::changing), unfolding(crate::specs::Bridges::secondary_bus))]
+#[tactic(auto, using(ar_space::proofs::Changes::changing), unfolding(crate::specs::Bridges::secondary_bus))]
 fn secondary_bus<S: Space>(
     space: &mut S,
     segment: u64,
@@ -117,7 +117,7 @@ fn secondary_bus<S: Space>(
 }
 
 /// The byte at an offset in the configuration header of a function.
-#[tactic(auto, using(ar_space::specs::Change::changing), unfolding(aml_fields::specs::Regions::read_unit))]
+#[tactic(auto, using(ar_space::proofs::Changes::changing), unfolding(aml_fields::specs::Regions::read_unit))]
 fn header_byte<S: Space>(space: &mut S, function: AddressSpace, at: u64) -> Result<u64, Refusal>
     ensures change { Does result space.new (header_byte S.accesses function at) space.old }
     ensures memory { NotMemory result }

@@ -27,7 +27,7 @@ impl<S> WorldState<S> {
     }
 
     /// Declares a name; at module level its parent may be no control method, which is refused as `NotFound`, too.
-    #[tactic(auto, using(ar_space::specs::Change::changing), unfolding(crate::specs::Declaring::new_name))]
+    #[tactic(auto, using(ar_space::proofs::Changes::changing), unfolding(crate::specs::Declaring::new_name))]
     pub fn new_name(
         &mut self,
         alloc: Global,

@@ -24,7 +24,7 @@ use ar_space::{EvaluationFault, NamespaceFault, Refusal, ValueFault};
 impl<S> WorldState<S> {
     /// Tests that what a reference refers to still stands: the name, the frame, the element or the byte. Refused as
     /// `DeadReference`.
-    #[tactic(auto, using(ar_space::specs::Change::changing))]
+    #[tactic(auto, using(ar_space::proofs::Changes::changing))]
     pub fn test_reference(&self, reference: Reference) -> Result<(), Refusal>
         ensures answer { Does result self.now (tested reference) self.now }
         ensures memory { NotMemory result }
@@ -37,7 +37,7 @@ impl<S> WorldState<S> {
         }
     }
 
-    #[tactic(auto, using(ar_space::specs::Change::changing, crate::proofs::Declared::declared), unfolding(crate::specs::StoreTargets::name_tested))]
+    #[tactic(auto, using(ar_space::proofs::Changes::changing, crate::proofs::Declared::declared), unfolding(crate::specs::StoreTargets::name_tested))]
     pub(crate) fn test_name(&self, number: u64) -> Result<(), Refusal>
         ensures answer { Does result self.now (name_tested number) self.now }
         ensures memory { NotMemory result }
@@ -46,7 +46,7 @@ impl<S> WorldState<S> {
         Ok(())
     }
 
-    #[tactic(auto, using(ar_space::specs::Change::changing), unfolding(crate::specs::StoreTargets::frame_tested))]
+    #[tactic(auto, using(ar_space::proofs::Changes::changing), unfolding(crate::specs::StoreTargets::frame_tested))]
     fn test_frame(&self, number: u64) -> Result<(), Refusal>
         ensures answer { Does result self.now (frame_tested number) self.now }
         ensures memory { NotMemory result }
@@ -55,7 +55,7 @@ impl<S> WorldState<S> {
         Ok(())
     }
 
-    #[tactic(auto, using(ar_space::specs::Change::changing), unfolding(crate::specs::StoreTargets::byte_tested))]
+    #[tactic(auto, using(ar_space::proofs::Changes::changing), unfolding(crate::specs::StoreTargets::byte_tested))]
     fn test_byte(&self, object: u32, index: usize) -> Result<(), Refusal>
         ensures answer { Does result self.now (byte_tested object index) self.now }
         ensures memory { NotMemory result }
@@ -67,7 +67,7 @@ impl<S> WorldState<S> {
     /// What a reference refers to, one step on: a value, or a field, whose bits are read next. A name that holds no
     /// value is a reference to it again. Refused: what is gone as `DeadReference`, what is uninitialized as
     /// `NoValue`, and a name in a package that isn't found as `NotFound`.
-    #[tactic(auto, using(ar_space::specs::Change::changing))]
+    #[tactic(auto, using(ar_space::proofs::Changes::changing))]
     pub fn dereference(&self, reference: Reference) -> Result<Held, Refusal>
         ensures answer { Does result self.now (dereferenced reference) self.now }
         ensures memory { NotMemory result }
@@ -80,7 +80,7 @@ impl<S> WorldState<S> {
         }
     }
 
-    #[tactic(auto, using(ar_space::specs::Change::changing, crate::proofs::Declared::declared), unfolding(crate::specs::StoreTargets::declared_once))]
+    #[tactic(auto, using(ar_space::proofs::Changes::changing, crate::proofs::Declared::declared), unfolding(crate::specs::StoreTargets::declared_once))]
     fn declared_once(&self, number: u64) -> Result<Held, Refusal>
         ensures answer { Does result self.now (declared_once number) self.now }
         ensures memory { NotMemory result }
@@ -89,7 +89,7 @@ impl<S> WorldState<S> {
         Ok(once(number, &entry.object))
     }
 
-    #[tactic(auto, using(ar_space::specs::Change::changing), unfolding(crate::specs::StoreTargets::value_once))]
+    #[tactic(auto, using(ar_space::proofs::Changes::changing), unfolding(crate::specs::StoreTargets::value_once))]
     fn value_once(&self, value: Value) -> Result<Held, Refusal>
         ensures answer { Does result self.now (value_once value) self.now }
         ensures memory { NotMemory result }
@@ -98,7 +98,7 @@ impl<S> WorldState<S> {
         Ok(Held::Value(value))
     }
 
-    #[tactic(auto, using(ar_space::specs::Change::changing), unfolding(crate::specs::StoreTargets::slot_once))]
+    #[tactic(auto, using(ar_space::proofs::Changes::changing), unfolding(crate::specs::StoreTargets::slot_once))]
     fn slot_once(&self, number: u64, slot: Slot) -> Result<Held, Refusal>
         ensures answer { Does result self.now (slot_once number slot) self.now }
         ensures memory { NotMemory result }
@@ -108,7 +108,7 @@ impl<S> WorldState<S> {
         self.value_once(value)
     }
 
-    #[tactic(auto, using(ar_space::specs::Change::changing), unfolding(crate::specs::StoreTargets::held_once))]
+    #[tactic(auto, using(ar_space::proofs::Changes::changing), unfolding(crate::specs::StoreTargets::held_once))]
     fn held_once(&self, object: u32, index: usize) -> Result<Held, Refusal>
         ensures answer { Does result self.now (held_once object index) self.now }
         ensures memory { NotMemory result }
@@ -117,7 +117,7 @@ impl<S> WorldState<S> {
         self.element_once(element)
     }
 
-    #[tactic(auto, using(ar_space::specs::Change::changing))]
+    #[tactic(auto, using(ar_space::proofs::Changes::changing))]
     fn element_once(&self, element: &Element) -> Result<Held, Refusal>
         ensures answer { Does result self.now (element_once element.now) self.now }
         ensures memory { NotMemory result }
@@ -128,7 +128,7 @@ impl<S> WorldState<S> {
         }
     }
 
-    #[tactic(auto, using(ar_space::specs::Change::changing), unfolding(crate::specs::StoreTargets::name_once))]
+    #[tactic(auto, using(ar_space::proofs::Changes::changing), unfolding(crate::specs::StoreTargets::name_once))]
     fn name_once(&self, name: &NameString, scope: &Path) -> Result<Held, Refusal>
         ensures answer { Does result self.now (name_once name.now scope.now) self.now }
         ensures memory { NotMemory result }
@@ -137,7 +137,7 @@ impl<S> WorldState<S> {
         Ok(named_once(entry.number, &entry.object))
     }
 
-    #[tactic(auto, using(ar_space::specs::Change::changing), unfolding(crate::specs::StoreTargets::byte_once))]
+    #[tactic(auto, using(ar_space::proofs::Changes::changing), unfolding(crate::specs::StoreTargets::byte_once))]
     fn byte_once(&self, object: u32, index: usize) -> Result<Held, Refusal>
         ensures answer { Does result self.now (byte_once object index) self.now }
         ensures memory { NotMemory result }
@@ -147,7 +147,7 @@ impl<S> WorldState<S> {
     }
 
     /// A reference to what a target names; Debug has none, which is refused as `WrongType`.
-    #[tactic(auto, using(ar_space::specs::Change::changing))]
+    #[tactic(auto, using(ar_space::proofs::Changes::changing))]
     pub fn reference_of(&self, target: &StoreTarget) -> Result<Reference, Refusal>
         ensures answer { Does result self.now (reference_of target.now) self.now }
         ensures memory { NotMemory result }
@@ -160,7 +160,7 @@ impl<S> WorldState<S> {
         }
     }
 
-    #[tactic(auto, using(ar_space::specs::Change::changing), unfolding(crate::specs::StoreTargets::slot_reference))]
+    #[tactic(auto, using(ar_space::proofs::Changes::changing), unfolding(crate::specs::StoreTargets::slot_reference))]
     fn slot_reference(&self, slot: Slot) -> Result<Reference, Refusal>
         ensures answer { Does result self.now (slot_reference slot) self.now }
         ensures memory { NotMemory result }
@@ -182,7 +182,7 @@ impl<S> WorldState<S> {
         }
     }
 
-    #[tactic(auto, using(ar_space::specs::Change::changing), unfolding(crate::specs::StoreTargets::name_reference))]
+    #[tactic(auto, using(ar_space::proofs::Changes::changing), unfolding(crate::specs::StoreTargets::name_reference))]
     fn name_reference(&self, path: &Located) -> Result<Reference, Refusal>
         ensures answer { Does result self.now (name_reference path.now) self.now }
         ensures memory { NotMemory result }
@@ -205,7 +205,7 @@ impl<S> WorldState<S> {
 
     /// A reference, unless it refers to a slot or an element that holds no value yet. Refused as `DeadReference`
     /// where what it refers to is gone.
-    #[tactic(auto, using(ar_space::specs::Change::changing))]
+    #[tactic(auto, using(ar_space::proofs::Changes::changing))]
     pub fn if_initialized(&self, reference: Reference) -> Result<Option<Reference>, Refusal>
         ensures answer { Does result self.now (if_initialized reference) self.now }
         ensures memory { NotMemory result }
@@ -218,7 +218,7 @@ impl<S> WorldState<S> {
         }
     }
 
-    #[tactic(auto, using(ar_space::specs::Change::changing), unfolding(crate::specs::StoreTargets::slot_initialized))]
+    #[tactic(auto, using(ar_space::proofs::Changes::changing), unfolding(crate::specs::StoreTargets::slot_initialized))]
     fn slot_initialized(&self, number: u64, slot: Slot) -> Result<Option<Reference>, Refusal>
         ensures answer { Does result self.now (slot_initialized number slot) self.now }
         ensures memory { NotMemory result }
@@ -228,7 +228,7 @@ impl<S> WorldState<S> {
         Ok(unless_empty(value, Reference::Slot(slot, number)))
     }
 
-    #[tactic(auto, using(ar_space::specs::Change::changing), unfolding(crate::specs::StoreTargets::element_initialized))]
+    #[tactic(auto, using(ar_space::proofs::Changes::changing), unfolding(crate::specs::StoreTargets::element_initialized))]
     fn element_initialized(&self, object: u32, index: usize) -> Result<Option<Reference>, Refusal>
         ensures answer { Does result self.now (element_initialized object index) self.now }
         ensures memory { NotMemory result }

@@ -19,7 +19,7 @@ impl<S> WorldState<S> {
     /// The number of the declaration that a target names: a name, the name that a reference refers to, or the one
     /// that an argument refers to. None where it names something else; a reference to a name that is gone is refused
     /// as `DeadReference`.
-    #[tactic(auto, using(ar_space::specs::Change::changing))]
+    #[tactic(auto, using(ar_space::proofs::Changes::changing))]
     pub fn event_named(&self, target: &StoreTarget) -> Result<Option<u64>, Refusal>
         ensures answer { Does result self.now (event_named target.now) self.now }
         ensures memory { NotMemory result }
@@ -34,7 +34,7 @@ impl<S> WorldState<S> {
 
     /// Signal and Reset: the event under a number has one signal more, or none. Refused: what is no event as
     /// `WrongType`, one that is gone as `DeadReference`, and a signal more than 2^64 - 1 as `ObjectLimit`.
-    #[tactic(auto, using(ar_space::specs::Change::changing), unfolding(crate::specs::Events::event_changed))]
+    #[tactic(auto, using(ar_space::proofs::Changes::changing), unfolding(crate::specs::Events::event_changed))]
     pub fn change_event(&mut self, change: EventChange, event: Option<u64>) -> Result<(), Refusal>
         ensures change { Does result self.new (event_changed change event) self.old }
         ensures memory { NotMemory result }
@@ -47,7 +47,7 @@ impl<S> WorldState<S> {
 
     /// Wait: a signal of the event under a number is taken, which gives False; where it has none, True. Refused: what
     /// is no event as `WrongType`, one that is gone as `DeadReference`, and then a timeout that is no integer.
-    #[tactic(auto, using(ar_space::specs::Change::changing), unfolding(crate::specs::Events::waited))]
+    #[tactic(auto, using(ar_space::proofs::Changes::changing), unfolding(crate::specs::Events::waited))]
     pub fn wait(&mut self, event: Option<u64>, timeout: Value) -> Result<Value, Refusal>
         ensures change { Does result self.new (waited event timeout) self.old }
         ensures memory { NotMemory result }
@@ -58,7 +58,7 @@ impl<S> WorldState<S> {
         self.take_signal(number, count)
     }
 
-    #[tactic(auto, using(ar_space::specs::Change::changing))]
+    #[tactic(auto, using(ar_space::proofs::Changes::changing))]
     fn named_by_slot(&self, slot: Slot) -> Result<Option<u64>, Refusal>
         ensures answer { Does result self.now (named_by_slot slot) self.now }
         ensures memory { NotMemory result }
@@ -69,7 +69,7 @@ impl<S> WorldState<S> {
         }
     }
 
-    #[tactic(auto, using(ar_space::specs::Change::changing), unfolding(crate::specs::Events::named_by_argument))]
+    #[tactic(auto, using(ar_space::proofs::Changes::changing), unfolding(crate::specs::Events::named_by_argument))]
     fn named_by_argument(&self, index: u8) -> Result<Option<u64>, Refusal>
         ensures answer { Does result self.now (named_by_argument index) self.now }
         ensures memory { NotMemory result }
@@ -78,7 +78,7 @@ impl<S> WorldState<S> {
         self.named_by_value(value)
     }
 
-    #[tactic(auto, using(ar_space::specs::Change::changing))]
+    #[tactic(auto, using(ar_space::proofs::Changes::changing))]
     fn named_by_value(&self, value: Value) -> Result<Option<u64>, Refusal>
         ensures answer { Does result self.now (named_by_value value) self.now }
         ensures memory { NotMemory result }
@@ -93,7 +93,7 @@ impl<S> WorldState<S> {
         }
     }
 
-    #[tactic(auto, using(ar_space::specs::Change::changing))]
+    #[tactic(auto, using(ar_space::proofs::Changes::changing))]
     fn named_by_reference(&self, reference: Reference) -> Result<Option<u64>, Refusal>
         ensures answer { Does result self.now (named_by_reference reference) self.now }
         ensures memory { NotMemory result }
@@ -104,7 +104,7 @@ impl<S> WorldState<S> {
         }
     }
 
-    #[tactic(auto, using(ar_space::specs::Change::changing), unfolding(crate::specs::Events::name_referred))]
+    #[tactic(auto, using(ar_space::proofs::Changes::changing), unfolding(crate::specs::Events::name_referred))]
     fn name_referred(&self, number: u64) -> Result<Option<u64>, Refusal>
         ensures answer { Does result self.now (name_referred number) self.now }
         ensures memory { NotMemory result }
@@ -113,7 +113,7 @@ impl<S> WorldState<S> {
         Ok(Some(number))
     }
 
-    #[tactic(auto, using(ar_space::specs::Change::changing), unfolding(crate::specs::Events::name_at))]
+    #[tactic(auto, using(ar_space::proofs::Changes::changing), unfolding(crate::specs::Events::name_at))]
     fn name_at(&self, path: &Located) -> Result<Option<u64>, Refusal>
         ensures answer { Does result self.now (name_at path.now) self.now }
         ensures memory { NotMemory result }
@@ -123,7 +123,7 @@ impl<S> WorldState<S> {
     }
 
     /// How many signals the event under a number has.
-    #[tactic(auto, using(ar_space::specs::Change::changing, crate::proofs::Declared::declared), unfolding(crate::specs::Events::signals_under))]
+    #[tactic(auto, using(ar_space::proofs::Changes::changing, crate::proofs::Declared::declared), unfolding(crate::specs::Events::signals_under))]
     fn signals_under(&self, number: u64) -> Result<u64, Refusal>
         ensures answer { Does result self.now (signals_under number) self.now }
         ensures memory { NotMemory result }
@@ -133,7 +133,7 @@ impl<S> WorldState<S> {
     }
 
     /// Puts so many signals to the event under a number. It takes no memory.
-    #[tactic(auto, using(ar_space::specs::Change::changing, crate::proofs::Declared::declared), unfolding(crate::specs::Events::put_signals))]
+    #[tactic(auto, using(ar_space::proofs::Changes::changing, crate::proofs::Declared::declared), unfolding(crate::specs::Events::put_signals))]
     fn put_signals(&mut self, number: u64, count: u64) -> Result<(), Refusal>
         ensures change { Does result self.new (put_signals number count) self.old }
         ensures memory { NotMemory result }
@@ -144,7 +144,7 @@ impl<S> WorldState<S> {
         Ok(())
     }
 
-    #[tactic(auto, using(ar_space::specs::Change::changing))]
+    #[tactic(auto, using(ar_space::proofs::Changes::changing))]
     fn take_signal(&mut self, number: u64, count: u64) -> Result<Value, Refusal>
         ensures change { Does result self.new (taken_or_not number count) self.old }
         ensures memory { NotMemory result }
@@ -155,7 +155,7 @@ impl<S> WorldState<S> {
         self.signal_taken(number, count - 1)
     }
 
-    #[tactic(auto, using(ar_space::specs::Change::changing), unfolding(crate::specs::Events::signal_taken))]
+    #[tactic(auto, using(ar_space::proofs::Changes::changing), unfolding(crate::specs::Events::signal_taken))]
     fn signal_taken(&mut self, number: u64, fewer: u64) -> Result<Value, Refusal>
         ensures change { Does result self.new (signal_taken number fewer) self.old }
         ensures memory { NotMemory result }

@@ -1,4 +1,4 @@
-//! Declarations of fields (ACPI 6.5, 19.6: Field, IndexField; 20.2.5.2: FieldFlags, FieldList).
+//! Declarations of fields (ACPI 6.5, 19.6: Field, IndexField, BankField; 20.2.5.2: FieldFlags, FieldList).
 ghost use Rattle.std.specs.Prelude.{◌≡◌};
 ghost use Rattle.ar_space.specs.Change.{Does};
 ghost use Rattle.ar_space.specs.Outcome.{Answers, NotMemory};
@@ -94,7 +94,7 @@ impl<S> WorldState<S> {
     ///
     /// A field of no bits, or of more than 8,388,608, is refused as `FieldLimit`, and its name as `new_name` refuses
     /// it.
-    #[tactic(auto, using(ar_space::specs::Change::changing), unfolding(crate::specs::FieldTerms::new_field))]
+    #[tactic(auto, using(ar_space::proofs::Changes::changing), unfolding(crate::specs::FieldTerms::new_field))]
     pub fn new_field(
         &mut self,
         alloc: Global,
@@ -120,7 +120,7 @@ impl<S> WorldState<S> {
 
     /// The number of the declaration of the operation region that a name finds; anything else is refused as
     /// `WrongType`, and a name that isn't found as `Names::lookup` refuses it.
-    #[tactic(auto, using(ar_space::specs::Change::changing), unfolding(crate::specs::FieldTerms::region_found))]
+    #[tactic(auto, using(ar_space::proofs::Changes::changing), unfolding(crate::specs::FieldTerms::region_found))]
     pub fn region_found(&self, scope: Scope<'_>, name: &NameString) -> Result<u64, Refusal>
         ensures answer { Does result self.now (region_found scope.entry.path.now name.now) self.now }
         ensures memory { NotMemory result }
@@ -129,9 +129,9 @@ impl<S> WorldState<S> {
         region_number(entry.number, &entry.object)
     }
 
-    /// The number of the declaration of the field that a name finds, which lies in an operation region; anything else
-    /// is refused as `WrongType`, and a name that isn't found as `Names::lookup` refuses it.
-    #[tactic(auto, using(ar_space::specs::Change::changing), unfolding(crate::specs::FieldTerms::field_found))]
+    /// The number of the declaration of the field that a name finds, which Field declared; anything else is refused
+    /// as `WrongType`, and a name that isn't found as `Names::lookup` refuses it.
+    #[tactic(auto, using(ar_space::proofs::Changes::changing), unfolding(crate::specs::FieldTerms::field_found))]
     pub fn field_found(&self, scope: Scope<'_>, name: &NameString) -> Result<u64, Refusal>
         ensures answer { Does result self.now (field_found scope.entry.path.now name.now) self.now }
         ensures memory { NotMemory result }
@@ -142,7 +142,7 @@ impl<S> WorldState<S> {
 
     /// The buffer that a name in a Connection finds; anything else is refused as `WrongType`, and a name that isn't
     /// found as `Names::lookup` refuses it.
-    #[tactic(auto, using(ar_space::specs::Change::changing), unfolding(crate::specs::FieldTerms::connection_found))]
+    #[tactic(auto, using(ar_space::proofs::Changes::changing), unfolding(crate::specs::FieldTerms::connection_found))]
     pub fn connection_found(&self, scope: Scope<'_>, name: &NameString) -> Result<u32, Refusal>
         ensures answer { Does result self.now (connection_found scope.entry.path.now name.now) self.now }
         ensures memory { NotMemory result }
@@ -201,5 +201,6 @@ fn in_region(number: u64, source: FieldSource) -> Result<u64, Refusal>
     match source {
         FieldSource::Region(_) => Ok(number),
         FieldSource::Index(_, _) => Err(Refusal::Value(ValueFault::WrongType)),
+        FieldSource::Bank(_, _) => Err(Refusal::Value(ValueFault::WrongType)),
     }
 }

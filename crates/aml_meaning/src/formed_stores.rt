@@ -16,7 +16,7 @@ impl<S> WorldState<S> {
     /// Stores what an explicit conversion formed to a target. It is not converted again: a name that holds an
     /// integer, a string or a buffer of another type holds a copy after it. Anything else is as `store` has it.
     #[inline(never)]
-    #[tactic(auto, using(ar_space::specs::Change::changing))]
+    #[tactic(auto, using(ar_space::proofs::Changes::changing))]
     pub fn store_formed(
         &mut self,
         alloc: Global,
@@ -33,7 +33,7 @@ impl<S> WorldState<S> {
         }
     }
 
-    #[tactic(auto, using(ar_space::specs::Change::changing), unfolding(crate::specs::FormedStores::formed_in_name))]
+    #[tactic(auto, using(ar_space::proofs::Changes::changing), unfolding(crate::specs::FormedStores::formed_in_name))]
     fn formed_in_name(
         &mut self,
         alloc: Global,
@@ -47,7 +47,7 @@ impl<S> WorldState<S> {
     }
 
     /// What a reference refers to.
-    #[tactic(auto, using(ar_space::specs::Change::changing))]
+    #[tactic(auto, using(ar_space::proofs::Changes::changing))]
     fn formed_through(
         &mut self,
         alloc: Global,
@@ -70,7 +70,7 @@ impl<S> WorldState<S> {
         }
     }
 
-    #[tactic(auto, using(ar_space::specs::Change::changing), unfolding(crate::specs::FormedStores::formed_in_declared))]
+    #[tactic(auto, using(ar_space::proofs::Changes::changing), unfolding(crate::specs::FormedStores::formed_in_declared))]
     fn formed_in_declared(
         &mut self,
         alloc: Global,
@@ -84,7 +84,7 @@ impl<S> WorldState<S> {
         self.formed_over(alloc, held, &path, value)
     }
 
-    #[tactic(auto, using(ar_space::specs::Change::changing))]
+    #[tactic(auto, using(ar_space::proofs::Changes::changing))]
     fn formed_over(
         &mut self,
         alloc: Global,
@@ -102,7 +102,7 @@ impl<S> WorldState<S> {
     }
 
     /// A name that holds a value: a store that would convert copies.
-    #[tactic(auto, using(ar_space::specs::Change::changing))]
+    #[tactic(auto, using(ar_space::proofs::Changes::changing))]
     fn formed_over_value(
         &mut self,
         alloc: Global,

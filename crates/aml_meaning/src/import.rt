@@ -51,7 +51,7 @@ impl<S> WorldState<S> {
     }
 
     /// A reference to the name at a path.
-    #[tactic(auto, using(ar_space::specs::Change::changing), unfolding(crate::specs::Importing::reference_to))]
+    #[tactic(auto, using(ar_space::proofs::Changes::changing), unfolding(crate::specs::Importing::reference_to))]
     fn reference_to(&self, alloc: Global, path: &Path) -> Result<Value, Refusal>
         ensures { Does result self.now (reference_to path.now) self.now }
     {
@@ -149,7 +149,7 @@ fn import_package<S>(
 }
 
 #[cycle(importing)]
-#[tactic(auto, using(ar_space::specs::Change::changing), unfolding(crate::specs::Importing::elements_imported))]
+#[tactic(auto, using(ar_space::proofs::Changes::changing), unfolding(crate::specs::Importing::elements_imported))]
 fn import_elements<S>(
     alloc: Global,
     world: &WorldState<S>,
@@ -165,7 +165,7 @@ fn import_elements<S>(
 }
 
 #[cycle(importing)]
-#[tactic(auto, using(ar_space::specs::Change::changing))]
+#[tactic(auto, using(ar_space::proofs::Changes::changing))]
 fn import_each<S>(
     alloc: Global,
     world: &WorldState<S>,

@@ -62,7 +62,7 @@ impl<S> WorldState<S> {
 
     /// What the node is that a name finds, where a value stands with so many arguments; refused as `ArityChanged`
     /// where it takes another count.
-    #[tactic(auto, using(ar_space::specs::Change::changing), unfolding(crate::specs::Invocations::use_found))]
+    #[tactic(auto, using(ar_space::proofs::Changes::changing), unfolding(crate::specs::Invocations::use_found))]
     pub fn use_with(&self, alloc: Global, id: NodeId, count: usize) -> Result<Invocation, Refusal>
         ensures { (f : List Segment × Entry) → numbered id.number self.now.names.map ≡ Some f →
             Does result self.now (use_found f count) self.now }

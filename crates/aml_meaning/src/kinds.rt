@@ -224,6 +224,7 @@ fn wide_kind(opcode: Opcode) -> Option<WideKind>
         Opcode::Signal => Some(WideKind::Event(EventChange::Signal)),
         Opcode::Reset => Some(WideKind::Event(EventChange::Reset)),
         Opcode::Wait => Some(WideKind::Wait),
+        Opcode::BankField => Some(WideKind::BankField),
         _ => None,
     }
 }

@@ -2,6 +2,7 @@
 #![tactic(auto)]
 
 mod argument_counts;
+mod banks;
 mod body_marks;
 mod bridges;
 mod buffer_fields;
@@ -27,6 +28,7 @@ mod object_type;
 mod objects;
 mod operations;
 mod osi;
+mod passed_over;
 mod pci_functions;
 mod predefined;
 mod profile;
@@ -59,6 +61,7 @@ pub use invocation::Invocation;
 pub use kinds::{kind_of, target_kind};
 pub use name_use::NameUse;
 pub use object_type::{ObjectType, Referent};
+pub use passed_over::{PassedItem, PassedOver, is_passable};
 pub use pci_functions::{Sought, adr, base_bus, segment_group};
 pub use profile::Profile;
 pub use regions::{RegionField, RegionSpace, integer_only, pci_space, space_numbered};

@@ -23,7 +23,7 @@ impl<S> WorldState<S> {
     /// Acquires the mutex that is named, by a path or by a reference. Refused: a path where nothing stands as
     /// `NotFound`, a reference to a name that is gone as `DeadReference`, anything else that is no mutex as
     /// `WrongType`, and a mutex that is acquired 2^64 - 1 times as `ObjectLimit`.
-    #[tactic(auto, using(ar_space::specs::Change::changing))]
+    #[tactic(auto, using(ar_space::proofs::Changes::changing))]
     pub fn acquire(&mut self, alloc: Global, target: &StoreTarget) -> Result<(), Refusal>
         ensures { Does result self.new (acquired_at target.now) self.old }
     {
@@ -38,7 +38,7 @@ impl<S> WorldState<S> {
     /// Releases the mutex that is named, by a path or by a reference. Refused: a path where nothing stands as
     /// `NotFound`, a reference to a name that is gone as `DeadReference`, anything else that is no mutex as
     /// `WrongType`, and a mutex that nobody has acquired as `NotAcquired`.
-    #[tactic(auto, using(ar_space::specs::Change::changing))]
+    #[tactic(auto, using(ar_space::proofs::Changes::changing))]
     pub fn release(&mut self, alloc: Global, target: &StoreTarget) -> Result<(), Refusal>
         ensures { Does result self.new (given_back_at target.now) self.old }
     {
@@ -51,7 +51,7 @@ impl<S> WorldState<S> {
     }
 
     /// Acquires the mutex that a reference refers to; a reference to anything but a name is refused as `WrongType`.
-    #[tactic(auto, using(ar_space::specs::Change::changing))]
+    #[tactic(auto, using(ar_space::proofs::Changes::changing))]
     fn acquire_by(&mut self, alloc: Global, reference: Reference) -> Result<(), Refusal>
         ensures { Does result self.new (acquired_by reference) self.old }
     {
@@ -63,7 +63,7 @@ impl<S> WorldState<S> {
         }
     }
 
-    #[tactic(auto, using(ar_space::specs::Change::changing), unfolding(crate::specs::Mutexes::acquired_by_number))]
+    #[tactic(auto, using(ar_space::proofs::Changes::changing), unfolding(crate::specs::Mutexes::acquired_by_number))]
     fn acquire_numbered(&mut self, alloc: Global, number: u64) -> Result<(), Refusal>
         ensures { Does result self.new (acquired_by_number number) self.old }
     {
@@ -72,7 +72,7 @@ impl<S> WorldState<S> {
     }
 
     /// Releases the mutex that a reference refers to; a reference to anything but a name is refused as `WrongType`.
-    #[tactic(auto, using(ar_space::specs::Change::changing))]
+    #[tactic(auto, using(ar_space::proofs::Changes::changing))]
     fn release_by(&mut self, alloc: Global, reference: Reference) -> Result<(), Refusal>
         ensures { Does result self.new (given_back_by reference) self.old }
     {
@@ -84,7 +84,7 @@ impl<S> WorldState<S> {
         }
     }
 
-    #[tactic(auto, using(ar_space::specs::Change::changing), unfolding(crate::specs::Mutexes::given_back_by_number))]
+    #[tactic(auto, using(ar_space::proofs::Changes::changing), unfolding(crate::specs::Mutexes::given_back_by_number))]
     fn release_numbered(&mut self, alloc: Global, number: u64) -> Result<(), Refusal>
         ensures { Does result self.new (given_back_by_number number) self.old }
     {
@@ -92,7 +92,7 @@ impl<S> WorldState<S> {
         self.release_at(&path)
     }
 
-    #[tactic(auto, using(ar_space::specs::Change::changing), unfolding(crate::specs::Mutexes::acquired))]
+    #[tactic(auto, using(ar_space::proofs::Changes::changing), unfolding(crate::specs::Mutexes::acquired))]
     fn acquire_at(&mut self, path: &Located) -> Result<(), Refusal>
         ensures change { Does result self.new (acquired path.now) self.old }
         ensures memory { NotMemory result }
@@ -102,7 +102,7 @@ impl<S> WorldState<S> {
         self.put_count(path, more)
     }
 
-    #[tactic(auto, using(ar_space::specs::Change::changing), unfolding(crate::specs::Mutexes::given_back))]
+    #[tactic(auto, using(ar_space::proofs::Changes::changing), unfolding(crate::specs::Mutexes::given_back))]
     fn release_at(&mut self, path: &Located) -> Result<(), Refusal>
         ensures change { Does result self.new (given_back path.now) self.old }
         ensures memory { NotMemory result }

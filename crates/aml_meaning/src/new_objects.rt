@@ -19,7 +19,7 @@ const MAX_ELEMENTS: u64 = 65_535;
 impl<S> WorldState<S> {
     /// A new buffer as long as its size says, or as its bytes where they are more, zero-filled; refused as
     /// `ObjectLimit` where it is too long, or one object too many.
-    #[tactic(auto, using(ar_space::specs::Change::changing), unfolding(crate::specs::NewObjects::new_buffer))]
+    #[tactic(auto, using(ar_space::proofs::Changes::changing), unfolding(crate::specs::NewObjects::new_buffer))]
     pub fn new_buffer(&mut self, size: u64, bytes: Octets) -> Result<Value, Refusal>
         ensures { Does result self.new (new_buffer size bytes) self.old }
     {

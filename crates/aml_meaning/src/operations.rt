@@ -29,7 +29,7 @@ use std::alloc::Global;
 impl<S> WorldState<S> {
     /// What an operator gives of two values. Both are converted first, from left to right, and refused as that is.
     #[inline(never)]
-    #[tactic(auto, using(ar_space::specs::Change::changing))]
+    #[tactic(auto, using(ar_space::proofs::Changes::changing))]
     pub fn operate_on_two(
         &mut self,
         alloc: Global,
@@ -49,7 +49,7 @@ impl<S> WorldState<S> {
 
     /// What an operator gives of a value, converted first and refused as that is.
     #[inline(never)]
-    #[tactic(auto, using(ar_space::specs::Change::changing))]
+    #[tactic(auto, using(ar_space::proofs::Changes::changing))]
     pub fn operate_on_one(
         &mut self,
         alloc: Global,
@@ -68,7 +68,7 @@ impl<S> WorldState<S> {
     /// Whether a test holds of two values: True or False. Both are converted to integers first, or, where they are
     /// compared, the second to the type of the first, and refused as that is.
     #[inline(never)]
-    #[tactic(auto, using(ar_space::specs::Change::changing))]
+    #[tactic(auto, using(ar_space::proofs::Changes::changing))]
     pub fn test(
         &self,
         alloc: Global,
@@ -86,7 +86,7 @@ impl<S> WorldState<S> {
 
     /// The quotient and the remainder of two values; a divisor of 0 is refused as `DivideByZero`.
     #[inline(never)]
-    #[tactic(auto, using(ar_space::specs::Change::changing), unfolding(crate::specs::Operations::divided_in))]
+    #[tactic(auto, using(ar_space::proofs::Changes::changing), unfolding(crate::specs::Operations::divided_in))]
     pub fn divide(&self, first: Value, second: Value) -> Result<Division, Refusal>
         ensures answer { Does result self.now (divided_in first second) self.now }
         ensures memory { NotMemory result }
@@ -97,7 +97,7 @@ impl<S> WorldState<S> {
     }
 
     /// True where a value is 0, converted to an integer first and refused as that is.
-    #[tactic(auto, using(ar_space::specs::Change::changing), unfolding(crate::specs::Operations::turned))]
+    #[tactic(auto, using(ar_space::proofs::Changes::changing), unfolding(crate::specs::Operations::turned))]
     pub fn logical_not(&self, value: Value) -> Result<Value, Refusal>
         ensures answer { Does result self.now (turned value) self.now }
         ensures memory { NotMemory result }
@@ -107,7 +107,7 @@ impl<S> WorldState<S> {
     }
 
     /// The next integer, or the one before.
-    #[tactic(auto, using(ar_space::specs::Change::changing))]
+    #[tactic(auto, using(ar_space::proofs::Changes::changing))]
     pub fn count(&self, count: Count, number: u64) -> Result<Value, Refusal>
         ensures answer { Does result self.now (counted_by count number) self.now }
         ensures memory { NotMemory result }
@@ -133,7 +133,7 @@ impl<S> WorldState<S> {
 
     /// A reference to an element of a package, or to a byte of a string or a buffer. Another source is refused as
     /// `WrongType`, and an index past the end as `IndexLimit`.
-    #[tactic(auto, using(ar_space::specs::Change::changing))]
+    #[tactic(auto, using(ar_space::proofs::Changes::changing))]
     fn index(&self, source: Value, index: Value) -> Result<Value, Refusal>
         ensures answer { Does result self.now (indexed source index) self.now }
         ensures memory { NotMemory result }
@@ -148,7 +148,7 @@ impl<S> WorldState<S> {
         }
     }
 
-    #[tactic(auto, using(ar_space::specs::Change::changing), unfolding(crate::specs::Operations::element_indexed))]
+    #[tactic(auto, using(ar_space::proofs::Changes::changing), unfolding(crate::specs::Operations::element_indexed))]
     fn index_element(&self, object: u32, index: Value) -> Result<Value, Refusal>
         ensures answer { Does result self.now (element_indexed object index) self.now }
         ensures memory { NotMemory result }
@@ -158,7 +158,7 @@ impl<S> WorldState<S> {
         below(count, index, Reference::Element(object, index as usize))
     }
 
-    #[tactic(auto, using(ar_space::specs::Change::changing), unfolding(crate::specs::Operations::byte_indexed))]
+    #[tactic(auto, using(ar_space::proofs::Changes::changing), unfolding(crate::specs::Operations::byte_indexed))]
     fn index_byte(&self, source: Value, object: u32, index: Value) -> Result<Value, Refusal>
         ensures answer { Does result self.now (byte_indexed source object index) self.now }
         ensures memory { NotMemory result }
@@ -177,7 +177,7 @@ impl<S> WorldState<S> {
         self.size_of_value(value)
     }
 
-    #[tactic(auto, using(ar_space::specs::Change::changing), unfolding(crate::specs::Operations::operated))]
+    #[tactic(auto, using(ar_space::proofs::Changes::changing), unfolding(crate::specs::Operations::operated))]
     fn operate(
         &self,
         operator: BinaryOperator,
@@ -200,7 +200,7 @@ impl<S> WorldState<S> {
         integer(operate(operator, self.width, x, y))
     }
 
-    #[tactic(auto, using(ar_space::specs::Change::changing), unfolding(crate::specs::Operations::operated_on_one))]
+    #[tactic(auto, using(ar_space::proofs::Changes::changing), unfolding(crate::specs::Operations::operated_on_one))]
     fn operate_on_integer(&self, operator: UnaryOperator, value: Value) -> Result<Value, Refusal>
         ensures answer { Does result self.now (operated_on_one operator value) self.now }
         ensures memory { NotMemory result }
@@ -217,7 +217,7 @@ impl<S> WorldState<S> {
         Ok(Value::Integer(operate_on_one(operator, self.width, x)))
     }
 
-    #[tactic(auto, using(ar_space::specs::Change::changing), unfolding(crate::specs::Operations::operated_logically))]
+    #[tactic(auto, using(ar_space::proofs::Changes::changing), unfolding(crate::specs::Operations::operated_logically))]
     fn operate_logically(
         &self,
         operator: LogicalOperator,
@@ -285,7 +285,7 @@ impl<S> WorldState<S> {
         }
     }
 
-    #[tactic(auto, using(ar_space::specs::Change::changing), unfolding(crate::specs::Operations::joined))]
+    #[tactic(auto, using(ar_space::proofs::Changes::changing), unfolding(crate::specs::Operations::joined))]
     fn join(&mut self, alloc: Global, first: Value, second: Value) -> Result<Value, Refusal>
         ensures { Does result self.new (joined first second) self.old }
     {
@@ -314,7 +314,7 @@ impl<S> WorldState<S> {
         }
     }
 
-    #[tactic(auto, using(ar_space::specs::Change::changing), unfolding(crate::specs::Operations::joined_resources))]
+    #[tactic(auto, using(ar_space::proofs::Changes::changing), unfolding(crate::specs::Operations::joined_resources))]
     fn join_resources(
         &mut self,
         alloc: Global,
@@ -342,7 +342,7 @@ impl<S> WorldState<S> {
         integer(explicit_integer(self.width, self.heap.content(value)))
     }
 
-    #[tactic(auto, using(ar_space::specs::Change::changing))]
+    #[tactic(auto, using(ar_space::proofs::Changes::changing))]
     fn to_buffer(&mut self, alloc: Global, value: Value) -> Result<Value, Refusal>
         ensures { Does result self.new (to_buffer_in value) self.old }
     {
@@ -356,7 +356,7 @@ impl<S> WorldState<S> {
         }
     }
 
-    #[tactic(auto, using(ar_space::specs::Change::changing), unfolding(crate::specs::Operations::new_buffer_of))]
+    #[tactic(auto, using(ar_space::proofs::Changes::changing), unfolding(crate::specs::Operations::new_buffer_of))]
     fn new_buffer_of(&mut self, alloc: Global, value: Value) -> Result<Value, Refusal>
         ensures { Does result self.new (new_buffer_of value) self.old }
     {

@@ -30,7 +30,7 @@ pub enum Sought {
 }
 
 /// The name of a device's address.
-#[tactic(auto, using(aml_path::specs::Segments::same_seg))]
+#[tactic(auto, using(aml_path::proofs::Segments::same_seg))]
 pub fn adr() -> Seg
     ensures { result ≡ adr }
 {
@@ -38,7 +38,7 @@ pub fn adr() -> Seg
 }
 
 /// The name of a device's hardware id.
-#[tactic(auto, using(aml_path::specs::Segments::same_seg))]
+#[tactic(auto, using(aml_path::proofs::Segments::same_seg))]
 fn hid() -> Seg
     ensures { result ≡ hid }
 {
@@ -46,7 +46,7 @@ fn hid() -> Seg
 }
 
 /// The name of a host bridge's PCI segment group.
-#[tactic(auto, using(aml_path::specs::Segments::same_seg))]
+#[tactic(auto, using(aml_path::proofs::Segments::same_seg))]
 pub fn segment_group() -> Seg
     ensures { result ≡ segment_group }
 {
@@ -54,7 +54,7 @@ pub fn segment_group() -> Seg
 }
 
 /// The name of a host bridge's base bus number.
-#[tactic(auto, using(aml_path::specs::Segments::same_seg))]
+#[tactic(auto, using(aml_path::proofs::Segments::same_seg))]
 pub fn base_bus() -> Seg
     ensures { result ≡ base_bus }
 {
@@ -80,7 +80,7 @@ impl<S> WorldState<S> {
 
     /// The device of the PCI function that a scope belongs to: the nearest one with an address. Where there is none,
     /// or in the core profile a bridge stands above it, this is refused as `DeepPci`.
-    #[tactic(auto, using(ar_space::specs::Change::changing), unfolding(crate::specs::PciFunctions::pci_function))]
+    #[tactic(auto, using(ar_space::proofs::Changes::changing), unfolding(crate::specs::PciFunctions::pci_function))]
     pub fn pci_function(&self, alloc: Global, scope: &Path) -> Result<Path, Refusal>
         ensures { Does result self.now (pci_function scope.now) self.now }
     {

@@ -15,7 +15,7 @@ use std::alloc::Global;
 
 impl<S> WorldState<S> {
     /// The predefined names.
-    #[tactic(auto, using(ar_space::specs::Change::changing), unfolding(crate::specs::Predefined::predefined))]
+    #[tactic(auto, using(ar_space::proofs::Changes::changing), unfolding(crate::specs::Predefined::predefined))]
     pub(crate) fn predefine(&mut self, alloc: Global) -> Result<(), Refusal>
         ensures world { Does result self.new predefined self.old }
         ensures space { self.new.space ≡ self.old.space }
@@ -24,7 +24,7 @@ impl<S> WorldState<S> {
         self.predefine_objects(alloc)
     }
 
-    #[tactic(auto, using(ar_space::specs::Change::changing), unfolding(crate::specs::Predefined::predefined_scopes))]
+    #[tactic(auto, using(ar_space::proofs::Changes::changing), unfolding(crate::specs::Predefined::predefined_scopes))]
     fn predefine_scopes(&mut self, alloc: Global) -> Result<(), Refusal>
         ensures world { Does result self.new predefined_scopes self.old }
         ensures space { self.new.space ≡ self.old.space }
@@ -36,7 +36,7 @@ impl<S> WorldState<S> {
         self.at_root(alloc, *b"_TZ_", NamedObject::Scope, 0)
     }
 
-    #[tactic(auto, using(ar_space::specs::Change::changing), unfolding(crate::specs::Predefined::predefined_objects))]
+    #[tactic(auto, using(ar_space::proofs::Changes::changing), unfolding(crate::specs::Predefined::predefined_objects))]
     fn predefine_objects(&mut self, alloc: Global) -> Result<(), Refusal>
         ensures world { Does result self.new predefined_objects self.old }
         ensures space { self.new.space ≡ self.old.space }
@@ -53,7 +53,7 @@ impl<S> WorldState<S> {
     }
 
     /// A name at the root, given by its four characters, and how many arguments it takes.
-    #[tactic(auto, using(ar_space::specs::Change::changing), unfolding(crate::specs::Predefined::at_root))]
+    #[tactic(auto, using(ar_space::proofs::Changes::changing), unfolding(crate::specs::Predefined::at_root))]
     fn at_root(
         &mut self,
         alloc: Global,

@@ -82,7 +82,7 @@ impl<S> WorldState<S> {
 
     /// The path of the scope that a name finds: a predefined scope, a device, a processor, a power resource or a
     /// thermal zone. Anything else is refused as `WrongType` (ACPI 6.5, 19.6, Scope).
-    #[tactic(auto, using(ar_space::specs::Change::changing), unfolding(crate::specs::Readings::scope_found))]
+    #[tactic(auto, using(ar_space::proofs::Changes::changing), unfolding(crate::specs::Readings::scope_found))]
     pub fn locate_scope(
         &self,
         alloc: Global,
@@ -98,7 +98,7 @@ impl<S> WorldState<S> {
 
     /// How many arguments it takes to evaluate what a name finds: those of a control method, none of anything else.
     /// Refused as `Names::lookup` refuses it.
-    #[tactic(auto, using(ar_space::specs::Change::changing), unfolding(crate::specs::Readings::arguments_found))]
+    #[tactic(auto, using(ar_space::proofs::Changes::changing), unfolding(crate::specs::Readings::arguments_found))]
     pub fn arguments(&self, scope: Scope<'_>, name: &NameString) -> Result<u8, Refusal>
         ensures answer { Does result self.now (arguments_found scope.entry.path.now name.now) self.now }
         ensures memory { NotMemory result }

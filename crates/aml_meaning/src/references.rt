@@ -18,7 +18,7 @@ use std::alloc::Global;
 /// Stores a value to a slot of the frame at an index: an argument that holds a reference stands for what that refers
 /// to.
 #[cycle(through)]
-#[tactic(auto, using(ar_space::specs::Change::changing), unfolding(crate::specs::Stores::store_in_frame))]
+#[tactic(auto, using(ar_space::proofs::Changes::changing), unfolding(crate::specs::Stores::store_in_frame))]
 pub(crate) fn store_in_frame<S>(
     alloc: Global,
     world: &mut WorldState<S>,
@@ -34,7 +34,7 @@ pub(crate) fn store_in_frame<S>(
 }
 
 #[cycle(through)]
-#[tactic(auto, using(ar_space::specs::Change::changing))]
+#[tactic(auto, using(ar_space::proofs::Changes::changing))]
 fn store_over_slot<S>(
     alloc: Global,
     world: &mut WorldState<S>,
@@ -76,7 +76,7 @@ pub(crate) fn store_through<S>(
 }
 
 #[cycle(through)]
-#[tactic(auto, using(ar_space::specs::Change::changing))]
+#[tactic(auto, using(ar_space::proofs::Changes::changing))]
 fn store_at_reference<S>(
     alloc: Global,
     world: &mut WorldState<S>,
@@ -97,7 +97,7 @@ fn store_at_reference<S>(
 }
 
 #[cycle(through)]
-#[tactic(auto, using(ar_space::specs::Change::changing), unfolding(crate::specs::Stores::store_in_frame_numbered))]
+#[tactic(auto, using(ar_space::proofs::Changes::changing), unfolding(crate::specs::Stores::store_in_frame_numbered))]
 fn store_in_frame_numbered<S>(
     alloc: Global,
     world: &mut WorldState<S>,
@@ -114,7 +114,7 @@ fn store_in_frame_numbered<S>(
 
 impl<S> WorldState<S> {
     /// The name of a declaration holds a copy of a value from now on.
-    #[tactic(auto, using(ar_space::specs::Change::changing), unfolding(crate::specs::Stores::copy_into_declared))]
+    #[tactic(auto, using(ar_space::proofs::Changes::changing), unfolding(crate::specs::Stores::copy_into_declared))]
     fn copy_into_declared(
         &mut self,
         alloc: Global,
@@ -128,7 +128,7 @@ impl<S> WorldState<S> {
         self.copy_over(alloc, held, &path, value)
     }
 
-    #[tactic(auto, using(ar_space::specs::Change::changing), unfolding(crate::specs::Stores::copy_into_element))]
+    #[tactic(auto, using(ar_space::proofs::Changes::changing), unfolding(crate::specs::Stores::copy_into_element))]
     fn copy_into_element(
         &mut self,
         alloc: Global,
@@ -144,7 +144,7 @@ impl<S> WorldState<S> {
         Ok(Stored::Done)
     }
 
-    #[tactic(auto, using(ar_space::specs::Change::changing), unfolding(crate::specs::Stores::store_byte))]
+    #[tactic(auto, using(ar_space::proofs::Changes::changing), unfolding(crate::specs::Stores::store_byte))]
     fn store_byte(&mut self, object: u32, index: usize, value: Value) -> Result<Stored, Refusal>
         ensures change { Does result self.new (store_byte object index value) self.old }
         ensures memory { NotMemory result }
@@ -156,7 +156,7 @@ impl<S> WorldState<S> {
     }
 
     /// The name of a declaration takes a value, converted to what it holds.
-    #[tactic(auto, using(ar_space::specs::Change::changing), unfolding(crate::specs::Stores::store_in_declared))]
+    #[tactic(auto, using(ar_space::proofs::Changes::changing), unfolding(crate::specs::Stores::store_in_declared))]
     fn store_in_declared(
         &mut self,
         alloc: Global,
@@ -171,7 +171,7 @@ impl<S> WorldState<S> {
     }
 
     /// Stores a value to what a reference refers to, with conversion; an argument that is met on the way takes a copy.
-    #[tactic(auto, using(ar_space::specs::Change::changing))]
+    #[tactic(auto, using(ar_space::proofs::Changes::changing))]
     pub(crate) fn store_to(
         &mut self,
         alloc: Global,

@@ -24,7 +24,7 @@ impl<S> WorldState<S> {
     /// What a target holds when references are followed, at most 64 of them. A field that an element of a package names
     /// is handed back, for its value to be read. A reference to what is gone, and a longer chain, are refused as
     /// `DeadReference`.
-    #[tactic(auto, using(ar_space::specs::Change::changing))]
+    #[tactic(auto, using(ar_space::proofs::Changes::changing))]
     pub fn target_referent(&self, target: &StoreTarget) -> Result<Referent, Refusal>
         ensures answer { Does result self.now (target_referent target.now) self.now }
         ensures memory { NotMemory result }
@@ -45,7 +45,7 @@ impl<S> WorldState<S> {
         value_followed(self, MOST_REFERENCES, value)
     }
 
-    #[tactic(auto, using(ar_space::specs::Change::changing), unfolding(crate::specs::StoreTargets::slot_referent))]
+    #[tactic(auto, using(ar_space::proofs::Changes::changing), unfolding(crate::specs::StoreTargets::slot_referent))]
     fn slot_referent(&self, slot: Slot) -> Result<Referent, Refusal>
         ensures answer { Does result self.now (slot_referent slot) self.now }
         ensures memory { NotMemory result }
@@ -54,7 +54,7 @@ impl<S> WorldState<S> {
         value_followed(self, MOST_REFERENCES, value)
     }
 
-    #[tactic(auto, using(ar_space::specs::Change::changing), unfolding(crate::specs::StoreTargets::name_referent))]
+    #[tactic(auto, using(ar_space::proofs::Changes::changing), unfolding(crate::specs::StoreTargets::name_referent))]
     fn name_referent(&self, path: &Located) -> Result<Referent, Refusal>
         ensures answer { Does result self.now (name_referent path.now) self.now }
         ensures memory { NotMemory result }
@@ -96,7 +96,7 @@ fn referent_of(object: &NamedObject) -> Referent
 }
 
 #[cycle(following)]
-#[tactic(auto, using(ar_space::specs::Change::changing))]
+#[tactic(auto, using(ar_space::proofs::Changes::changing))]
 fn value_followed<S>(
     world: &WorldState<S>,
     levels: usize,
@@ -116,7 +116,7 @@ fn value_followed<S>(
 }
 
 #[cycle(following)]
-#[tactic(auto, using(ar_space::specs::Change::changing))]
+#[tactic(auto, using(ar_space::proofs::Changes::changing))]
 fn referent_followed<S>(
     world: &WorldState<S>,
     levels: usize,
@@ -151,7 +151,7 @@ fn follow<S>(
 }
 
 #[cycle(following)]
-#[tactic(auto, using(ar_space::specs::Change::changing))]
+#[tactic(auto, using(ar_space::proofs::Changes::changing))]
 fn reference_followed<S>(
     world: &WorldState<S>,
     levels: usize,
@@ -169,7 +169,7 @@ fn reference_followed<S>(
 }
 
 #[cycle(following)]
-#[tactic(auto, using(ar_space::specs::Change::changing, crate::proofs::Declared::declared), unfolding(crate::specs::StoreTargets::declared_followed))]
+#[tactic(auto, using(ar_space::proofs::Changes::changing, crate::proofs::Declared::declared), unfolding(crate::specs::StoreTargets::declared_followed))]
 fn declared_followed<S>(
     world: &WorldState<S>,
     levels: usize,
@@ -183,7 +183,7 @@ fn declared_followed<S>(
 }
 
 #[cycle(following)]
-#[tactic(auto, using(ar_space::specs::Change::changing), unfolding(crate::specs::StoreTargets::slot_followed))]
+#[tactic(auto, using(ar_space::proofs::Changes::changing), unfolding(crate::specs::StoreTargets::slot_followed))]
 fn slot_followed<S>(
     world: &WorldState<S>,
     levels: usize,
@@ -199,7 +199,7 @@ fn slot_followed<S>(
 }
 
 #[cycle(following)]
-#[tactic(auto, using(ar_space::specs::Change::changing), unfolding(crate::specs::StoreTargets::held_followed))]
+#[tactic(auto, using(ar_space::proofs::Changes::changing), unfolding(crate::specs::StoreTargets::held_followed))]
 fn held_followed<S>(
     world: &WorldState<S>,
     levels: usize,
@@ -214,7 +214,7 @@ fn held_followed<S>(
 }
 
 #[cycle(following)]
-#[tactic(auto, using(ar_space::specs::Change::changing))]
+#[tactic(auto, using(ar_space::proofs::Changes::changing))]
 fn element_followed<S>(
     world: &WorldState<S>,
     levels: usize,
@@ -230,7 +230,7 @@ fn element_followed<S>(
 }
 
 #[cycle(following)]
-#[tactic(auto, using(ar_space::specs::Change::changing), unfolding(crate::specs::StoreTargets::name_followed))]
+#[tactic(auto, using(ar_space::proofs::Changes::changing), unfolding(crate::specs::StoreTargets::name_followed))]
 fn name_followed<S>(
     world: &WorldState<S>,
     levels: usize,
@@ -247,7 +247,7 @@ fn name_followed<S>(
 /// What the name in an element of a package stands for: the value of its data or of its field, and else a reference
 /// to it.
 #[cycle(following)]
-#[tactic(auto, using(ar_space::specs::Change::changing))]
+#[tactic(auto, using(ar_space::proofs::Changes::changing))]
 fn element_named<S>(
     world: &WorldState<S>,
     levels: usize,
@@ -265,7 +265,7 @@ fn element_named<S>(
     }
 }
 
-#[tactic(auto, using(ar_space::specs::Change::changing), unfolding(crate::specs::StoreTargets::byte_followed))]
+#[tactic(auto, using(ar_space::proofs::Changes::changing), unfolding(crate::specs::StoreTargets::byte_followed))]
 fn byte_followed<S>(world: &WorldState<S>, object: u32, index: usize) -> Result<Referent, Refusal>
     ensures answer { Does result world.now (byte_followed object index) world.now }
     ensures memory { NotMemory result }

@@ -94,7 +94,7 @@ pub fn pci_space(segment: u64, bus: u64, address: u64) -> Result<AddressSpace, R
 impl<S> WorldState<S> {
     /// The operation region with the number of a declaration, and the scope that it was declared in; one that is gone
     /// is refused as `DeadReference`.
-    #[tactic(auto, using(ar_space::specs::Change::changing), unfolding(crate::specs::Regions::region_declared))]
+    #[tactic(auto, using(ar_space::proofs::Changes::changing), unfolding(crate::specs::Regions::region_declared))]
     pub fn region_declared(
         &self,
         alloc: Global,
@@ -108,7 +108,7 @@ impl<S> WorldState<S> {
     }
 
     /// The field unit of a region with the number of a declaration; one that is gone is refused as `DeadReference`.
-    #[tactic(auto, using(ar_space::specs::Change::changing, crate::proofs::Declared::declared), unfolding(crate::specs::Regions::field_declared))]
+    #[tactic(auto, using(ar_space::proofs::Changes::changing, crate::proofs::Declared::declared), unfolding(crate::specs::Regions::field_declared))]
     pub fn field_declared(&self, number: u64) -> Result<RegionField, Refusal>
         ensures answer { Does result self.now (field_declared number) self.now }
         ensures memory { NotMemory result }
@@ -184,7 +184,7 @@ impl<S> WorldState<S> {
         }
     }
 
-    #[tactic(auto, using(ar_space::specs::Change::changing), unfolding(crate::specs::Regions::integer_value))]
+    #[tactic(auto, using(ar_space::proofs::Changes::changing), unfolding(crate::specs::Regions::integer_value))]
     fn integer_value(&self, bytes: &[u8]) -> Result<Value, Refusal>
         ensures answer { Does result self.now (integer_value bytes.now) self.now }
         ensures memory { NotMemory result }
@@ -277,5 +277,6 @@ fn region_field(source: FieldSource, unit: FieldUnit) -> Result<RegionField, Ref
     match source {
         FieldSource::Region(region) => Ok(RegionField { region, unit }),
         FieldSource::Index(_, _) => Err(Refusal::Evaluation(EvaluationFault::DeadReference)),
+        FieldSource::Bank(_, _) => Err(Refusal::Evaluation(EvaluationFault::DeadReference)),
     }
 }

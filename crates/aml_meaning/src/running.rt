@@ -1,5 +1,7 @@
 //! The state of a world, and the steps that are left to evaluation in it.
-ghost use Rattle.std.specs.Prelude.{◌≡◌, ◌≤◌, ◌<◌, OnOk};
+ghost use Rattle.std.specs.Prelude.{◌≡◌, ◌≤◌, ◌<◌, OnOk, IfErr};
+ghost use Rattle.ar_space.specs.declared.refusal.Refusal.TheVariants.{Evaluation};
+ghost use Rattle.ar_space.specs.declared.refusal.EvaluationFault.TheVariants.{OutOfSteps};
 ghost use Rattle.ar_space.specs.Change.{Does};
 ghost use Rattle.ar_space.specs.Outcome.{NotMemory};
 ghost use Rattle.aml_meaning.specs.Run.{charge};
@@ -39,6 +41,7 @@ impl<S> Running<S> {
         ensures does { Does result self.new charge self.old }
         ensures spent { self.new.1 ≤ self.old.1 }
         ensures paid { OnOk result (self.new.1 < self.old.1) }
+        ensures refused { IfErr result (λ e. e ≡ Evaluation OutOfSteps) }
         ensures memory { NotMemory result }
     {
         if self.steps == 0 {

@@ -50,7 +50,7 @@ impl<S> WorldState<S> {
     /// order: what is searched in is a package, the first operator is at most 5 and its object an integer, a string or
     /// a buffer, and so the second ones, else `WrongType`; the start, refused as its conversion to an integer is; and
     /// `IndexLimit` where it isn't below the number of elements.
-    #[tactic(auto, using(ar_space::specs::Change::changing), unfolding(crate::specs::MatchTerms::search_begun))]
+    #[tactic(auto, using(ar_space::proofs::Changes::changing), unfolding(crate::specs::MatchTerms::search_begun))]
     pub fn begin_search(
         &self,
         source: Value,
@@ -77,7 +77,7 @@ impl<S> WorldState<S> {
 
     /// What the element of a package at an index holds: a value, or a field that is read next; nothing where it is
     /// uninitialized, or a name that isn't found.
-    #[tactic(auto, using(ar_space::specs::Change::changing), unfolding(crate::specs::MatchTerms::element_held))]
+    #[tactic(auto, using(ar_space::proofs::Changes::changing), unfolding(crate::specs::MatchTerms::element_held))]
     pub fn element_held(&self, object: u32, index: usize) -> Result<Option<Held>, Refusal>
         ensures answer { Does result self.now (element_held object index) self.now }
         ensures memory { NotMemory result }
@@ -86,7 +86,7 @@ impl<S> WorldState<S> {
         self.held_by(element)
     }
 
-    #[tactic(auto, using(ar_space::specs::Change::changing))]
+    #[tactic(auto, using(ar_space::proofs::Changes::changing))]
     fn held_by(&self, element: &Element) -> Result<Option<Held>, Refusal>
         ensures answer { Does result self.now (held_by element.now) self.now }
         ensures memory { NotMemory result }
@@ -110,7 +110,7 @@ impl<S> WorldState<S> {
     }
 
     /// Whether a value meets both tests of a search.
-    #[tactic(auto, using(ar_space::specs::Change::changing))]
+    #[tactic(auto, using(ar_space::proofs::Changes::changing))]
     pub fn value_meets(&self, alloc: Global, search: &Search, value: Value) -> Result<bool, Refusal>
         ensures { Does result self.now (value_meets search.now value) self.now }
     {

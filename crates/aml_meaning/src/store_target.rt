@@ -45,7 +45,7 @@ pub enum Held {
     Field(Field),
 }
 
-const _: () = prove!(size_of::<Held>() == 56);
+const _: () = prove!(size_of::<Held>() == 64);
 
 /// What a store came to: it is done, or it leads to a field, which is written next.
 #[derive(Clone, Copy, Debug, PartialEq, Eq)]

@@ -27,7 +27,7 @@ impl<S> WorldState<S> {
     /// conversions are refused; one that holds a package takes a copy of a package alone, and one that holds a
     /// reference a copy of anything. Where the target is a field, nothing is stored yet: the caller writes it next.
     /// Other names are refused as `WrongType`. A refused store changes nothing.
-    #[tactic(auto, using(ar_space::specs::Change::changing))]
+    #[tactic(auto, using(ar_space::proofs::Changes::changing))]
     pub fn store(
         &mut self,
         alloc: Global,
@@ -47,7 +47,7 @@ impl<S> WorldState<S> {
     /// Stores a copy of a value to a target, without conversion: a name that holds a value holds the copy after it.
     /// Anything else is as `store` has it.
     #[inline(never)]
-    #[tactic(auto, using(ar_space::specs::Change::changing))]
+    #[tactic(auto, using(ar_space::proofs::Changes::changing))]
     pub fn copy_to(
         &mut self,
         alloc: Global,
@@ -66,7 +66,7 @@ impl<S> WorldState<S> {
         }
     }
 
-    #[tactic(auto, using(ar_space::specs::Change::changing), unfolding(crate::specs::Stores::store_in_slot))]
+    #[tactic(auto, using(ar_space::proofs::Changes::changing), unfolding(crate::specs::Stores::store_in_slot))]
     pub(crate) fn store_in_slot(
         &mut self,
         alloc: Global,
@@ -79,7 +79,7 @@ impl<S> WorldState<S> {
         store_in_frame(alloc, self, MOST_REFERENCES, frame, slot, value)
     }
 
-    #[tactic(auto, using(ar_space::specs::Change::changing), unfolding(crate::specs::Stores::store_in_name))]
+    #[tactic(auto, using(ar_space::proofs::Changes::changing), unfolding(crate::specs::Stores::store_in_name))]
     fn store_in_name(
         &mut self,
         alloc: Global,
@@ -92,7 +92,7 @@ impl<S> WorldState<S> {
         self.store_over(alloc, held, path, value)
     }
 
-    #[tactic(auto, using(ar_space::specs::Change::changing), unfolding(crate::specs::Stores::copy_in_name))]
+    #[tactic(auto, using(ar_space::proofs::Changes::changing), unfolding(crate::specs::Stores::copy_in_name))]
     fn copy_in_name(
         &mut self,
         alloc: Global,
@@ -105,7 +105,7 @@ impl<S> WorldState<S> {
         self.copy_over(alloc, held, path, value)
     }
 
-    #[tactic(auto, using(ar_space::specs::Change::changing))]
+    #[tactic(auto, using(ar_space::proofs::Changes::changing))]
     pub(crate) fn store_over(
         &mut self,
         alloc: Global,
@@ -122,7 +122,7 @@ impl<S> WorldState<S> {
         }
     }
 
-    #[tactic(auto, using(ar_space::specs::Change::changing))]
+    #[tactic(auto, using(ar_space::proofs::Changes::changing))]
     pub(crate) fn store_over_value(
         &mut self,
         alloc: Global,
@@ -142,7 +142,7 @@ impl<S> WorldState<S> {
         }
     }
 
-    #[tactic(auto, using(ar_space::specs::Change::changing), unfolding(crate::specs::Stores::store_integer))]
+    #[tactic(auto, using(ar_space::proofs::Changes::changing), unfolding(crate::specs::Stores::store_integer))]
     fn store_integer(&mut self, path: &Located, value: Value) -> Result<Stored, Refusal>
         ensures change { Does result self.new (store_integer path.now value) self.old }
         ensures memory { NotMemory result }
@@ -152,7 +152,7 @@ impl<S> WorldState<S> {
         Ok(Stored::Done)
     }
 
-    #[tactic(auto, using(ar_space::specs::Change::changing), unfolding(crate::specs::Stores::store_text))]
+    #[tactic(auto, using(ar_space::proofs::Changes::changing), unfolding(crate::specs::Stores::store_text))]
     fn store_text(&mut self, alloc: Global, object: u32, value: Value) -> Result<Stored, Refusal>
         ensures { Does result self.new (store_text object value) self.old }
     {
@@ -161,7 +161,7 @@ impl<S> WorldState<S> {
         Ok(Stored::Done)
     }
 
-    #[tactic(auto, using(ar_space::specs::Change::changing), unfolding(crate::specs::Stores::store_bytes))]
+    #[tactic(auto, using(ar_space::proofs::Changes::changing), unfolding(crate::specs::Stores::store_bytes))]
     fn store_bytes(&mut self, alloc: Global, object: u32, value: Value) -> Result<Stored, Refusal>
         ensures { Does result self.new (store_bytes object value) self.old }
     {
@@ -170,7 +170,7 @@ impl<S> WorldState<S> {
         Ok(Stored::Done)
     }
 
-    #[tactic(auto, using(ar_space::specs::Change::changing))]
+    #[tactic(auto, using(ar_space::proofs::Changes::changing))]
     fn store_package(
         &mut self,
         alloc: Global,
@@ -190,7 +190,7 @@ impl<S> WorldState<S> {
     }
 
     /// A name that holds a value holds a copy of another.
-    #[tactic(auto, using(ar_space::specs::Change::changing))]
+    #[tactic(auto, using(ar_space::proofs::Changes::changing))]
     pub(crate) fn copy_over(
         &mut self,
         alloc: Global,
@@ -207,7 +207,7 @@ impl<S> WorldState<S> {
         }
     }
 
-    #[tactic(auto, using(ar_space::specs::Change::changing), unfolding(crate::specs::Stores::copy_into_name))]
+    #[tactic(auto, using(ar_space::proofs::Changes::changing), unfolding(crate::specs::Stores::copy_into_name))]
     pub(crate) fn copy_into_name(
         &mut self,
         alloc: Global,
@@ -231,7 +231,7 @@ impl<S> WorldState<S> {
             .replace_located(path, NamedObject::Data(value))
     }
 
-    #[tactic(auto, using(ar_space::specs::Change::changing), unfolding(crate::specs::Stores::copy_into_slot))]
+    #[tactic(auto, using(ar_space::proofs::Changes::changing), unfolding(crate::specs::Stores::copy_into_slot))]
     pub(crate) fn copy_into_slot(
         &mut self,
         alloc: Global,

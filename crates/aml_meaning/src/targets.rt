@@ -18,7 +18,7 @@ use std::alloc::Global;
 
 impl<S> WorldState<S> {
     /// The target that a name stands for; refused as `Names::locate` refuses it.
-    #[tactic(auto, using(ar_space::specs::Change::changing), unfolding(crate::specs::TargetTerms::target_named))]
+    #[tactic(auto, using(ar_space::proofs::Changes::changing), unfolding(crate::specs::TargetTerms::target_named))]
     pub fn target_named(
         &self,
         alloc: Global,
@@ -80,7 +80,7 @@ impl<S> WorldState<S> {
     }
 
     /// What a slot of the control method that runs holds.
-    #[tactic(auto, using(ar_space::specs::Change::changing), unfolding(crate::specs::StoreTargets::own_slot))]
+    #[tactic(auto, using(ar_space::proofs::Changes::changing), unfolding(crate::specs::StoreTargets::own_slot))]
     pub(crate) fn own_slot(&self, slot: Slot) -> Result<Value, Refusal>
         ensures answer { Does result self.now (own_slot slot) self.now }
         ensures memory { NotMemory result }
@@ -90,7 +90,7 @@ impl<S> WorldState<S> {
     }
 
     /// The value of a local or an argument; one that is uninitialized is refused as `NoValue`.
-    #[tactic(auto, using(ar_space::specs::Change::changing), unfolding(crate::specs::StoreTargets::slot_read))]
+    #[tactic(auto, using(ar_space::proofs::Changes::changing), unfolding(crate::specs::StoreTargets::slot_read))]
     pub fn slot_read(&self, slot: Slot) -> Result<Value, Refusal>
         ensures answer { Does result self.now (slot_read slot) self.now }
         ensures memory { NotMemory result }
@@ -101,7 +101,7 @@ impl<S> WorldState<S> {
 
     /// What a target holds, for what is stored there next. A target that holds no value is refused as `WrongType`,
     /// and an uninitialized slot as `NoValue`.
-    #[tactic(auto, using(ar_space::specs::Change::changing))]
+    #[tactic(auto, using(ar_space::proofs::Changes::changing))]
     pub fn target_read(&self, target: &StoreTarget) -> Result<Held, Refusal>
         ensures answer { Does result self.now (target_read target.now) self.now }
         ensures memory { NotMemory result }
@@ -114,7 +114,7 @@ impl<S> WorldState<S> {
         }
     }
 
-    #[tactic(auto, using(ar_space::specs::Change::changing), unfolding(crate::specs::StoreTargets::held_in_slot))]
+    #[tactic(auto, using(ar_space::proofs::Changes::changing), unfolding(crate::specs::StoreTargets::held_in_slot))]
     fn held_in_slot(&self, slot: Slot) -> Result<Held, Refusal>
         ensures answer { Does result self.now (held_in_slot slot) self.now }
         ensures memory { NotMemory result }
@@ -123,7 +123,7 @@ impl<S> WorldState<S> {
         Ok(Held::Value(value))
     }
 
-    #[tactic(auto, using(ar_space::specs::Change::changing), unfolding(crate::specs::StoreTargets::name_read))]
+    #[tactic(auto, using(ar_space::proofs::Changes::changing), unfolding(crate::specs::StoreTargets::name_read))]
     fn name_read(&self, path: &Located) -> Result<Held, Refusal>
         ensures answer { Does result self.now (name_read path.now) self.now }
         ensures memory { NotMemory result }

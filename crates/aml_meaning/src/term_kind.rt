@@ -156,6 +156,8 @@ pub enum WideKind {
     Event(EventChange),
     /// Wait: an event and a timeout.
     Wait,
+    /// BankField: a region, a field of it, the value that selects a bank, and fields in that bank.
+    BankField,
 }
 
 /// ToDecimalString, ToHexString, FromBCD and ToBCD.

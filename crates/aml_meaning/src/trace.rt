@@ -130,6 +130,14 @@ impl<S> WorldState<S> {
         self.trace.clear(steps);
     }
 
+    /// What was refused is passed over: nothing is told of it.
+    pub(crate) fn forget_trace(&mut self)
+        ensures { self.new ≡ self.old }
+    {
+        let steps = self.trace.steps_left;
+        self.trace.clear(steps);
+    }
+
     /// A list that was being evaluated when evaluation was refused; those around it follow. Where memory for it ran
     /// out, no further place is kept.
     #[cold]

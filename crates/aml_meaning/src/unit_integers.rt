@@ -29,6 +29,7 @@ impl<S> WorldState<S> {
                 Some(entry) => plain_region_of(&entry.object),
             },
             FieldSource::Index(_, _) => None,
+            FieldSource::Bank(_, _) => None,
         }
     }
 }

@@ -35,7 +35,7 @@ impl<S> WorldState<S> {
 
     /// What an explicit conversion gives of a value; it is refused as that is.
     #[inline(never)]
-    #[tactic(auto, using(ar_space::specs::Change::changing))]
+    #[tactic(auto, using(ar_space::proofs::Changes::changing))]
     pub fn convert(
         &mut self,
         alloc: Global,
@@ -54,7 +54,7 @@ impl<S> WorldState<S> {
 
     /// ToString: a new string of the bytes of a value before the first zero, at most as many as are asked for.
     #[inline(never)]
-    #[tactic(auto, using(ar_space::specs::Change::changing), unfolding(crate::specs::WideOperations::string_in))]
+    #[tactic(auto, using(ar_space::proofs::Changes::changing), unfolding(crate::specs::WideOperations::string_in))]
     pub fn to_string(
         &mut self,
         alloc: Global,
@@ -69,7 +69,7 @@ impl<S> WorldState<S> {
 
     /// Mid: a part of a value, from a place on, at most as many bytes as are asked for.
     #[inline(never)]
-    #[tactic(auto, using(ar_space::specs::Change::changing), unfolding(crate::specs::WideOperations::middle_in))]
+    #[tactic(auto, using(ar_space::proofs::Changes::changing), unfolding(crate::specs::WideOperations::middle_in))]
     pub fn middle(
         &mut self,
         alloc: Global,
@@ -83,7 +83,7 @@ impl<S> WorldState<S> {
         self.make_formed(content)
     }
 
-    #[tactic(auto, using(ar_space::specs::Change::changing))]
+    #[tactic(auto, using(ar_space::proofs::Changes::changing))]
     fn to_decimal_string(&mut self, alloc: Global, value: Value) -> Result<Value, Refusal>
         ensures { Does result self.new (decimal_string_in value) self.old }
     {
@@ -99,7 +99,7 @@ impl<S> WorldState<S> {
         }
     }
 
-    #[tactic(auto, using(ar_space::specs::Change::changing), unfolding(crate::specs::WideOperations::new_decimal_string))]
+    #[tactic(auto, using(ar_space::proofs::Changes::changing), unfolding(crate::specs::WideOperations::new_decimal_string))]
     fn new_decimal_string(&mut self, alloc: Global, value: Value) -> Result<Value, Refusal>
         ensures { Does result self.new (new_decimal_string value) self.old }
     {
@@ -114,7 +114,7 @@ impl<S> WorldState<S> {
         to_decimal_string(alloc, self.heap.content(value))
     }
 
-    #[tactic(auto, using(ar_space::specs::Change::changing))]
+    #[tactic(auto, using(ar_space::proofs::Changes::changing))]
     fn to_hexadecimal_string(&mut self, alloc: Global, value: Value) -> Result<Value, Refusal>
         ensures { Does result self.new (hexadecimal_string_in value) self.old }
     {
@@ -130,7 +130,7 @@ impl<S> WorldState<S> {
         }
     }
 
-    #[tactic(auto, using(ar_space::specs::Change::changing), unfolding(crate::specs::WideOperations::new_hexadecimal_string))]
+    #[tactic(auto, using(ar_space::proofs::Changes::changing), unfolding(crate::specs::WideOperations::new_hexadecimal_string))]
     fn new_hexadecimal_string(&mut self, alloc: Global, value: Value) -> Result<Value, Refusal>
         ensures { Does result self.new (new_hexadecimal_string value) self.old }
     {
@@ -145,7 +145,7 @@ impl<S> WorldState<S> {
         to_hexadecimal_string(alloc, self.width, self.heap.content(value))
     }
 
-    #[tactic(auto, using(ar_space::specs::Change::changing), unfolding(crate::specs::WideOperations::decoded_in))]
+    #[tactic(auto, using(ar_space::proofs::Changes::changing), unfolding(crate::specs::WideOperations::decoded_in))]
     fn decode_decimal(&self, value: Value) -> Result<Value, Refusal>
         ensures answer { Does result self.now (decoded_in value) self.now }
         ensures memory { NotMemory result }
@@ -154,7 +154,7 @@ impl<S> WorldState<S> {
         integer(decode_decimal(number))
     }
 
-    #[tactic(auto, using(ar_space::specs::Change::changing), unfolding(crate::specs::WideOperations::coded_in))]
+    #[tactic(auto, using(ar_space::proofs::Changes::changing), unfolding(crate::specs::WideOperations::coded_in))]
     fn code_decimal(&self, value: Value) -> Result<Value, Refusal>
         ensures answer { Does result self.now (coded_in value) self.now }
         ensures memory { NotMemory result }

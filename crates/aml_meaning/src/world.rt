@@ -1,15 +1,19 @@
 //! A world, as callers have it (ACPI 6.5, 5.3 and 5.5).
 ghost use Rattle.std.specs.Prelude.{◌≡◌, ◌≢◌, Ok, Err, IfOk, IfErr};
 ghost use Rattle.ar_space.specs.declared.refusal.Refusal.TheVariants.{OutOfMemory};
+ghost use Rattle.ar_space.specs.Change.{Does};
+ghost use Rattle.aml_meaning.specs.Passing.{passed_over};
 ghost use Rattle.aml_meaning.specs.Predefined.{fresh, fresh_as, predefined};
 ghost use Rattle.aml_meaning.specs.Validity.{is_valid_value};
 
+use crate::passed_over::PassedOver;
 use crate::profile::Profile;
 use crate::running::Running;
 use crate::trace::Trace;
 use crate::world_state::WorldState;
 use aml_namespace::Names;
 use aml_objects::{Octets, Value};
+use aml_path::Path;
 use ar_space::{IntegerWidth, Refusal};
 use std::alloc::Global;
 use std::marker::Model;
@@ -80,9 +84,10 @@ impl<S> World<S> {
         self.running.world.into_space()
     }
 
-    /// The register space, given back, and where the evaluation that was last begun was refused.
-    pub fn into_parts(self) -> (S, Trace)
-        ensures { result.0 ≡ self.space }
+    /// The register space, given back, where the evaluation that was last begun was refused, and what was passed over.
+    pub fn into_parts(self) -> (S, Trace, PassedOver)
+        ensures space { result.0 ≡ self.space }
+        ensures passed { result.2 ≡ self.passed }
     {
         self.running.world.into_parts()
     }
@@ -106,6 +111,18 @@ impl<S> World<S> {
         self.running.world.names()
     }
 
+    /// Passes over a refusal, as `WorldState::pass_over` does.
+    pub fn pass_over(
+        &mut self,
+        alloc: Global,
+        scope: &Path,
+        refusal: Refusal,
+    ) -> Result<(), Refusal>
+        ensures { Does result self.new (passed_over scope.now refusal) self.old }
+    {
+        self.running.world.pass_over(alloc, scope, refusal)
+    }
+
     /// How wide integers are.
     pub fn width(&self) -> IntegerWidth
         ensures { result ≡ self.now.width }
@@ -118,6 +135,13 @@ impl<S> World<S> {
         ensures { result ≡ self.now.profile }
     {
         self.running.world.profile()
+    }
+
+    /// The refusals that were passed over in loading and in initializing; none in the core profile.
+    pub fn passed_over(&self) -> &PassedOver
+        ensures { result.now ≡ self.now.passed }
+    {
+        self.running.world.passed_over()
     }
 
     /// The register space.

@@ -5,6 +5,7 @@ ghost use Rattle.aml_meaning.specs.Predefined.{fresh_as, predefined};
 
 use crate::frame::Frame;
 use crate::known_names::Declarations;
+use crate::passed_over::PassedOver;
 use crate::profile::Profile;
 use crate::trace::Trace;
 use aml_namespace::Names;
@@ -15,8 +16,8 @@ use std::marker::Model;
 
 /// The state of a world: what evaluation changes, the register space among it: the namespace, how many arguments its
 /// names take, the objects, the frames of the calls in progress with the number of the next one, the texts that
-/// `_OSI` knows, how wide integers are, and the profile. Beside them stands where evaluation was refused last, which no
-/// contract sees.
+/// `_OSI` knows, how wide integers are, the profile, and what was passed over. Beside them stands where evaluation was
+/// refused last, which no contract sees.
 #[derive(Drop)]
 pub struct WorldState<S> {
     pub(crate) declarations: Declarations,
@@ -27,6 +28,7 @@ pub struct WorldState<S> {
     pub(crate) osi: Vec<Octets>,
     pub(crate) width: IntegerWidth,
     pub(crate) profile: Profile,
+    pub(crate) passed: PassedOver,
     pub(crate) trace: Trace,
 }
 
@@ -37,7 +39,7 @@ impl<S> Model for WorldState<S> {
 
     ghost coded = { state_code S.code };
 
-    ghost view = { λ w. record { names = w.declarations.names; arities = w.declarations.arities; objects = w.heap; frames = w.frames.items; started = w.started; space = w.space; osi = w.osi.items; width = w.width; profile = w.profile } };
+    ghost view = { λ w. record { names = w.declarations.names; arities = w.declarations.arities; objects = w.heap; frames = w.frames.items; started = w.started; space = w.space; osi = w.osi.items; width = w.width; profile = w.profile; passed = w.passed } };
 }
 
 impl<S> WorldState<S> {
@@ -68,6 +70,7 @@ impl<S> WorldState<S> {
             osi,
             width,
             profile,
+            passed: PassedOver::new(alloc),
             trace: Trace::new(alloc),
         };
         match world.predefine(alloc) {
@@ -83,11 +86,12 @@ impl<S> WorldState<S> {
         self.space
     }
 
-    /// The register space, and where evaluation was refused.
-    pub(crate) fn into_parts(self) -> (S, Trace)
-        ensures { result.0 ≡ self.space }
+    /// The register space, where evaluation was refused, and what was passed over.
+    pub(crate) fn into_parts(self) -> (S, Trace, PassedOver)
+        ensures space { result.0 ≡ self.space }
+        ensures passed { result.2 ≡ self.passed }
     {
-        (self.space, self.trace)
+        (self.space, self.trace, self.passed)
     }
 
     /// Other texts that `_OSI` knows, in place of those before (ACPI 6.5, 5.7.2). It takes no memory.

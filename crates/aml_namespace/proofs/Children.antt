@@ -13,7 +13,8 @@ use Rattle.std.specs.FinMap.{keys, contains_key-keys, IsAntisymmetric}
 use Rattle.std.specs.BTreeMap.{is_at}
 use Rattle.std.specs.Map.{lookup, keys_of}
 use Rattle.aml_path.specs.declared.segment.Seg.{Seg}
-use Rattle.aml_path.specs.Segments.{seg_cmp, seg_cmp_exact}
+use Rattle.aml_path.specs.Segments.{seg_cmp}
+use Rattle.aml_path.proofs.Segments.{seg_cmp_exact}
 use Rattle.aml_path.specs.Paths.{path_cmp}
 use Rattle.aml_objects.specs.declared.node.NodeId.{NodeId}
 use Rattle.aml_namespace.specs.Walks.{child_of, children, Ascending}

@@ -13,7 +13,8 @@ use Rattle.std.specs.Cmp.{IsTotalOrder, nat_cmp_is, eq_by_cmp_equiv, nat_cmp_tot
 use Rattle.std.specs.Cmp.Rules.{comparing}
 use Rattle.std.specs.FinMap.{nat_cmp-IsAntisymmetric}
 use Rattle.aml_path.specs.declared.segment.Seg.{Seg}
-use Rattle.aml_path.specs.Segments.{seg_cmp, seg_cmp_exact}
+use Rattle.aml_path.specs.Segments.{seg_cmp}
+use Rattle.aml_path.proofs.Segments.{seg_cmp_exact}
 use Rattle.aml_namespace.specs.Tree.{index_cmp}
 
 pub seg_total : IsTotalOrder seg_cmp

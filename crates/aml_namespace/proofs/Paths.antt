@@ -10,7 +10,7 @@ use Rattle.std.specs.Cmp.Rules.{comparing}
 use Rattle.std.proofs.Common.{rules}
 use Rattle.std.specs.FinMap.{get, entries, get-entries, get-from_entries, find, IsAntisymmetric, slice_cmp-IsAntisymmetric}
 use Rattle.aml_path.specs.declared.segment.Seg.{Seg}
-use Rattle.aml_path.specs.Segments.{seg_cmp_exact}
+use Rattle.aml_path.proofs.Segments.{seg_cmp_exact}
 use Rattle.aml_path.specs.Paths.{path_cmp}
 use Rattle.aml_namespace.specs.declared.node.Node.{Node}
 use Rattle.aml_namespace.specs.Nodes.{NodeMap}

@@ -4,7 +4,7 @@ use Rattle.std.proofs.lemmas.List.{drop_more}
 use Rattle.std.proofs.lemmas.Bool.{eqb-true}
 use Rattle.std.specs.Cmp.Lexicographic.{pointwise}
 use Rattle.aml_path.specs.declared.segment.Seg.{Seg}
-use Rattle.aml_path.specs.Segments.{same_seg}
+use Rattle.aml_path.proofs.Segments.{same_seg}
 use Rattle.aml_namespace.specs.Namespace.{Map, numbered}
 use Rattle.aml_namespace.specs.Search.{Found, IsParent}
 

@@ -31,7 +31,7 @@ impl Heap {
 }
 
 #[cycle(copies)]
-#[tactic(auto, using(ar_space::specs::Change::changing), unfolding(crate::specs::Copies::value_copy))]
+#[tactic(auto, using(ar_space::proofs::Changes::changing), unfolding(crate::specs::Copies::value_copy))]
 fn copy_value(alloc: Global, heap: &mut Heap, levels: usize, value: Value) -> Result<Value, Refusal>
     ensures { Does result heap.new (value_copy (package_copy levels) value) heap.old }
 {
@@ -45,7 +45,7 @@ fn copy_value(alloc: Global, heap: &mut Heap, levels: usize, value: Value) -> Re
     }
 }
 
-#[tactic(auto, using(ar_space::specs::Change::changing), unfolding(crate::specs::Copies::string_copy))]
+#[tactic(auto, using(ar_space::proofs::Changes::changing), unfolding(crate::specs::Copies::string_copy))]
 fn copy_string(alloc: Global, heap: &mut Heap, object: u32) -> Result<Value, Refusal>
     ensures { Does result heap.new (string_copy object) heap.old }
 {
@@ -53,7 +53,7 @@ fn copy_string(alloc: Global, heap: &mut Heap, object: u32) -> Result<Value, Ref
     heap.make_string(bytes)
 }
 
-#[tactic(auto, using(ar_space::specs::Change::changing), unfolding(crate::specs::Copies::buffer_copy))]
+#[tactic(auto, using(ar_space::proofs::Changes::changing), unfolding(crate::specs::Copies::buffer_copy))]
 fn copy_buffer(alloc: Global, heap: &mut Heap, object: u32) -> Result<Value, Refusal>
     ensures { Does result heap.new (buffer_copy object) heap.old }
 {
@@ -78,7 +78,7 @@ fn copy_package(
 }
 
 #[cycle(copies)]
-#[tactic(auto, using(ar_space::specs::Change::changing), unfolding(crate::specs::Copies::whole_copy))]
+#[tactic(auto, using(ar_space::proofs::Changes::changing), unfolding(crate::specs::Copies::whole_copy))]
 fn copy_whole(alloc: Global, heap: &mut Heap, levels: usize, object: u32) -> Result<Value, Refusal>
     ensures { Does result heap.new (whole_copy (package_copy levels) object) heap.old }
 {
@@ -89,7 +89,7 @@ fn copy_whole(alloc: Global, heap: &mut Heap, levels: usize, object: u32) -> Res
 }
 
 #[cycle(copies)]
-#[tactic(auto, using(ar_space::specs::Change::changing))]
+#[tactic(auto, using(ar_space::proofs::Changes::changing))]
 fn copy_each(
     alloc: Global,
     heap: &mut Heap,
@@ -107,7 +107,7 @@ fn copy_each(
 }
 
 #[cycle(copies)]
-#[tactic(auto, using(ar_space::specs::Change::changing), unfolding(crate::specs::Copies::element_copy))]
+#[tactic(auto, using(ar_space::proofs::Changes::changing), unfolding(crate::specs::Copies::element_copy))]
 fn copy_element(
     alloc: Global,
     heap: &mut Heap,
@@ -123,7 +123,7 @@ fn copy_element(
 }
 
 #[cycle(copies)]
-#[tactic(auto, using(ar_space::specs::Change::changing), unfolding(crate::specs::Copies::held_copy))]
+#[tactic(auto, using(ar_space::proofs::Changes::changing), unfolding(crate::specs::Copies::held_copy))]
 fn copy_held(
     alloc: Global,
     heap: &mut Heap,

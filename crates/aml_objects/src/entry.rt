@@ -80,8 +80,8 @@ pub struct OperationRegion {
     pub length: u64,
 }
 
-/// A field unit (ACPI 6.5, 19.6, Field and IndexField): what it lies in, the offset of its first bit, how many bits
-/// it has, how wide its accesses are, and what a write does with the other bits of a unit.
+/// A field unit (ACPI 6.5, 19.6, Field, IndexField and BankField): what it lies in, the offset of its first bit, how
+/// many bits it has, how wide its accesses are, and what a write does with the other bits of a unit.
 #[derive(Clone, Copy, Debug, PartialEq, Eq)]
 pub struct FieldUnit {
     pub source: FieldSource,
@@ -97,6 +97,17 @@ pub enum FieldSource {
     Region(u64),
     /// An index field, which is written with the offset of a unit, and the data field behind it.
     Index(u64, u64),
+    /// A region, and the bank of it that is selected before each access of a unit.
+    Bank(u64, Bank),
+}
+
+/// A bank of an operation region (ACPI 6.5, 19.6, BankField).
+#[derive(Clone, Copy, Debug, PartialEq, Eq)]
+pub struct Bank {
+    /// The field that selects the bank, by the number of its declaration.
+    pub field: u64,
+    /// The value that is written to it.
+    pub value: u64,
 }
 
 /// What a write does with the bits of a unit that are not the field's.

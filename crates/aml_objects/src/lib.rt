@@ -18,7 +18,7 @@ pub use body::Body;
 pub use content::Content;
 pub use draft::Draft;
 pub use entry::{
-    BufferField, Entry, Field, FieldSource, FieldUnit, Method, MethodBody, MethodFlags,
+    Bank, BufferField, Entry, Field, FieldSource, FieldUnit, Method, MethodBody, MethodFlags,
     NamedObject, OperationRegion, UpdateRule,
 };
 pub use heap::Heap;

@@ -57,7 +57,7 @@ fn fits(bytes: &Octets) -> Result<(), Refusal>
 }
 
 /// A new string behind the objects of two lists.
-#[tactic(auto, using(ar_space::specs::Change::changing), unfolding(crate::specs::Objects::make_string))]
+#[tactic(auto, using(ar_space::proofs::Changes::changing), unfolding(crate::specs::Objects::make_string))]
 pub(crate) fn make_string(
     before: &[Object],
     objects: &mut Vec<Object>,
@@ -71,7 +71,7 @@ pub(crate) fn make_string(
 }
 
 /// A new buffer behind the objects of two lists.
-#[tactic(auto, using(ar_space::specs::Change::changing), unfolding(crate::specs::Objects::make_buffer))]
+#[tactic(auto, using(ar_space::proofs::Changes::changing), unfolding(crate::specs::Objects::make_buffer))]
 pub(crate) fn make_buffer(
     before: &[Object],
     objects: &mut Vec<Object>,
@@ -85,7 +85,7 @@ pub(crate) fn make_buffer(
 }
 
 /// A new package behind the objects of two lists.
-#[tactic(auto, using(ar_space::specs::Change::changing), unfolding(crate::specs::Objects::make_package))]
+#[tactic(auto, using(ar_space::proofs::Changes::changing), unfolding(crate::specs::Objects::make_package))]
 pub(crate) fn make_package(
     before: &[Object],
     objects: &mut Vec<Object>,

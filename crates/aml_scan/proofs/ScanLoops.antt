@@ -4,7 +4,8 @@ use Rattle.std.proofs.Common.{◌∙◌, ap, get_or, arith}
 use Rattle.std.proofs.lemmas.List.{drop_all}
 use Rattle.ar_space.specs.declared.refusal.Refusal.{Refusal}
 use Rattle.ar_space.specs.Outcome.{Outcome}
-use Rattle.ar_space.specs.Change.{Does, Same, give, go_on, ◌>>=◌, does_same}
+use Rattle.ar_space.specs.Change.{Does, Same, give, go_on, ◌>>=◌}
+use Rattle.ar_space.proofs.Changes.{does_same}
 use Rattle.aml_path.specs.declared.segment.Seg.{Seg}
 use Rattle.aml_grammar.specs.declared.kinds.OperandKind.{OperandKind}
 use Rattle.aml_grammar.specs.declared.context.Context.{Context}

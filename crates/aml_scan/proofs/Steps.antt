@@ -4,7 +4,8 @@ use Rattle.std.proofs.Common.{◌∙◌, sym, ap}
 use Rattle.ar_space.specs.declared.refusal.Refusal.{Refusal}
 use Rattle.ar_space.specs.declared.refusal.Refusal.TheVariants.{OutOfMemory}
 use Rattle.ar_space.specs.Outcome.{Outcome, NotMemory, Answers, seen}
-use Rattle.ar_space.specs.Change.{Change, Does, Same, give, settle, go_on, ◌>>=◌, changing}
+use Rattle.ar_space.specs.Change.{Change, Does, Same, give, settle, go_on, ◌>>=◌}
+use Rattle.ar_space.proofs.Changes.{changing}
 use Rattle.aml_grammar.specs.State.{State, Step, look}
 
 -- what is known of the state is known without a step

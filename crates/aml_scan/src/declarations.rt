@@ -77,7 +77,7 @@ impl<'a, C: ArgumentCounts, B: Before> Declarations<'a, C, B> {
     }
 
     /// How many arguments a name takes that stands, without a search, for a path: 0 where it isn't found.
-    #[tactic(auto, using(ar_space::specs::Outcome::answering), unfolding(aml_grammar::specs::Arities::arity_of, aml_grammar::specs::Arities::found))]
+    #[tactic(auto, using(ar_space::proofs::Outcomes::answering), unfolding(aml_grammar::specs::Arities::arity_of, aml_grammar::specs::Arities::found))]
     pub(crate) fn arity_of(
         &self,
         alloc: Global,
@@ -97,7 +97,7 @@ impl<'a, C: ArgumentCounts, B: Before> Declarations<'a, C, B> {
     }
 
     /// The path where a name is found, or else the one that it stands for.
-    #[tactic(auto, using(ar_space::specs::Outcome::answering), unfolding(aml_grammar::specs::Arities::found))]
+    #[tactic(auto, using(ar_space::proofs::Outcomes::answering), unfolding(aml_grammar::specs::Arities::found))]
     pub(crate) fn found_or(
         &self,
         alloc: Global,
@@ -117,7 +117,7 @@ impl<'a, C: ArgumentCounts, B: Before> Declarations<'a, C, B> {
     }
 
     /// The path where some segments are found below the scope, or below the nearest one above it.
-    #[tactic(auto, using(ar_space::specs::Outcome::answering))]
+    #[tactic(auto, using(ar_space::proofs::Outcomes::answering))]
     fn search(&self, alloc: Global, scope: &Path, segments: &[Seg]) -> Result<Option<Path>, Refusal>
         ensures { Answers result (Ok (search_up self.now scope.now segments.now (length scope.now))) }
     {

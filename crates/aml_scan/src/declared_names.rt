@@ -23,7 +23,7 @@ fn begins_outside(name: &NameString) -> bool
 }
 
 /// The path that a declared name stands for.
-#[tactic(auto, using(ar_space::specs::Outcome::answering), unfolding(aml_grammar::specs::DeclaredNames::declared_path))]
+#[tactic(auto, using(ar_space::proofs::Outcomes::answering), unfolding(aml_grammar::specs::DeclaredNames::declared_path))]
 pub(crate) fn declared_path(
     alloc: Global,
     scope: &Path,
@@ -40,7 +40,7 @@ pub(crate) fn declared_path(
 }
 
 /// The path of a name that may be declared here: in a body, only of a name without `\` or `^`.
-#[tactic(auto, using(ar_space::specs::Outcome::answering), unfolding(aml_grammar::specs::DeclaredNames::allowed_path))]
+#[tactic(auto, using(ar_space::proofs::Outcomes::answering), unfolding(aml_grammar::specs::DeclaredNames::allowed_path))]
 fn allowed_path(
     alloc: Global,
     scope: &Path,

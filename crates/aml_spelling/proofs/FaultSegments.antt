@@ -7,7 +7,8 @@ use Rattle.ar_space.specs.declared.refusal.Refusal.{Refusal}
 use Rattle.ar_space.specs.declared.refusal.Refusal.TheVariants as refusals
 use Rattle.ar_space.specs.declared.refusal.NameFault.TheVariants.{BadName}
 use Rattle.aml_path.specs.declared.segment.Seg.{Seg}
-use Rattle.aml_path.specs.Segments.{seg_of, seg_is}
+use Rattle.aml_path.specs.Segments.{seg_of}
+use Rattle.aml_path.proofs.Segments.{seg_is}
 use Rattle.aml_path.specs.Characters.{is_lead_name_char, is_name_char, is_segment}
 use Rattle.aml_grammar.specs.State.{State, Step, byte, times}
 use Rattle.aml_grammar.specs.Names.{only, lead_name_char, name_char, segment}

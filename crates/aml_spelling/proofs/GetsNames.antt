@@ -11,7 +11,8 @@ use Rattle.aml_path.specs.declared.name.Prefix.{Prefix}
 use Rattle.aml_path.specs.declared.name.Prefix.TheVariants.{Root, Parents}
 use Rattle.aml_path.specs.Characters.{is_lead_name_char, is_name_char, is_segment}
 use Rattle.aml_path.specs.Paths.{Name, is_null}
-use Rattle.aml_path.specs.Segments.{seg_of, seg_of_bytes}
+use Rattle.aml_path.specs.Segments.{seg_of}
+use Rattle.aml_path.proofs.Segments.{seg_of_bytes}
 use Rattle.aml_grammar.specs.declared.arities.Arity.{Arity}
 use Rattle.aml_grammar.specs.State.{State, Step, byte, times, past}
 use Rattle.aml_grammar.specs.Names.{only, starts_name, lead_name_char, name_char, segment, segments, multiple_segments, skipping, parents, carets, rooted_name, relative_name, name_string}

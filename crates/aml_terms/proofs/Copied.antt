@@ -2,7 +2,7 @@
 use Rattle.std.specs.Prelude.{◌≡◌, ℕ, zero, suc, ◌+◌, List, [], ◌∷◌, ◌++◌, length, Some, None, Ok, refl}
 use Rattle.std.proofs.Common.{◌∙◌, sym, ap, append_assoc}
 use Rattle.std.proofs.lemmas.List.{append-nil, map_push}
-use Rattle.ar_space.specs.Outcome.{answering}
+use Rattle.ar_space.proofs.Outcomes.{answering}
 use Rattle.aml_grammar.specs.Tree.{Tree, Part, Trees, no_trees, tree}
 use Rattle.aml_grammar.specs.Shape.{trees_of}
 use Rattle.aml_grammar.specs.Apart.{operand_of}

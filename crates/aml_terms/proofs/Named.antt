@@ -3,7 +3,8 @@ use Rattle.std.specs.Prelude.{◌≡◌, ◌≢◌, Ok, Err, refl}
 use Rattle.std.proofs.Common.{ap}
 use Rattle.ar_space.specs.declared.refusal.Refusal.{Refusal}
 use Rattle.ar_space.specs.declared.refusal.Refusal.TheVariants.{OutOfMemory}
-use Rattle.ar_space.specs.Outcome.{Outcome, Answers, answering}
+use Rattle.ar_space.specs.Outcome.{Outcome, Answers}
+use Rattle.ar_space.proofs.Outcomes.{answering}
 use Rattle.aml_path.specs.Paths.{Name}
 use Rattle.aml_grammar.specs.Names.{name_string}
 use Rattle.aml_marked.specs.Marked.{Place, bare_state, or_root, a_name}

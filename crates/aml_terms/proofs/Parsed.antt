@@ -1,7 +1,8 @@
 -- What a scan leaves, copied from its bytes, is what reading gives.
 use Rattle.std.specs.Prelude.{◌≡◌, List, [], ◌∷◌, false, ℕ, Ok, refl}
 use Rattle.std.proofs.Common.{◌∙◌, sym, ap}
-use Rattle.ar_space.specs.Outcome.{Outcome, Answers, NotMemory, seen, answering}
+use Rattle.ar_space.specs.Outcome.{Outcome, Answers, NotMemory, seen}
+use Rattle.ar_space.proofs.Outcomes.{answering}
 use Rattle.aml_grammar.specs.declared.arities.Arity.{Arity}
 use Rattle.aml_grammar.specs.declared.marks.Mark.{Mark}
 use Rattle.aml_grammar.specs.Tree.{Tree, Trees}

@@ -5,12 +5,13 @@ ghost use Rattle.aml_grammar.specs.declared.opcode.Opcode.{Opcode};
 ghost use Rattle.aml_grammar.specs.declared.opcode.TermCode.TheVariants as codes;
 ghost use Rattle.aml_grammar.specs.Apart.{code_of};
 ghost use Rattle.aml_grammar.specs.Names.{starts_name};
+ghost use Rattle.aml_grammar.specs.Shape.{trees_of};
 ghost use Rattle.aml_marked.specs.Marked.{Below, count_at, first, a_name, a_term, a_field, an_else, a_call, turns_of};
-ghost use Rattle.aml_marked.specs.Marked.{with_row, a_target, maybe_else};
+ghost use Rattle.aml_marked.specs.Marked.{with_row, a_target, maybe_else, fields_left};
 ghost use Rattle.aml_marked.specs.Moving.{MovesOn};
 ghost use Rattle.aml_scan.specs.RowsAt.{row_at};
 ghost use Rattle.aml_scan.specs.declared.row_places.RowPlace.{RowPlace};
-ghost use Rattle.aml_terms.specs.AtTree.{at_tree, place_at};
+ghost use Rattle.aml_terms.specs.AtTree.{at_tree, at_list, place_at};
 ghost use Rattle.aml_terms.specs.declared.cursor_terms.Call.{Call};
 ghost use Rattle.aml_terms.specs.declared.cursor_terms.Coded.{Coded};
 
@@ -139,6 +140,14 @@ impl<'a> Cursor<'a> {
         ensures { at_tree result ≡ (with_row (a_term (count_at marks.now) levels) (row_at place) self.now).0 }
     {
         standing(self, marks, levels, 0, Kind::Coded(place))
+    }
+
+    /// A reader of the field elements that are left.
+    #[tactic(auto, unfolding(aml_marked::specs::Marked::fields_left))]
+    pub fn field_list(&self, marks: &'a Marks, levels: u8) -> At<'a>
+        ensures { at_list result ≡ trees_of (fields_left (a_term (count_at marks.now) levels) self.now).0 }
+    {
+        standing(self, marks, levels, self.rest().len(), Kind::Fields)
     }
 
     /// Goes over the term that stands next.

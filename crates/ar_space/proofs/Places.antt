@@ -16,7 +16,8 @@ use Rattle.ar_space.specs.declared.space.Width.TheVariants.{W8, W16, W32, W64}
 use Rattle.ar_space.specs.declared.space.Place.{Place}
 use Rattle.ar_space.specs.declared.space.Place.TheVariants.{Memory, Io, Pci}
 use Rattle.ar_space.specs.Accesses.{byte_count, place_on}
-use Rattle.ar_space.specs.Registers.{register_cmp, register_cmp_total, register_on, with_registers}
+use Rattle.ar_space.specs.Registers.{register_cmp, register_on, with_registers}
+use Rattle.ar_space.proofs.RegisterOrder.{register_cmp_total}
 use Rattle.ar_space.specs.Runs.{with_bytes, number_from, low_bytes}
 use Rattle.ar_space.specs.Bytes.{Bytes, byte_at, number_on, put_at, put_on, HasRoom, replaced_on, written_on, write_step}
 use Rattle.ar_space.proofs.PageMaps.{same_number, no_number}

@@ -7,7 +7,8 @@ use Rattle.std.specs.declared.cmp.Ordering.TheVariants.{Less, Equal, Greater}
 use Rattle.std.specs.Ordering.{nat_cmp, eq_by_cmp, is_eq}
 use Rattle.std.specs.Cmp.{nat_cmp_total, eq_by_cmp_equiv}
 use Rattle.ar_space.specs.declared.register_map.Register.{Register}
-use Rattle.ar_space.specs.Registers.{register_cmp, register_cmp_total, register_cmp_exact, register_on, with_registers, counted, register_at, by_register}
+use Rattle.ar_space.specs.Registers.{register_cmp, register_on, with_registers, counted, register_at, by_register}
+use Rattle.ar_space.proofs.RegisterOrder.{register_cmp_total, register_cmp_exact}
 use Rattle.ar_space.specs.Runs.{with_bytes, number_from}
 use Rattle.ar_space.proofs.Cells.{here, apart}
 use Rattle.ar_space.proofs.PageMaps.{same_number}

@@ -5,7 +5,8 @@ use Rattle.std.specs.List.{range_with_len}
 use Rattle.std.proofs.lemmas.List.FromFn.{filter_of_map_range_with_len_more}
 use Rattle.ar_space.specs.declared.refusal.Refusal.{Refusal}
 use Rattle.ar_space.specs.Outcome.{Outcome, Answers, seen}
-use Rattle.ar_space.specs.Each.{each, following, each_turn, each_refused, each_done}
+use Rattle.ar_space.specs.Each.{each, following}
+use Rattle.ar_space.proofs.EachInTurn.{each_turn, each_refused, each_done}
 
 -- for each number of a list
 module _ {A B : Type 0} (f : A → Outcome B) (xs : List A) (i : ℕ) (d : A) (done : List B) (total : Outcome (List B)) (so_far : total ≡ following done (each f (drop i xs))) where

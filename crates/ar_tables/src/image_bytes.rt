@@ -25,7 +25,7 @@ impl Model for ImageBytes {
 impl ImageBytes {
     /// The bytes at `count` addresses from `address` on, or `NotInImage` where one of them is not in the image or lies
     /// past the last address.
-    #[tactic(auto, using(ar_space::specs::Outcome::answering))]
+    #[tactic(auto, using(ar_space::proofs::Outcomes::answering))]
     pub(crate) fn read(
         alloc: Global,
         image: &ByteMap,
@@ -58,7 +58,7 @@ impl ImageBytes {
     }
 
     /// Whether the bytes add up to zero, modulo 256: `BadChecksum` where they don't.
-    #[tactic(auto, using(ar_space::specs::Outcome::answering), unfolding(crate::specs::Headers::summed))]
+    #[tactic(auto, using(ar_space::proofs::Outcomes::answering), unfolding(crate::specs::Headers::summed))]
     pub(crate) fn summed(&self) -> Result<(), Refusal>
         ensures { Answers result (summed self.now) }
     {
@@ -78,7 +78,7 @@ fn bytes_at(alloc: Global, image: &ByteMap, address: u64, count: usize) -> Resul
 }
 
 /// Whether bytes add up to zero, modulo 256.
-#[tactic(auto, using(ar_space::specs::Outcome::answering), unfolding(crate::specs::Headers::summed))]
+#[tactic(auto, using(ar_space::proofs::Outcomes::answering), unfolding(crate::specs::Headers::summed))]
 pub(crate) fn summed(bytes: &[u8]) -> Result<(), Refusal>
     ensures { Answers result (summed bytes.now) }
 {

@@ -189,7 +189,7 @@ fn entry_in(bytes: &[u8]) -> Option<MadtEntry>
 }
 
 /// Whether each structure of a MADT is as long as its type needs and the last ends with the table: else `BadLength`.
-#[tactic(auto, using(ar_space::specs::Outcome::answering), unfolding(crate::specs::Structures::well_structured))]
+#[tactic(auto, using(ar_space::proofs::Outcomes::answering), unfolding(crate::specs::Structures::well_structured))]
 pub(crate) fn well_structured(table: &Table) -> Result<(), Refusal>
     requires { 44 ≤ length table.now }
     ensures value { Answers result (well_structured table.now) }

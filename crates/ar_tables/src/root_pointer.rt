@@ -47,7 +47,7 @@ pub(crate) struct RootPointer {
 ///
 /// It is tested in this order: `NotInImage` where a byte of the first 20 (from revision 2 on: 36) is not in the image,
 /// `BadSignature`, `BadLength`, `NotInImage` where another byte isn't, `BadChecksum` of the first 20 bytes or of all.
-#[tactic(auto, using(ar_space::specs::Outcome::answering), unfolding(crate::specs::RootPointers::root_pointer))]
+#[tactic(auto, using(ar_space::proofs::Outcomes::answering), unfolding(crate::specs::RootPointers::root_pointer))]
 pub(crate) fn root_pointer(
     alloc: Global,
     image: &ByteMap,
@@ -59,7 +59,7 @@ pub(crate) fn root_pointer(
     root_by(alloc, image, address, &first)
 }
 
-#[tactic(auto, using(ar_space::specs::Outcome::answering))]
+#[tactic(auto, using(ar_space::proofs::Outcomes::answering))]
 fn root_by(
     alloc: Global,
     image: &ByteMap,
@@ -77,7 +77,7 @@ fn root_by(
 }
 
 /// The RSDT of an RSDP of revision 0 or 1.
-#[tactic(auto, using(ar_space::specs::Outcome::answering), unfolding(crate::specs::RootPointers::first_root))]
+#[tactic(auto, using(ar_space::proofs::Outcomes::answering), unfolding(crate::specs::RootPointers::first_root))]
 fn first_root(rsdp: &ImageBytes) -> Result<RootPointer, Refusal>
     requires { FIRST_BYTES ≤ length rsdp.now }
     ensures { Answers result (first_root rsdp.now) }
@@ -88,7 +88,7 @@ fn first_root(rsdp: &ImageBytes) -> Result<RootPointer, Refusal>
 }
 
 /// The table that an RSDP of revision 2 or later leads to.
-#[tactic(auto, using(ar_space::specs::Outcome::answering), unfolding(crate::specs::RootPointers::extended_root))]
+#[tactic(auto, using(ar_space::proofs::Outcomes::answering), unfolding(crate::specs::RootPointers::extended_root))]
 fn extended_root(alloc: Global, image: &ByteMap, address: u64) -> Result<RootPointer, Refusal>
     ensures { Answers result (extended_root image.now address) }
 {
@@ -101,7 +101,7 @@ fn extended_root(alloc: Global, image: &ByteMap, address: u64) -> Result<RootPoi
     Ok(to_xsdt(&rsdp))
 }
 
-#[tactic(auto, using(ar_space::specs::Outcome::answering), unfolding(crate::specs::RootPointers::rsdp_signed))]
+#[tactic(auto, using(ar_space::proofs::Outcomes::answering), unfolding(crate::specs::RootPointers::rsdp_signed))]
 fn rsdp_signed(rsdp: &ImageBytes) -> Result<(), Refusal>
     requires { FIRST_BYTES ≤ length rsdp.now }
     ensures { Answers result (rsdp_signed rsdp.now) }
@@ -113,7 +113,7 @@ fn rsdp_signed(rsdp: &ImageBytes) -> Result<(), Refusal>
     }
 }
 
-#[tactic(auto, using(ar_space::specs::Outcome::answering), unfolding(crate::specs::RootPointers::rsdp_length))]
+#[tactic(auto, using(ar_space::proofs::Outcomes::answering), unfolding(crate::specs::RootPointers::rsdp_length))]
 fn rsdp_length(rsdp: &ImageBytes) -> Result<usize, Refusal>
     requires { EXTENDED_BYTES ≤ length rsdp.now }
     ensures value { Answers result (rsdp_length rsdp.now) }
@@ -127,7 +127,7 @@ fn rsdp_length(rsdp: &ImageBytes) -> Result<usize, Refusal>
     }
 }
 
-#[tactic(auto, using(ar_space::specs::Outcome::answering), unfolding(crate::specs::RootPointers::first_summed))]
+#[tactic(auto, using(ar_space::proofs::Outcomes::answering), unfolding(crate::specs::RootPointers::first_summed))]
 fn first_summed(rsdp: &ImageBytes) -> Result<(), Refusal>
     requires { FIRST_BYTES ≤ length rsdp.now }
     ensures { Answers result (first_summed rsdp.now) }

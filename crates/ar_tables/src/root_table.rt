@@ -143,7 +143,7 @@ pub(crate) struct Entry {
     address: u64,
 }
 
-#[tactic(auto, using(ar_space::specs::Outcome::answering), unfolding(crate::specs::Lists::entry_at))]
+#[tactic(auto, using(ar_space::proofs::Outcomes::answering), unfolding(crate::specs::Lists::entry_at))]
 fn entry_at(alloc: Global, image: &ByteMap, address: u64) -> Result<Entry, Refusal>
     ensures { Answers result (entry_at image.now address) }
 {
@@ -171,7 +171,7 @@ impl Model for Entries {
 
 impl Entries {
     /// The tables that a root table lists, or `NotInImage` where a signature isn't in the image.
-    #[tactic(auto, using(ar_space::specs::Outcome::answering), unfolding(crate::specs::Lists::listed))]
+    #[tactic(auto, using(ar_space::proofs::Outcomes::answering), unfolding(crate::specs::Lists::listed))]
     pub(crate) fn read(
         alloc: Global,
         image: &ByteMap,
@@ -193,7 +193,7 @@ impl Entries {
     }
 }
 
-#[tactic(auto, using(ar_space::specs::Outcome::answering))]
+#[tactic(auto, using(ar_space::proofs::Outcomes::answering))]
 fn entries_at(alloc: Global, image: &ByteMap, addresses: &Addresses) -> Result<Entries, Refusal>
     ensures { Answers result (entries_at image.now addresses.now) }
 {
@@ -222,7 +222,7 @@ fn addresses_of(alloc: Global, entries: &[Entry], kind: EntryKind) -> Result<Vec
 }
 
 /// Whether the SSDTs are no more than there may be.
-#[tactic(auto, using(ar_space::specs::Outcome::answering), unfolding(crate::specs::Lists::few))]
+#[tactic(auto, using(ar_space::proofs::Outcomes::answering), unfolding(crate::specs::Lists::few))]
 pub(crate) fn few(addresses: &Addresses) -> Result<(), Refusal>
     ensures { Answers result (few addresses.now) }
 {

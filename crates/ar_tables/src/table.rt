@@ -134,7 +134,7 @@ impl Table {
 
 /// The table at an address, tested in this order: `NotInImage` where a byte of its header is not in the image,
 /// `BadSignature`, `BadLength`, `NotInImage` where another byte isn't, `BadChecksum`.
-#[tactic(auto, using(ar_space::specs::Outcome::answering), unfolding(crate::specs::Headers::table_at))]
+#[tactic(auto, using(ar_space::proofs::Outcomes::answering), unfolding(crate::specs::Headers::table_at))]
 pub(crate) fn table_at(
     alloc: Global,
     image: &ByteMap,
@@ -153,7 +153,7 @@ pub(crate) fn table_at(
 }
 
 /// Whether a header has the signature of the table.
-#[tactic(auto, using(ar_space::specs::Outcome::answering), unfolding(crate::specs::Headers::signed))]
+#[tactic(auto, using(ar_space::proofs::Outcomes::answering), unfolding(crate::specs::Headers::signed))]
 fn signed(kind: TableKind, header: &ImageBytes) -> Result<(), Refusal>
     requires { 36 ≤ length header.now }
     ensures { Answers result (signed kind header.now) }
@@ -166,7 +166,7 @@ fn signed(kind: TableKind, header: &ImageBytes) -> Result<(), Refusal>
 }
 
 /// The length of the table, by its header.
-#[tactic(auto, using(ar_space::specs::Outcome::answering), unfolding(crate::specs::Headers::length_in))]
+#[tactic(auto, using(ar_space::proofs::Outcomes::answering), unfolding(crate::specs::Headers::length_in))]
 fn length_in(kind: TableKind, header: &ImageBytes) -> Result<usize, Refusal>
     requires { 36 ≤ length header.now }
     ensures value { Answers result (length_in kind header.now) }

@@ -76,7 +76,7 @@ pub struct Tables {
 /// (`BadLength`). Of each structure the tests come in this order: `NotInImage` where a byte of its header is not in the
 /// image, `BadSignature`, `BadLength`, `NotInImage` where another byte isn't, `BadChecksum`. A byte past the last
 /// address, 2^64 - 1, is in no image. `OutOfMemory` where memory runs out.
-#[tactic(auto, using(ar_space::specs::Outcome::answering), unfolding(crate::specs::FindTables::tables_of))]
+#[tactic(auto, using(ar_space::proofs::Outcomes::answering), unfolding(crate::specs::FindTables::tables_of))]
 pub fn find_tables(alloc: Global, image: &ByteMap, rsdp: u64) -> Result<Tables, Refusal>
     ensures { Answers result (tables_of image.now rsdp) }
 {
@@ -87,7 +87,7 @@ pub fn find_tables(alloc: Global, image: &ByteMap, rsdp: u64) -> Result<Tables, 
 }
 
 /// The RSDT or XSDT.
-#[tactic(auto, using(ar_space::specs::Outcome::answering), unfolding(crate::specs::FindTables::root_table))]
+#[tactic(auto, using(ar_space::proofs::Outcomes::answering), unfolding(crate::specs::FindTables::root_table))]
 fn root_table(alloc: Global, image: &ByteMap, root: &RootPointer) -> Result<Table, Refusal>
     ensures { Answers result (root_table image.now root.now) }
 {
@@ -98,7 +98,7 @@ fn root_table(alloc: Global, image: &ByteMap, root: &RootPointer) -> Result<Tabl
 }
 
 /// The tables by the list of them.
-#[tactic(auto, using(ar_space::specs::Outcome::answering), unfolding(crate::specs::FindTables::tables_in))]
+#[tactic(auto, using(ar_space::proofs::Outcomes::answering), unfolding(crate::specs::FindTables::tables_in))]
 fn tables_in(alloc: Global, image: &ByteMap, entries: &Entries) -> Result<Tables, Refusal>
     ensures { Answers result (tables_in image.now entries.now) }
 {
@@ -121,7 +121,7 @@ fn tables_in(alloc: Global, image: &ByteMap, entries: &Entries) -> Result<Tables
 }
 
 /// The first FADT of the list.
-#[tactic(auto, using(ar_space::specs::Outcome::answering), unfolding(crate::specs::FindTables::fadt_at))]
+#[tactic(auto, using(ar_space::proofs::Outcomes::answering), unfolding(crate::specs::FindTables::fadt_at))]
 fn fadt_at(alloc: Global, image: &ByteMap, addresses: &Addresses) -> Result<Fadt, Refusal>
     ensures { Answers result (fadt_at image.now addresses.now) }
 {
@@ -132,7 +132,7 @@ fn fadt_at(alloc: Global, image: &ByteMap, addresses: &Addresses) -> Result<Fadt
 }
 
 /// The DSDT that the FADT names.
-#[tactic(auto, using(ar_space::specs::Outcome::answering), unfolding(crate::specs::FindTables::dsdt_at))]
+#[tactic(auto, using(ar_space::proofs::Outcomes::answering), unfolding(crate::specs::FindTables::dsdt_at))]
 fn dsdt_at(alloc: Global, image: &ByteMap, fadt: &Fadt) -> Result<Table, Refusal>
     ensures { Answers result (dsdt_at image.now fadt.now) }
 {
@@ -144,7 +144,7 @@ fn dsdt_at(alloc: Global, image: &ByteMap, fadt: &Fadt) -> Result<Table, Refusal
 }
 
 /// Every SSDT of the list.
-#[tactic(auto, using(ar_space::specs::Outcome::answering))]
+#[tactic(auto, using(ar_space::proofs::Outcomes::answering))]
 fn ssdts_at(alloc: Global, image: &ByteMap, addresses: &Addresses) -> Result<Ssdts, Refusal>
     ensures { Answers result (ssdts_at image.now addresses.now) }
 {
@@ -163,7 +163,7 @@ fn each_ssdt(alloc: Global, image: &ByteMap, addresses: &[u64]) -> Result<Vec<Ta
 }
 
 /// The first MADT of the list, if there is one.
-#[tactic(auto, using(ar_space::specs::Outcome::answering), unfolding(crate::specs::FindTables::madt_at))]
+#[tactic(auto, using(ar_space::proofs::Outcomes::answering), unfolding(crate::specs::FindTables::madt_at))]
 fn madt_at(alloc: Global, image: &ByteMap, addresses: &Addresses) -> Result<Option<Madt>, Refusal>
     ensures { Answers result (madt_at image.now addresses.now) }
 {
@@ -174,7 +174,7 @@ fn madt_at(alloc: Global, image: &ByteMap, addresses: &Addresses) -> Result<Opti
 }
 
 /// The MADT at an address, with the test of its structures.
-#[tactic(auto, using(ar_space::specs::Outcome::answering), unfolding(crate::specs::FindTables::structured_madt))]
+#[tactic(auto, using(ar_space::proofs::Outcomes::answering), unfolding(crate::specs::FindTables::structured_madt))]
 fn structured_madt(alloc: Global, image: &ByteMap, address: u64) -> Result<Option<Madt>, Refusal>
     ensures { Answers result (structured_madt image.now address) }
 {

@@ -1,6 +1,6 @@
-//! Routes the interrupts of a machine over registers of its own, and prints the report: once over the registers
-//! themselves, and once over a record of their accesses. The tables are those of a machine text on the standard
-//! input.
+//! Routes the interrupts of a machine over registers of its own, and prints the report, with the lines for a kernel:
+//! once over the registers themselves, and once over a record of their accesses. The tables are those of a machine
+//! text on the standard input.
 #![tactic(auto)]
 
 mod chipset;

@@ -1,6 +1,6 @@
 //! A machine with the registers of the chipset.
 use crate::chipset::Chipset;
-use acpi_configure::configure;
+use acpi_configure::{Options, configure_with};
 use acpi_machine::{Machine, Mode, Profile, load_tables};
 use ar_space::{Refusal, Space, SpaceFault};
 use ar_tables::find_tables;
@@ -14,6 +14,7 @@ const SETTINGS: Settings = Settings {
     mode: Mode::Apic,
     steps: 1_000_000,
     dry: false,
+    kernel: true,
 };
 
 /// The tables in the memory of a machine text, over the registers of a chipset.
@@ -40,7 +41,14 @@ fn text_of(alloc: Global, report: &Report) -> anyhow::Result<String> {
 /// The report of a machine.
 fn report_of(alloc: Global, machine: &mut Machine<Chipset>) -> anyhow::Result<String> {
     machine.initialize(alloc, SETTINGS.mode)?;
-    let report = configure(alloc, machine, SETTINGS.dry, &[])?;
+    let options = Options {
+        dry: SETTINGS.dry,
+        avoid: &[],
+        spare: false,
+        spread: false,
+        kernel: SETTINGS.kernel,
+    };
+    let report = configure_with(alloc, machine, &options)?;
     text_of(alloc, &report)
 }
 

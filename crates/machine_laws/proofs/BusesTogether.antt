@@ -7,13 +7,15 @@ use Rattle.aml_meaning.specs.Fields.{part_in, inherited, bus_behind, bus_behind_
 use Rattle.aml_meaning.specs.PciFunctions.{nearest}
 use Rattle.aml_meaning.specs.declared.pci_functions.Sought.{Sought}
 use Rattle.aml_meaning.specs.Calling.{ending, with_steps}
-use Rattle.aml_laws.proofs.BridgesTogether.{behind_asked_together, bridges_above_together, secondary_bus_together}
-use Rattle.aml_laws.proofs.MeaningTogether.{meaning_together}
+use Rattle.aml_laws.proofs.BridgesTogether.{behind_asked_together, secondary_bus_together}
+use Rattle.aml_laws.proofs.Levels.{in_body}
+use Rattle.aml_laws.proofs.MeaningTogether.{meaning_parts}
 use Rattle.aml_laws.proofs.OperandsTogether.{called_at_together}
 use Rattle.aml_laws.proofs.Together.{Sides, Together, plain, give_together, settle_together, then_together}
 use Rattle.aml_laws.proofs.WorldsTogether.{lift_together, runs, space_together, worlds, ending_together, with_steps_together}
-use Rattle.acpi_machine.specs.Buses.{address_part, bus_of_table, bus_answered, bus_found}
-use Rattle.machine_laws.proofs.MachinesTogether.{machines, on_world_together, unless_spent_together}
+use Rattle.acpi_machine.specs.Buses.{bridges_down_to, address_part, bus_of_table, bus_answered, bus_found}
+use Rattle.machine_laws.proofs.MachineShapes.{machines}
+use Rattle.machine_laws.proofs.MachinesTogether.{on_world_together, unless_spent_together}
 
 module _ {S T : Type 0} {accesses : Accesses S} {accesses2 : Accesses T} {side : Sides accesses accesses2} where
   nearest_together : (x : Sought) (q : List Seg) → Together side worlds (nearest x q) (nearest x q)
@@ -21,7 +23,7 @@ module _ {S T : Type 0} {accesses : Accesses S} {accesses2 : Accesses T} {side :
   nearest_together x q = plain (λ w. refl) (λ w. refl) (λ w t. refl)
 
   part_together : (q : List Seg) → Together side runs (address_part accesses q) (address_part accesses2 q)
-  part_together q = called_at_together meaning_together 1 q
+  part_together q = in_body side 1 refl (called_at_together meaning_parts 1 q)
 
   part_in_together : (s : Seg) (o : Option (List Seg)) → Together side runs (part_in accesses (address_part accesses) s o) (part_in accesses2 (address_part accesses2) s o)
   part_in_together s None = give_together _
@@ -40,11 +42,15 @@ module _ {S T : Type 0} {accesses : Accesses S} {accesses2 : Accesses T} {side :
   bus_behind_all_together seg bus [] = give_together _
   bus_behind_all_together seg bus (q ∷ qs) = then_together (bus_behind_together seg bus q) (λ behind. bus_behind_all_together seg behind qs)
 
+  bridges_down_together : (q : List Seg) → Together side worlds (bridges_down_to q) (bridges_down_to q)
+  unfolding bridges_down_to
+  bridges_down_together q = plain (λ w. refl) (λ w. refl) (λ w t. refl)
+
   bus_of_table_together : (device : List Seg) → Together side runs (bus_of_table accesses device) (bus_of_table accesses2 device)
   unfolding bus_of_table
   bus_of_table_together device =
       then_together (lift_together (nearest_together _ device)) (λ bridge. then_together (lift_together (behind_asked_together bridge)) (λ reached.
-      then_together (lift_together (bridges_above_together _)) (λ bridges. then_together (inherited_together _ device) (λ segment.
+      then_together (lift_together (bridges_down_together device)) (λ bridges. then_together (inherited_together _ device) (λ segment.
       then_together (inherited_together _ device) (λ bus. then_together (bus_behind_all_together segment bus bridges) (λ behind. settle_together _))))))
 
 -- same: the right one has as many steps

@@ -1,18 +1,25 @@
 -- Where a call of a machine is refused by a fault of the register space, its last access answered with it.
-use Rattle.std.specs.Prelude.{ℕ, List, refl}
+use Rattle.std.specs.Prelude.{◌≡◌, ℕ, List, Bool, true, false, Ok, Err, refl}
+use Rattle.std.proofs.Common.{subst, sym}
 use Rattle.std.specs.FinMap.{contains_key}
 use Rattle.ar_space.specs.Accesses.{Accesses}
 use Rattle.ar_space.specs.Change.{Change, stop}
 use Rattle.ar_tables.specs.declared.mode.Mode.{Mode}
 use Rattle.aml_path.specs.declared.segment.Seg.{Seg}
+use Rattle.ar_space.specs.Outcome.{Outcome}
+use Rattle.ar_space.specs.declared.refusal.Refusal.{Refusal}
 use Rattle.aml_meaning.specs.Given.{Given}
+use Rattle.aml_meaning.specs.PassedOver.{is_passable}
+use Rattle.aml_meaning.specs.Passing.{is_wide}
 use Rattle.aml_laws.proofs.CleanOutcomes.{Clean, followed_clean}
 use Rattle.aml_laws.proofs.CleanValues.{seg_of_clean}
-use Rattle.aml_laws.proofs.FaultsOfChanges.{Explains, direct_explains, give_explains, stop_explains, settle_explains, then_explains, either_branch_explains}
+use Rattle.aml_laws.proofs.FaultsOfChanges.{Explained, RefusalExplained, Explains, spent_with_none, direct_explains, give_explains, stop_explains, settle_explains, then_explains, either_branch_explains}
 use Rattle.aml_laws.proofs.FaultsOfEvaluations.{answered_explains}
+use Rattle.aml_laws.proofs.ItemsOfLists.{unfaulted}
+use Rattle.machine_laws.proofs.CallsTogether.{Called, refused_by, refused_is}
 use Rattle.acpi_machine.specs.FixedPaths.{at_root, below_root}
 use Rattle.acpi_machine.specs.MachineStates.{MachineState}
-use Rattle.acpi_machine.specs.Calls.{on_world, unless_spent, object_answered, evaluated_object, object_called, called_where_it_stands, initial_calls, started, initialized}
+use Rattle.acpi_machine.specs.Calls.{on_world, unless_spent, call_done, call_passing, object_answered, evaluated_object, object_called, called_where_it_stands, initial_calls, started, initialized}
 
 at_root_clean : (name : List ℕ) → Clean (at_root name)
 unfolding at_root
@@ -44,9 +51,23 @@ module _ {S : Type 0} (accesses : Accesses S) where
   unfolding object_called
   object_called_explains p arguments = then_explains _ _ (object_answered_explains p arguments) (λ answer. give_explains _)
 
+  -- a call that may be passed over
+  refused_explained : (wide passable : Bool) (q : List Seg) (e : Refusal) (before : S) (s : MachineState S) → is_passable e ≡ passable → RefusalExplained accesses e before s.world.space → Explained accesses (refused_by wide passable q e s).0 before (refused_by wide passable q e s).1.world.space
+  refused_explained true true q e before s is h = unfaulted accesses e before s.world.space is h
+  refused_explained true false q e before s is h = h
+  refused_explained false passable q e before s is h = h
+
+  done_explained : (q : List Seg) (r : Outcome (Unit {0})) (before : S) (s : MachineState S) → Explained accesses r before s.world.space → Explained accesses (call_done q r s).0 before (call_done q r s).1.world.space
+  done_explained q (Ok u) before s h = h
+  done_explained q (Err e) before s h = subst (λ (x : Called S). Explained accesses x.0 before x.1.world.space) (sym (refused_is q e s)) (refused_explained (is_wide s.world.profile) (is_passable e) q e before s refl h)
+
+  call_passing_explains : (q : List Seg) (m : Change (MachineState S) (Unit {0})) → MachineExplains m → MachineExplains (call_passing q m)
+  unfolding call_passing
+  call_passing_explains q m h = record { explained = λ s. done_explained q (m s).0 s.world.space (m s).1 (h.explained s); spent = λ s. spent_with_none (call_done q (m s).0 (m s).1).0 }
+
   called_where_it_stands_explains : (p : List Seg) (arguments : List Given) → MachineExplains (called_where_it_stands accesses p arguments)
   unfolding called_where_it_stands
-  called_where_it_stands_explains p arguments = either_branch_explains (λ s. contains_key s.world.names.map p) (object_called accesses p arguments) _ (object_called_explains p arguments) (direct_explains _ (λ s. tt) (λ s. refl))
+  called_where_it_stands_explains p arguments = either_branch_explains (λ s. contains_key s.world.names.map p) (call_passing p (object_called accesses p arguments)) _ (call_passing_explains p _ (object_called_explains p arguments)) (direct_explains _ (λ s. tt) (λ s. refl))
 
   initial_calls_explains : (mode : Mode) → MachineExplains (initial_calls accesses mode)
   unfolding initial_calls

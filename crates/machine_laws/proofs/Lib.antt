@@ -2,6 +2,9 @@
 -- space; a fault of the register space that x is refused by is what its last access answered; x goes the same way over two spaces that
 -- answer alike, and in two profiles. `x_unnoted`: noting the accesses of x changes nothing. `x_widened`, `x_widens`: x comes to the same
 -- in the wide profile, or leaves something out in the core one.
+pub mod AccessesBounded
+pub mod CallsPassedOver
+pub mod CallsTogether
 pub mod CleanLinks
 pub mod FaultsOfCalls
 pub mod FaultsOfLinks
@@ -11,6 +14,8 @@ pub mod LinksTogether
 pub mod MachineFaults
 pub mod MachineNotes
 pub mod MachineNoting
+pub mod MachineShapes
+pub mod MachineWorlds
 pub mod MachinesTogether
 pub mod BusesTogether
 pub mod MachinesWidened

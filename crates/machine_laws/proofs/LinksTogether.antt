@@ -21,7 +21,8 @@ use Rattle.acpi_links.specs.Settings.{setting_handed, set_at, resources_set}
 use Rattle.acpi_links.specs.Links.{link_found, link_if, link_asked}
 use Rattle.acpi_links.specs.Gatherings.{sci_shown, pins_found, links_found, gathered}
 use Rattle.aml_laws.proofs.Together.{Sides, Shape, Together, plain, give_together, settle_together, stop_together, then_together, choice_together}
-use Rattle.machine_laws.proofs.MachinesTogether.{machines, told_together, evaluated_object_together}
+use Rattle.machine_laws.proofs.MachineShapes.{machines}
+use Rattle.machine_laws.proofs.MachinesTogether.{told_together, evaluated_object_together}
 use Rattle.machine_laws.proofs.ProfilesAsked.{Asks, profile_asked, id_withheld, offer_withheld}
 
 -- what changes for each of a list add

@@ -21,7 +21,9 @@ use Rattle.acpi_links.specs.Resources.{possible_resources, current_resources}
 use Rattle.acpi_links.specs.Settings.{resources_set}
 use Rattle.acpi_links.specs.Gatherings.{gathered}
 use Rattle.machine_laws.specs.Notes.{machine_without_notes, call_without_notes}
-use Rattle.machine_laws.proofs.MachinesTogether.{machines, machine_over, loaded_tables_together, evaluated_object_together, initialized_together}
+use Rattle.aml_laws.proofs.Levels.{one_profile}
+use Rattle.machine_laws.proofs.MachineShapes.{machines, machine_over}
+use Rattle.machine_laws.proofs.MachinesTogether.{loaded_tables_together, evaluated_object_together, initialized_together}
 use Rattle.machine_laws.proofs.LinksTogether.{routing_table_together, possible_resources_together, current_resources_together, resources_set_together, gathered_together}
 
 module _ {S : Type 0} (accesses : Accesses S) where
@@ -33,11 +35,11 @@ module _ {S : Type 0} (accesses : Accesses S) where
 
   pub tables_unnoted : (t : Tables) (steps : ℕ) (osi : List (List ℕ)) (w : State (WithNotes S)) → loaded_tables accesses t steps osi (without_notes w) ≡ ((loaded_tables (noted accesses) t steps osi w).0, without_notes (loaded_tables (noted accesses) t steps osi w).1)
   unfolding noting
-  tables_unnoted t steps osi w = world_unnoted accesses _ _ (goes_from (noting accesses) worlds _ _ ((loaded_tables_together {side = alike (noting accesses)} (λ n. refl) t steps osi).goes (without_notes w) w.space refl))
+  tables_unnoted t steps osi w = world_unnoted accesses _ _ (goes_from (noting accesses) worlds _ _ ((one_profile (noting accesses) 0 (loaded_tables_together (alike (noting accesses)) (λ n. refl) t steps osi)).goes (without_notes w) w.space refl))
 
   pub initialization_unnoted : (mode : Mode) (s : MachineState (WithNotes S)) → initialized accesses mode (machine_without_notes s) ≡ call_without_notes (initialized (noted accesses) mode s)
   unfolding noting
-  initialization_unnoted mode s = machine_unnoted _ _ (goes_from (noting accesses) machines _ _ ((initialized_together {side = alike (noting accesses)} (λ n. refl) mode).goes (machine_without_notes s) s.world.space refl))
+  initialization_unnoted mode s = machine_unnoted _ _ (goes_from (noting accesses) machines _ _ ((one_profile (noting accesses) 0 (initialized_together (alike (noting accesses)) (λ n. refl) mode)).goes (machine_without_notes s) s.world.space refl))
 
   pub object_unnoted : (p : List Seg) (arguments : List Given) (s : MachineState (WithNotes S)) → evaluated_object accesses p arguments (machine_without_notes s) ≡ call_without_notes (evaluated_object (noted accesses) p arguments s)
   unfolding noting

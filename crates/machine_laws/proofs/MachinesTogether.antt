@@ -1,10 +1,10 @@
 -- Changes of machines side by side: tables that are loaded, objects that are evaluated, and initializing.
-use Rattle.std.specs.Prelude.{◌≡◌, ◌⊎◌, ℕ, List, [], ◌∷◌, refl}
+use Rattle.std.specs.Prelude.{◌≡◌, ◌⊎◌, ℕ, List, [], ◌∷◌, Ok, Err, refl}
 use Rattle.std.specs.FinMap.{contains_key}
-use Rattle.std.proofs.Common.{inl, inr, subst, ap}
+use Rattle.std.proofs.Common.{inl, inr, subst, ap, sym, ◌∙◌}
 use Rattle.ar_space.specs.Accesses.{Accesses}
 use Rattle.ar_space.specs.Outcome.{Outcome}
-use Rattle.ar_space.specs.Change.{Change}
+use Rattle.ar_space.specs.Change.{Change, give, go_on, ◌>>=◌}
 use Rattle.ar_tables.specs.declared.mode.Mode.{Mode}
 use Rattle.ar_tables.specs.declared.tables.Tables.{Tables}
 use Rattle.aml_path.specs.declared.segment.Seg.{Seg}
@@ -13,22 +13,16 @@ use Rattle.aml_meaning.specs.Given as given
 use Rattle.aml_meaning.specs.State.{State}
 use Rattle.acpi_machine.specs.MachineStates.{MachineState}
 use Rattle.acpi_machine.specs.Loading.{table_loaded, each_loaded, all_loaded, loaded_tables}
-use Rattle.acpi_machine.specs.Calls.{on_world, unless_spent, object_answered, evaluated_object, object_called, called_where_it_stands, initial_calls, started, initialized}
+use Rattle.acpi_machine.specs.Calls.{on_world, unless_spent, call_passing, object_answered, evaluated_object, object_called, called_where_it_stands, initial_calls, started, initialized}
 use Rattle.aml_meaning.specs.Calling.{answered}
-use Rattle.aml_laws.proofs.Together.{Sides, Shape, Together, Comes, IsEnded, plain, give_together, settle_together, stop_together, then_together, choice_together}
+use Rattle.aml_laws.proofs.Together.{Sides, Passes, MayPass, Together, Comes, IsEnded, alike, plain, give_together, settle_together, stop_together, then_together, choice_together}
 use Rattle.aml_laws.proofs.WorldsTogether.{world_over, worlds}
+use Rattle.aml_laws.specs.Becomes as becomes
+use Rattle.aml_laws.proofs.Levels.{level, at_level}
+use Rattle.aml_laws.proofs.ProfileKept.{profile_is_kept}
+use Rattle.machine_laws.proofs.CallsTogether.{call_alike, call_widened}
+use Rattle.machine_laws.proofs.MachineShapes.{machine_beside, machines}
 use Rattle.aml_laws.proofs.EvaluationsTogether.{loaded_together, answered_together, predefined_together}
-
--- a machine over another space, in another profile; it evaluates within as many steps
-abbrev pub machine_beside : {S T : Type 0} → (Profile → Profile) → MachineState S → T → MachineState T
-machine_beside raise m t = record { world = world_over raise m.world t; tables = m.tables; mode = m.mode; steps = m.steps; spent = m.spent }
-
--- a machine over another space
-abbrev pub machine_over : {S T : Type 0} → MachineState S → T → MachineState T
-machine_over m t = machine_beside (λ r. r) m t
-
-abbrev pub machines : {S T : Type 0} → Shape S T (MachineState S) (MachineState T)
-machines = record { left = λ m. m.world.space; right = λ m. m.world.space; over = λ raise more m t. machine_beside raise m t }
 
 -- a machine with another world over another space
 abbrev with_world : {S T : Type 0} → MachineState S → State T → MachineState T
@@ -52,26 +46,27 @@ pub told_together : {S T A : Type 0} {accesses : Accesses S} {accesses2 : Access
 told_together {side = side} f g told = record { left_parted = λ s t h. h; right_parted = λ s u h. h; goes = λ s t i. told_goes side s t (f s) (g (machine_beside side.raise s t)) (told s t) i }
 
 -- same: the right one has as many steps
-module _ {S T : Type 0} {accesses : Accesses S} {accesses2 : Accesses T} {side : Sides accesses accesses2} (same : (n : ℕ) → side.more n ≡ n) where
+module _ {S T : Type 0} {accesses : Accesses S} {accesses2 : Accesses T} (side : Sides accesses accesses2) (same : (n : ℕ) → side.more n ≡ n) where
   -- ---- tables
 
-  table_loaded_together : (steps : ℕ) (table : List ℕ) → Together side worlds (table_loaded accesses steps table) (table_loaded accesses2 steps table)
+  table_loaded_together : (steps : ℕ) (table : List ℕ) → Together (level side 0) worlds (table_loaded accesses steps table) (table_loaded accesses2 steps table)
   unfolding table_loaded
-  table_loaded_together steps table = subst (λ n. Together side worlds (table_loaded accesses steps table) (table_loaded accesses2 n table)) (same steps) (loaded_together _ steps)
+  table_loaded_together steps table = subst (λ n. Together (level side 0) worlds (table_loaded accesses steps table) (table_loaded accesses2 n table)) (same steps) (loaded_together side _ steps)
 
-  each_loaded_together : (steps : ℕ) (tables : List (List ℕ)) → Together side worlds (each_loaded accesses steps tables) (each_loaded accesses2 steps tables)
+  each_loaded_together : (steps : ℕ) (tables : List (List ℕ)) → Together (level side 0) worlds (each_loaded accesses steps tables) (each_loaded accesses2 steps tables)
   unfolding each_loaded
   each_loaded_together steps [] = give_together _
   each_loaded_together steps (table ∷ tables) = then_together (table_loaded_together steps table) (λ u. each_loaded_together steps tables)
 
-  all_loaded_together : (t : Tables) (steps : ℕ) → Together side worlds (all_loaded accesses t steps) (all_loaded accesses2 t steps)
+  all_loaded_together : (t : Tables) (steps : ℕ) → Together (level side 0) worlds (all_loaded accesses t steps) (all_loaded accesses2 t steps)
   unfolding all_loaded
   all_loaded_together t steps = then_together (table_loaded_together steps t.dsdt) (λ u. each_loaded_together steps t.ssdts)
 
-  pub loaded_tables_together : (t : Tables) (steps : ℕ) (osi : List (List ℕ)) → Together side worlds (loaded_tables accesses t steps osi) (loaded_tables accesses2 t steps osi)
+  pub loaded_tables_together : (t : Tables) (steps : ℕ) (osi : List (List ℕ)) → Together (level side 0) worlds (loaded_tables accesses t steps osi) (loaded_tables accesses2 t steps osi)
   unfolding loaded_tables
-  loaded_tables_together t steps osi = then_together (settle_together _) (λ few. then_together predefined_together (λ u. all_loaded_together t steps))
+  loaded_tables_together t steps osi = then_together (settle_together _) (λ few. then_together (at_level side 0 predefined_together) (λ u. all_loaded_together t steps))
 
+module _ {S T : Type 0} {accesses : Accesses S} {accesses2 : Accesses T} {side : Sides accesses accesses2} (same : (n : ℕ) → side.more n ≡ n) where
   -- ---- objects that are evaluated
 
   pub on_world_together : {A : Type 0} {m : Change (State S) A} {n : Change (State T) A} → Together side worlds m n → Together side machines (on_world m) (on_world n)
@@ -103,20 +98,41 @@ module _ {S T : Type 0} {accesses : Accesses S} {accesses2 : Accesses T} {side :
 
   -- ---- initializing
 
-  object_called_together : (p : List Seg) (arguments : List given.Given) → Together side machines (object_called accesses p arguments) (object_called accesses2 p arguments)
+  pub object_called_together : (p : List Seg) (arguments : List given.Given) → Together side machines (object_called accesses p arguments) (object_called accesses2 p arguments)
   unfolding object_called
   object_called_together p arguments = then_together (object_answered_together p arguments) (λ answer. give_together _)
 
-  called_where_it_stands_together : (p : List Seg) (arguments : List given.Given) → Together side machines (called_where_it_stands accesses p arguments) (called_where_it_stands accesses2 p arguments)
-  unfolding called_where_it_stands
-  called_where_it_stands_together p arguments = choice_together (λ s. contains_key s.world.names.map p) (λ s. contains_key s.world.names.map p) (λ s t. refl) (object_called_together p arguments) (plain (λ s. refl) (λ s. refl) (λ s t. refl))
+-- an object that is called leaves the profile
+module _ {S : Type 0} (accesses : Accesses S) where
+  dropped_keeps : {A : Type 0} (r : Outcome A) (s : MachineState S) → (go_on {B = Unit {0}} r s (λ a. give tt)).1 ≡ s
+  unfolding go_on give
+  dropped_keeps (Ok a) s = refl
+  dropped_keeps (Err e) s = refl
 
-  initial_calls_together : (mode : Mode) → Together side machines (initial_calls accesses mode) (initial_calls accesses2 mode)
+  called_keeps : (p : List Seg) (arguments : List given.Given) (s : MachineState S) → (object_called accesses p arguments s).1.world.profile ≡ s.world.profile
+  unfolding object_called object_answered on_world ◌>>=◌
+  called_keeps p arguments s =
+      ap (λ (x : MachineState S). x.world.profile) (dropped_keeps (answered accesses p arguments s.steps s.world).0 (record s { world = (answered accesses p arguments s.steps s.world).1 }))
+      ∙ profile_is_kept accesses s.world (answered accesses p arguments s.steps s.world).1 (becomes.answer s.world p arguments s.steps becomes.same)
+
+module _ {S T : Type 0} {accesses : Accesses S} {accesses2 : Accesses T} (side : Sides accesses accesses2) (same : (n : ℕ) → side.more n ≡ n) where
+  -- a call that may be passed over
+  call_by : (passes : Passes side.raise side.Ends side.more) → side.passes ≡ passes → (p : List Seg) (arguments : List given.Given) → Together (level side 0) machines (call_passing p (object_called accesses p arguments)) (call_passing p (object_called accesses2 p arguments))
+  call_by (inl h) is p arguments = at_level side 0 (call_alike side h.0 h.1 p (object_called_together {side = side} same p arguments))
+  call_by (inr h) is p arguments =
+      call_widened side h.0 (λ e holds. subst (λ x. MayPass x e) (sym is) holds) p (object_called accesses p arguments) (object_called accesses2 p arguments) (at_level side 0 (object_called_together {side = side} same p arguments))
+      (object_called_together {side = alike side.beside} (λ n. refl) p arguments) (called_keeps accesses p arguments)
+
+  called_where_it_stands_together : (p : List Seg) (arguments : List given.Given) → Together (level side 0) machines (called_where_it_stands accesses p arguments) (called_where_it_stands accesses2 p arguments)
+  unfolding called_where_it_stands
+  called_where_it_stands_together p arguments = choice_together (λ s. contains_key s.world.names.map p) (λ s. contains_key s.world.names.map p) (λ s t. refl) (call_by side.passes refl p arguments) (plain (λ s. refl) (λ s. refl) (λ s t. refl))
+
+  initial_calls_together : (mode : Mode) → Together (level side 0) machines (initial_calls accesses mode) (initial_calls accesses2 mode)
   unfolding initial_calls
   initial_calls_together mode = then_together (settle_together _) (λ root. then_together (called_where_it_stands_together root _) (λ a. then_together (settle_together _) (λ bus. then_together (called_where_it_stands_together bus _) (λ b.
       then_together (settle_together _) (λ pic. called_where_it_stands_together pic _)))))
 
-  started_together : (mode : Mode) → Together side machines (started accesses mode) (started accesses2 mode)
+  started_together : (mode : Mode) → Together (level side 0) machines (started accesses mode) (started accesses2 mode)
   unfolding started
   started_together mode = record {
     left_parted = λ s t p. (initial_calls_together mode).left_parted (record s { mode = mode }) t p;
@@ -124,6 +140,6 @@ module _ {S T : Type 0} {accesses : Accesses S} {accesses2 : Accesses T} {side :
     goes = λ s t i. (initial_calls_together mode).goes (record s { mode = mode }) t i;
   }
 
-  pub initialized_together : (mode : Mode) → Together side machines (initialized accesses mode) (initialized accesses2 mode)
+  pub initialized_together : (mode : Mode) → Together (level side 0) machines (initialized accesses mode) (initialized accesses2 mode)
   unfolding initialized
-  initialized_together mode = unless_spent_together (started_together mode)
+  initialized_together mode = unless_spent_together {side = level side 0} same (started_together mode)

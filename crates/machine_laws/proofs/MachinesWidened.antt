@@ -11,7 +11,8 @@ use Rattle.aml_path.specs.declared.segment.Seg.{Seg}
 use Rattle.aml_meaning.specs.declared.profile.Profile.TheVariants as profiles
 use Rattle.aml_meaning.specs.Given.{Given}
 use Rattle.aml_meaning.specs.State.{State}
-use Rattle.aml_laws.specs.Widened.{widened, LeftOut, IsLeftOut}
+use Rattle.aml_laws.specs.Widened.{widened, LeftOut, IsLeftOut, IsLeftOutAt}
+use Rattle.aml_laws.proofs.Levels.{level}
 use Rattle.aml_laws.proofs.Together.{Sides, Together, Comes, IsEnded}
 use Rattle.aml_laws.proofs.WorldsTogether.{world_over, worlds}
 use Rattle.aml_laws.proofs.Widening.{same_space}
@@ -26,7 +27,8 @@ use Rattle.acpi_links.specs.Settings.{resources_set}
 use Rattle.acpi_links.specs.Gatherings.{gathered}
 use Rattle.acpi_configure.specs.Others.{device_resources}
 use Rattle.machine_laws.specs.Widened.{machine_widened, call_widened, Withheld, IsWithheld}
-use Rattle.machine_laws.proofs.MachinesTogether.{machine_beside, machines, loaded_tables_together, evaluated_object_together, initialized_together}
+use Rattle.machine_laws.proofs.MachineShapes.{machine_beside, machines}
+use Rattle.machine_laws.proofs.MachinesTogether.{loaded_tables_together, evaluated_object_together, initialized_together}
 use Rattle.machine_laws.proofs.ProfilesAsked.{Asks}
 use Rattle.machine_laws.proofs.LinksTogether.{routing_table_together, possible_resources_together, current_resources_together, resources_set_together, gathered_together}
 use Rattle.machine_laws.proofs.BusesTogether.{bus_found_together}
@@ -46,7 +48,7 @@ module _ {S : Type 0} (accesses : Accesses S) where
   -- one profile on the left, the wide one on the right, over the same space; Ends: what ends the likeness
   unfoldable raised : (Ends : Refusal → Type 0) → ((e : Refusal) → LeftOut e → Ends e) → Sides accesses accesses
   unfolding same_space
-  raised Ends left_out = record { beside = same_space accesses; raise = λ p. profiles.Wide; Ends = Ends; wide_stays = refl; core_stays = inr left_out; more = λ n. n; more_next = λ n. refl; none_left = inl (λ n. refl) }
+  raised Ends left_out = record { beside = same_space accesses; raise = λ p. profiles.Wide; Ends = Ends; wide_stays = refl; core_stays = inr left_out; more = λ n. n; more_next = λ n. refl; none_left = inl (λ n. refl); passes = inr (λ p. refl, λ n. refl) }
 
   -- terms alone
   unfoldable in_terms : Sides accesses accesses
@@ -59,12 +61,6 @@ module _ {S : Type 0} (accesses : Accesses S) where
   routing_asks : Asks in_routing
   unfolding in_routing raised
   routing_asks = inr (inr (inr refl), inr (inl refl))
-
-  world_comes : {A : Type 0} (p q : Outcome A × State S) → Comes in_terms worlds p q → IsEnded LeftOut p.0 ⊎ (q ≡ (p.0, widened p.1))
-  unfolding in_terms raised same_space
-  world_comes p q (inl parted) = absurd parted
-  world_comes p q (inr (inl ended)) = inl ended
-  world_comes p q (inr (inr (t, same, i))) = inr (same ∙ ap (λ s. (p.0, world_over (λ r. profiles.Wide) p.1 s)) i)
 
   machine_comes : {A : Type 0} (Ends : Refusal → Type 0) (left_out : (e : Refusal) → LeftOut e → Ends e) (p q : Outcome A × MachineState S) → Comes (raised Ends left_out) machines p q → IsEnded Ends p.0 ⊎ (q ≡ call_widened p)
   unfolding raised same_space
@@ -80,17 +76,35 @@ module _ {S : Type 0} (accesses : Accesses S) where
   unfolding in_routing raised same_space
   routing_call_widened m h s = by_withheld (m s).0 (machine_comes Withheld (λ e l. inl l) (m s) (m (machine_widened s)) (h.goes s s.world.space refl))
 
+  -- ---- tables and initializing, where the wide profile passes items over
+
+  left_out_at : {A : Type 0} (r : Outcome A) → IsEnded (level in_terms 0).Ends r → IsLeftOutAt 0 r
+  unfolding in_terms raised
+  left_out_at (Ok a) h = absurd h
+  left_out_at (Err e) h = h
+
+  listed_world : {A : Type 0} (p q : Outcome A × State S) → Comes (level in_terms 0) worlds p q → IsLeftOutAt 0 p.0 ⊎ (q ≡ (p.0, widened p.1))
+  unfolding in_terms raised same_space
+  listed_world p q (inl parted) = absurd parted
+  listed_world p q (inr (inl ended)) = inl (left_out_at p.0 ended)
+  listed_world p q (inr (inr (t, same, i))) = inr (same ∙ ap (λ s. (p.0, world_over (λ r. profiles.Wide) p.1 s)) i)
+
+  listed_machine : {A : Type 0} (p q : Outcome A × MachineState S) → Comes (level in_terms 0) machines p q → IsLeftOutAt 0 p.0 ⊎ (q ≡ call_widened p)
+  unfolding in_terms raised same_space
+  listed_machine p q (inl parted) = absurd parted
+  listed_machine p q (inr (inl ended)) = inl (left_out_at p.0 ended)
+  listed_machine p q (inr (inr (t, same, i))) = inr (same ∙ ap (λ s. (p.0, machine_beside (λ r. profiles.Wide) p.1 s)) i)
+
   -- ---- tables, initializing, objects
 
   pub tables_widened : (t : Tables) (steps : ℕ) (osi : List (List ℕ)) (w : State S)
-      → IsLeftOut (loaded_tables accesses t steps osi w).0 ⊎ (loaded_tables accesses t steps osi (widened w) ≡ ((loaded_tables accesses t steps osi w).0, widened (loaded_tables accesses t steps osi w).1))
+      → IsLeftOutAt 0 (loaded_tables accesses t steps osi w).0 ⊎ (loaded_tables accesses t steps osi (widened w) ≡ ((loaded_tables accesses t steps osi w).0, widened (loaded_tables accesses t steps osi w).1))
   unfolding in_terms raised same_space
-  tables_widened t steps osi w =
-      by_left_out (loaded_tables accesses t steps osi w).0 (world_comes (loaded_tables accesses t steps osi w) (loaded_tables accesses t steps osi (widened w)) ((loaded_tables_together {side = in_terms} (λ n. refl) t steps osi).goes w w.space refl))
+  tables_widened t steps osi w = listed_world (loaded_tables accesses t steps osi w) (loaded_tables accesses t steps osi (widened w)) ((loaded_tables_together in_terms (λ n. refl) t steps osi).goes w w.space refl)
 
-  pub initialization_widened : (mode : Mode) (s : MachineState S) → IsLeftOut (initialized accesses mode s).0 ⊎ (initialized accesses mode (machine_widened s) ≡ call_widened (initialized accesses mode s))
-  unfolding in_terms raised
-  initialization_widened mode s = term_call_widened _ (initialized_together {side = in_terms} (λ n. refl) mode) s
+  pub initialization_widened : (mode : Mode) (s : MachineState S) → IsLeftOutAt 0 (initialized accesses mode s).0 ⊎ (initialized accesses mode (machine_widened s) ≡ call_widened (initialized accesses mode s))
+  unfolding in_terms raised same_space
+  initialization_widened mode s = listed_machine (initialized accesses mode s) (initialized accesses mode (machine_widened s)) ((initialized_together in_terms (λ n. refl) mode).goes s s.world.space refl)
 
   pub object_widened : (p : List Seg) (arguments : List Given) (s : MachineState S) → IsLeftOut (evaluated_object accesses p arguments s).0 ⊎ (evaluated_object accesses p arguments (machine_widened s) ≡ call_widened (evaluated_object accesses p arguments s))
   unfolding in_terms raised

@@ -5,7 +5,7 @@ use Rattle.aml_path.specs.declared.segment.Seg.{Seg}
 use Rattle.acpi_links.specs.Answered.{stands}
 use Rattle.acpi_configure.specs.Others.{resources_if, present_resources, resources_at, device_resources}
 use Rattle.aml_laws.proofs.Together.{Sides, Together, plain, give_together, settle_together, then_together, choice_together}
-use Rattle.machine_laws.proofs.MachinesTogether.{machines}
+use Rattle.machine_laws.proofs.MachineShapes.{machines}
 use Rattle.machine_laws.proofs.LinksTogether.{current_resources_together, is_present_together}
 
 -- same: the right one has as many steps

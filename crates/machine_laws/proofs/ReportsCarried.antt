@@ -16,7 +16,7 @@ use Rattle.route_report.specs.declared.report.SetLine.{SetLine}
 use Rattle.route_report.specs.Reports.{RoutingReport, ReportedAfter}
 use Rattle.machine_laws.specs.Notes.{machine_without_notes}
 use Rattle.machine_laws.proofs.MachineNoting.{machine_back}
-use Rattle.machine_laws.proofs.MachinesTogether.{machine_over, machines}
+use Rattle.machine_laws.proofs.MachineShapes.{machine_over, machines}
 use Rattle.machine_laws.proofs.LinksTogether.{gathered_together}
 use Rattle.machine_laws.proofs.SettingsTogether.{settled_unless_together}
 

@@ -24,19 +24,19 @@ use Rattle.machine_laws.proofs.MachineNotes.{notes_of_setting, notes_of_current,
 
 module _ {S L : Type 0} (tells : L → List Exchange → Type 0) where
   -- what makes lines behind those that are done, by these calls
-  record MakesLines (calls : List (Change (MachineState (WithNotes S)) L)) (done : List L) (before : MachineState (WithNotes S)) (came : Outcome (List L) × MachineState (WithNotes S)) : Type 0 where
-    lines : List L
-    is : came.0 ≡ Ok (done ++ lines)
-    told : EachTells tells calls lines before came.1
+  pub record MakesLines (calls : List (Change (MachineState (WithNotes S)) L)) (done : List L) (before : MachineState (WithNotes S)) (came : Outcome (List L) × MachineState (WithNotes S)) : Type 0 where
+    pub lines : List L
+    pub is : came.0 ≡ Ok (done ++ lines)
+    pub told : EachTells tells calls lines before came.1
 
-  no_lines : (done : List L) (s : MachineState (WithNotes S)) → MakesLines [] done s (Ok done, s)
+  pub no_lines : (done : List L) (s : MachineState (WithNotes S)) → MakesLines [] done s (Ok done, s)
   no_lines done s = record { lines = []; is = ap Ok (sym (append-nil done)); told = refl }
 
   joined : (call : Change (MachineState (WithNotes S)) L) (calls : List (Change (MachineState (WithNotes S)) L)) (done : List L) (before : MachineState (WithNotes S)) (line : L) (all : Outcome (List L) × MachineState (WithNotes S)) → LineTells tells call before line
       → MakesLines calls (done ++ line ∷ []) (call before).1 all → MakesLines (call ∷ calls) done before all
   joined call calls done before line all one rest = record { lines = line ∷ rest.lines; is = rest.is ∙ ap Ok (append_assoc done (line ∷ []) rest.lines); told = (one, rest.told) }
 
-  then_lines : (call : Change (MachineState (WithNotes S)) L) (calls : List (Change (MachineState (WithNotes S)) L)) (done : List L) (before : MachineState (WithNotes S)) (k : L → Change (MachineState (WithNotes S)) (List L)) (line : L) → LineTells tells call before line
+  pub then_lines : (call : Change (MachineState (WithNotes S)) L) (calls : List (Change (MachineState (WithNotes S)) L)) (done : List L) (before : MachineState (WithNotes S)) (k : L → Change (MachineState (WithNotes S)) (List L)) (line : L) → LineTells tells call before line
       → MakesLines calls (done ++ line ∷ []) (call before).1 (k line (call before).1) → MakesLines (call ∷ calls) done before (go_on (call before).0 (call before).1 k)
   unfolding go_on
   then_lines call calls done before k line one rest = subst (λ (r : Outcome L). MakesLines (call ∷ calls) done before (go_on r (call before).1 k)) (sym one.is) (joined call calls done before line _ one rest)

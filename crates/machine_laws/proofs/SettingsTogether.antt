@@ -8,11 +8,11 @@ use Rattle.acpi_links.specs.Links.{PresentLink}
 use Rattle.acpi_configure.specs.Settling.{attempted, link_set, links_set, link_read, settled, settled_unless}
 use Rattle.route_report.specs.declared.report.SetLine.{SetLine}
 use Rattle.aml_laws.proofs.Together.{SideBySide, Together, give_together, then_together, wrapped_together, alike, none_ended}
-use Rattle.machine_laws.proofs.MachinesTogether.{machines}
+use Rattle.machine_laws.proofs.MachineShapes.{machines}
 use Rattle.machine_laws.proofs.LinksTogether.{folded_together, current_resources_together, resources_set_together}
 
 module _ {S T : Type 0} {accesses : Accesses S} {accesses2 : Accesses T} {side : SideBySide accesses accesses2} where
-  attempted_together : {A B : Type 0} (tell : Outcome A → B) {m : Change (MachineState S) A} {n : Change (MachineState T) A} → Together (alike side) machines m n → Together (alike side) machines (attempted tell m) (attempted tell n)
+  pub attempted_together : {A B : Type 0} (tell : Outcome A → B) {m : Change (MachineState S) A} {n : Change (MachineState T) A} → Together (alike side) machines m n → Together (alike side) machines (attempted tell m) (attempted tell n)
   unfolding attempted
   attempted_together tell h = wrapped_together (λ s. s) (λ s. s) (λ s p. (Ok (tell p.0), p.1)) (λ s p. (Ok (tell p.0), p.1))
       (λ s. refl) (λ s. refl) (λ s t. refl) (λ s p. refl) (λ s q. refl) (λ s u r w t. refl) (λ s p e. absurd (none_ended p.0 e)) h

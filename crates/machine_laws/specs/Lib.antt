@@ -1,3 +1,5 @@
+pub mod BoundedAccesses
 pub mod Notes
+pub mod PassedCalls
 pub mod ReportedNotes
 pub mod Widened

@@ -1,12 +1,20 @@
 //! What holds of all calls of a machine: each law is the contract of a function that does nothing.
 #![tactic(auto)]
 
+mod bounds;
 mod faults;
+mod initializing;
 mod notes;
 mod profiles;
 mod reports;
+mod worlds;
 
+pub use bounds::{
+    a_report_reaches_its_space_by_accesses, each_access_within_the_bound_is_made,
+    no_more_accesses_are_made_than_the_bound,
+};
 pub use faults::{machine_faults_are_reached_by_accesses, routing_faults_are_reached_by_accesses};
+pub use initializing::calls_of_initializing_are_passed_over;
 pub use notes::{
     machine_faults_are_answers_of_the_last_access, noting_changes_no_call,
     routing_faults_are_answers_of_the_last_access,
@@ -20,4 +28,7 @@ pub use profiles::{
 pub use reports::{
     a_line_of_a_report_tells_of_its_accesses, noting_changes_no_report,
     the_lines_of_a_report_tell_of_their_accesses,
+};
+pub use worlds::{
+    a_machine_makes_of_its_world_what_evaluations_do, the_first_that_a_machine_passes_over_are_kept,
 };

@@ -6,7 +6,7 @@ ghost use Rattle.ar_tables.specs.declared.tables.Tables.{Tables};
 ghost use Rattle.aml_path.specs.declared.segment.Seg.{Seg};
 ghost use Rattle.aml_meaning.specs.Given.{Given};
 ghost use Rattle.aml_meaning.specs.State.{State};
-ghost use Rattle.aml_laws.specs.Widened.{widened, IsLeftOut};
+ghost use Rattle.aml_laws.specs.Widened.{widened, IsLeftOut, IsLeftOutAt};
 ghost use Rattle.acpi_resources.specs.Records.{InterruptOffer};
 ghost use Rattle.acpi_machine.specs.MachineStates.{MachineState};
 ghost use Rattle.acpi_machine.specs.Loading.{loaded_tables};
@@ -26,17 +26,18 @@ ghost use Rattle.machine_laws.specs.Widened.{machine_widened, call_widened, IsWi
 /// What a machine of the core profile answers, the same machine of the wide one answers too: where loading its
 /// tables, initializing it, an object, what a link is set to or setting it isn't refused for what the profile leaves
 /// out (a term, `Unsupported`, or what lies behind a bridge, `DeepPci`), it comes to the same in the wide profile, and
-/// leaves the same machine with the same registers.
+/// leaves the same machine with the same registers. Loading and initializing may also be refused for what the wide
+/// profile passes over.
 #[tactic(auto, using(crate::proofs::MachinesWidened::tables_widened, crate::proofs::MachinesWidened::initialization_widened, crate::proofs::MachinesWidened::object_widened, crate::proofs::MachinesWidened::current_widened, crate::proofs::MachinesWidened::setting_widened))]
 pub fn the_wide_profile_calls_as_the_core_one_does<S>()
     ensures tables { (accesses : Accesses S) (t : Tables) (steps : ℕ) (osi : List (List ℕ)) (w : State S) →
-        IsLeftOut (loaded_tables accesses t steps osi w).0 ⊎
+        IsLeftOutAt 0 (loaded_tables accesses t steps osi w).0 ⊎
         (loaded_tables accesses t steps osi (widened w) ≡ (
           (loaded_tables accesses t steps osi w).0,
           widened (loaded_tables accesses t steps osi w).1,
         )) }
     ensures initialization { (accesses : Accesses S) (mode : Mode) (s : MachineState S) →
-        IsLeftOut (initialized accesses mode s).0 ⊎
+        IsLeftOutAt 0 (initialized accesses mode s).0 ⊎
         (initialized accesses mode (machine_widened s) ≡ call_widened (initialized accesses mode s)) }
     ensures object { (accesses : Accesses S) (p : List Seg) (arguments : List Given) (s : MachineState S) →
         IsLeftOut (evaluated_object accesses p arguments s).0 ⊎

@@ -3,7 +3,8 @@ use Rattle.std.proofs.Common.{◌≡◌, ◌∙◌, ◌==◌, ap, refl, sym, sub
 use Rattle.std.proofs.lemmas.Bool.{eqb-true}
 use Rattle.std.specs.Prelude.{IsErr, IsErrAnd}
 use Rattle.ar_space.specs.declared.refusal.Refusal.{Refusal}
-use Rattle.ar_space.specs.Outcome.{Outcome, Answers, answers_ok, seen, ◌>>=◌}
+use Rattle.ar_space.specs.Outcome.{Outcome, Answers, seen, ◌>>=◌}
+use Rattle.ar_space.proofs.Outcomes.{answers_ok}
 use Rattle.machine_text.specs.MachineText.{word, with_word, bytes_after, all_bytes}
 use Rattle.machine_text.proofs.Turns.{taken, stopped}
 

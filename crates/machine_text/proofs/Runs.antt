@@ -10,7 +10,8 @@ use Rattle.std.specs.FinMap.{nat_cmp-IsAntisymmetric}
 use Rattle.ar_space.specs.declared.space.Place.{Place}
 use Rattle.ar_space.specs.declared.space.Place.TheVariants as place
 use Rattle.ar_space.specs.declared.register_map.Register.{Register}
-use Rattle.ar_space.specs.Registers.{register_cmp, register_cmp_total, register_cmp_exact}
+use Rattle.ar_space.specs.Registers.{register_cmp}
+use Rattle.ar_space.proofs.RegisterOrder.{register_cmp_total, register_cmp_exact}
 use Rattle.ar_space.specs.Bytes.{Bytes, byte_at, with_byte}
 use Rattle.machine_text.specs.MachineText.{place_in, put_all}
 use Rattle.machine_text.specs.declared.address_space.AddressSpace.{AddressSpace}

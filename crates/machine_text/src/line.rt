@@ -22,7 +22,7 @@ const MAX_TEXT: usize = 255;
 const MAX_TEXTS: usize = 64;
 
 /// `A bytes..`
-#[tactic(auto, using(ar_space::specs::Outcome::answering), unfolding(crate::specs::MachineText::placed))]
+#[tactic(auto, using(ar_space::proofs::Outcomes::answering), unfolding(crate::specs::MachineText::placed))]
 fn placed(
     n: usize,
     in_space: AddressSpace,
@@ -75,7 +75,7 @@ fn fits(first: u64, count: usize, last: u64) -> bool
 }
 
 /// `S B D F R bytes..`
-#[tactic(auto, using(ar_space::specs::Outcome::answering), unfolding(crate::specs::MachineText::configured))]
+#[tactic(auto, using(ar_space::proofs::Outcomes::answering), unfolding(crate::specs::MachineText::configured))]
 fn configured(
     n: usize,
     space: &mut Sparse,
@@ -98,7 +98,7 @@ fn configured(
 }
 
 /// `A`, once.
-#[tactic(auto, using(ar_space::specs::Outcome::answering), unfolding(crate::specs::MachineText::root))]
+#[tactic(auto, using(ar_space::proofs::Outcomes::answering), unfolding(crate::specs::MachineText::root))]
 fn root(n: usize, rsdp: Option<u64>, words: &mut Words<'_>) -> Result<Option<u64>, Refusal>
     ensures { Answers result (root n rsdp words.old) }
 {
@@ -111,7 +111,7 @@ fn root(n: usize, rsdp: Option<u64>, words: &mut Words<'_>) -> Result<Option<u64
 }
 
 /// The rest of the line, as a text that `_OSI` knows.
-#[tactic(auto, using(ar_space::specs::Outcome::answering), unfolding(crate::specs::MachineText::text))]
+#[tactic(auto, using(ar_space::proofs::Outcomes::answering), unfolding(crate::specs::MachineText::text))]
 fn text(alloc: Global, n: usize, osi: &mut OsiTexts, tail: Option<&[u8]>) -> Result<(), Refusal>
     ensures { Answers (seen (λ _. osi.new) result) (text n osi.old (option_map (λ s. s.now) tail.entry)) }
 {
@@ -142,7 +142,7 @@ fn is_text(text: &[u8]) -> bool
 }
 
 /// A line by its first word.
-#[tactic(auto, using(ar_space::specs::Outcome::answering), unfolding(crate::specs::MachineText::keyed))]
+#[tactic(auto, using(ar_space::proofs::Outcomes::answering), unfolding(crate::specs::MachineText::keyed))]
 fn keyed(
     alloc: Global,
     n: usize,
@@ -182,7 +182,7 @@ fn keyed(
 }
 
 /// `mem A bytes..`, behind the first word.
-#[tactic(auto, using(ar_space::specs::Outcome::answering), unfolding(crate::specs::MachineText::keyed))]
+#[tactic(auto, using(ar_space::proofs::Outcomes::answering), unfolding(crate::specs::MachineText::keyed))]
 fn memory(n: usize, tail: &[u8], draft: &mut Draft, buffer: &mut Vec<u8>) -> Result<(), Refusal>
     ensures { Answers (seen (λ _. draft.new) result) (keyed n (codes "mem") (Some tail.now) draft.old) }
 {
@@ -207,7 +207,7 @@ fn behind_mem(text: &[u8]) -> Option<&[u8]>
 }
 
 /// The n-th line. The buffer is used for its bytes.
-#[tactic(auto, using(ar_space::specs::Outcome::answering), unfolding(crate::specs::MachineText::line))]
+#[tactic(auto, using(ar_space::proofs::Outcomes::answering), unfolding(crate::specs::MachineText::line))]
 pub(crate) fn line(
     alloc: Global,
     n: usize,

@@ -64,7 +64,7 @@ fn lines_read(alloc: Global, text: &[u8], draft: &mut Draft) -> Result<(), Refus
 }
 
 /// What all lines said.
-#[tactic(auto, using(ar_space::specs::Outcome::answering))]
+#[tactic(auto, using(ar_space::proofs::Outcomes::answering))]
 fn finished(draft: Draft) -> Result<MachineText, Refusal>
     ensures { Answers result (finished draft) }
 {
@@ -93,7 +93,7 @@ fn finished(draft: Draft) -> Result<MachineText, Refusal>
 /// A later byte replaces an earlier one at the same place. `MachineLine` with the number of the line, from 1, is the
 /// first line that is none of these or whose bytes run past the last place; with 0 where all lines are good and none is
 /// `rsdp`. `OutOfMemory` where memory runs out.
-#[tactic(auto, using(ar_space::specs::Outcome::answering), unfolding(crate::specs::MachineText::machine_text))]
+#[tactic(auto, using(ar_space::proofs::Outcomes::answering), unfolding(crate::specs::MachineText::machine_text))]
 pub fn read_machine(alloc: Global, text: &[u8]) -> Result<MachineText, Refusal>
     ensures { Answers result (machine_text text.now) }
 {

@@ -18,7 +18,7 @@ pub(crate) fn bad_line(n: usize) -> Refusal
 }
 
 /// The next word.
-#[tactic(auto, using(ar_space::specs::Outcome::answering))]
+#[tactic(auto, using(ar_space::proofs::Outcomes::answering))]
 fn word<'a>(n: usize, words: &mut Words<'a>) -> Result<&'a [u8], Refusal>
     ensures { Answers (seen (λ w. (w.now, words.new)) result) (word n words.old) }
 {
@@ -29,7 +29,7 @@ fn word<'a>(n: usize, words: &mut Words<'a>) -> Result<&'a [u8], Refusal>
 }
 
 /// No word is left.
-#[tactic(auto, using(ar_space::specs::Outcome::answering))]
+#[tactic(auto, using(ar_space::proofs::Outcomes::answering))]
 pub(crate) fn ended(n: usize, words: &Words<'_>) -> Result<(), Refusal>
     ensures { Answers result (ended n words.now) }
 {
@@ -41,7 +41,7 @@ pub(crate) fn ended(n: usize, words: &Words<'_>) -> Result<(), Refusal>
 }
 
 /// The next word, as a number that is at most `most`.
-#[tactic(auto, using(ar_space::specs::Outcome::answering), unfolding(crate::specs::MachineText::numbered))]
+#[tactic(auto, using(ar_space::proofs::Outcomes::answering), unfolding(crate::specs::MachineText::numbered))]
 pub(crate) fn number(n: usize, most: u64, words: &mut Words<'_>) -> Result<u64, Refusal>
     ensures value { Answers (seen (λ a. (a, words.new)) result) (numbered n most words.old) }
     ensures within { IfOk result (λ a. a ≤ most) }
@@ -52,7 +52,7 @@ pub(crate) fn number(n: usize, most: u64, words: &mut Words<'_>) -> Result<u64, 
 
 /// The bytes of all words, of which there is one at least: `Some` of the byte where there is one word of two digits
 /// alone, which takes no buffer; else `None`, and the bytes are in the buffer, in place of what it had.
-#[tactic(auto, using(ar_space::specs::Outcome::answering), unfolding(crate::specs::MachineText::all_bytes))]
+#[tactic(auto, using(ar_space::proofs::Outcomes::answering), unfolding(crate::specs::MachineText::all_bytes))]
 pub(crate) fn bytes(
     n: usize,
     words: &mut Words<'_>,
@@ -82,7 +82,7 @@ fn only_byte(n: usize, word: &[u8]) -> Result<u8, Refusal>
 }
 
 /// The number of a word.
-#[tactic(auto, using(ar_space::specs::Outcome::answering))]
+#[tactic(auto, using(ar_space::proofs::Outcomes::answering))]
 fn number_here(n: usize, word: &[u8], most: u64) -> Result<u64, Refusal>
     ensures value { Answers result (here n (number most word.now)) }
     ensures within { IfOk result (λ a. a ≤ most) }
@@ -110,7 +110,7 @@ fn bytes_after(
 }
 
 /// Adds the bytes of one word, straight from its digits. Memory is taken only where the buffer has no room left.
-#[tactic(auto, using(ar_space::specs::Outcome::answering))]
+#[tactic(auto, using(ar_space::proofs::Outcomes::answering))]
 fn add_word(n: usize, all: &mut Vec<u8>, word: &[u8]) -> Result<(), Refusal>
     ensures { Answers (seen (λ _. all.new.items) result) (with_word n all.old.items word.now) }
 {

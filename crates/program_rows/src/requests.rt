@@ -63,7 +63,10 @@ fn evaluation_text(alloc: Global, evaluation: &Evaluation) -> Result<String, All
         Profile::Core => "",
         Profile::Wide => " wide",
     };
-    format!(in alloc; "steps {steps}{profile}")
+    match evaluation.accesses {
+        None => format!(in alloc; "steps {steps}{profile}"),
+        Some(accesses) => format!(in alloc; "steps {steps}{profile} accesses {accesses}"),
+    }
 }
 
 /// A request of `eval` as text.

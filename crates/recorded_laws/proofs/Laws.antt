@@ -10,17 +10,18 @@ use Rattle.acpi_machine.specs.Calls.{initialized}
 use Rattle.acpi_machine.specs.MachineStates.{MachineState, machine_of}
 use Rattle.acpi_links.specs.Gathering.{Gathering}
 use Rattle.acpi_configure.specs.Configured.{Solves}
-use Rattle.acpi_configure.proofs.One.{one_report}
+use Rattle.acpi_configure.proofs.One.{one_told}
 use Rattle.route_solve.specs.Problems.{RoutingProblem, RoutingAnswer}
 use Rattle.route_report.specs.Reports.{RoutingReport}
 use Rattle.recorded_space.specs.declared.exchange.Exchange.{Exchange}
 use Rattle.recorded_space.specs.Recordings.{Recording, begun, recorded}
 use Rattle.recorded_space.specs.Deciding.{Gives}
 use Rattle.recorded_route.specs.declared.settings.Settings.{Settings}
-use Rattle.recorded_route.specs.Runs.{Description, IsConfigured, IsConfiguredIf, IsMachineRun, IsLoadedRun, IsDescribedRun, world_over as first_world}
+use Rattle.recorded_route.specs.Runs.{Description, options_of, IsConfigured, IsConfiguredIf, IsMachineRun, IsLoadedRun, IsDescribedRun, world_over as first_world}
 use Rattle.recorded_laws.specs.Listed.{listed}
 use Rattle.recorded_laws.proofs.Following.{following, following_listed}
 use Rattle.machine_laws.proofs.ReportsCarried.{Carried}
+use Rattle.recorded_laws.proofs.PlainReports.{plain_report}
 use Rattle.recorded_laws.proofs.Running.{described_run_carried}
 use Rattle.recorded_laws.proofs.Meeting.{Meet, described_runs_meet}
 
@@ -59,9 +60,9 @@ wanted_next law accesses space settings avoid d entries outcome after access giv
 
 module _ {S : Type 0} (law : (problem : RoutingProblem) (one other : RoutingAnswer) → Solves problem one → Solves problem other → one ≡ other) (accesses : Accesses S) (settings : Settings) (avoid : List ℕ) where
   one_configured : (m after after2 : MachineState S) (one other : Outcome RoutingReport) → IsConfigured accesses settings avoid m one after → IsConfigured accesses settings avoid m other after2 → (one ≡ other) × (after ≡ after2)
-  one_configured m after after2 (Ok report) (Ok report2) is is2 = let h = one_report law accesses settings.dry avoid m after after2 report report2 is is2 in (ap Ok h.0, h.1)
-  one_configured m after after2 (Ok report) (Err e) is is2 = absurd (cc (ap (λ (x : Outcome Gathering × MachineState S). x.0) (sym is.is_found ∙ is2)))
-  one_configured m after after2 (Err e) (Ok report2) is is2 = absurd (cc (ap (λ (x : Outcome Gathering × MachineState S). x.0) (sym is ∙ is2.is_found)))
+  one_configured m after after2 (Ok report) (Ok report2) is is2 = let h = one_told law accesses (options_of settings avoid) m after after2 report report2 refl is is2 in (ap Ok h.0, h.1)
+  one_configured m after after2 (Ok report) (Err e) is is2 = absurd (cc (ap (λ (x : Outcome Gathering × MachineState S). x.0) (sym (plain_report accesses settings avoid m after report is).is_found ∙ is2)))
+  one_configured m after after2 (Err e) (Ok report2) is is2 = absurd (cc (ap (λ (x : Outcome Gathering × MachineState S). x.0) (sym is ∙ (plain_report accesses settings avoid m after2 report2 is2).is_found)))
   one_configured m after after2 (Err e) (Err e2) is is2 = let h = sym is ∙ is2 in (ap Err (cc (ap (λ (x : Outcome Gathering × MachineState S). x.0) h)), ap (λ (x : Outcome Gathering × MachineState S). x.1) h)
 
   one_started : (r : Outcome (Unit {0})) (m after after2 : MachineState S) (one other : Outcome RoutingReport) → IsConfiguredIf accesses settings avoid r m one after → IsConfiguredIf accesses settings avoid r m other after2 → (one ≡ other) × (after ≡ after2)

@@ -1,3 +1,7 @@
+mod PlainReports
+mod TellingTogether
+mod BusesExplained
+mod BusesTold
 mod Parting
 mod Running
 mod Following
@@ -14,3 +18,4 @@ pub mod StreamsTold
 pub mod StreamLines
 pub mod RunsWidened
 pub mod TextsWidened
+pub mod Bounding

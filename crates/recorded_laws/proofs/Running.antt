@@ -11,15 +11,21 @@ use Rattle.acpi_machine.specs.Calls.{initialized}
 use Rattle.acpi_machine.specs.MachineStates.{MachineState, machine_of}
 use Rattle.acpi_links.specs.Gathering.{Gathering}
 use Rattle.acpi_links.specs.Gatherings.{gathered}
+use Rattle.acpi_configure.specs.Configured.{IsReport}
+use Rattle.acpi_configure.specs.ForKernels.{told_if, IsReportFor}
 use Rattle.route_report.specs.Reports.{RoutingReport}
 use Rattle.recorded_route.specs.declared.settings.Settings.{Settings}
-use Rattle.recorded_route.specs.Runs.{Description, described, IsConfigured, IsConfiguredIf, IsStarted, IsMachineRun, IsLoadedRun, IsRunOver, IsDescribedRun, IsRun, world_over as first_world}
+use Rattle.recorded_route.specs.Runs.{Description, described, options_of, IsConfigured, IsConfiguredIf, IsStarted, IsMachineRun, IsLoadedRun, IsRunOver, IsDescribedRun, IsRun, world_over as first_world}
 use Rattle.aml_laws.proofs.Together.{SideBySide, Goes, alike, goes_from}
 use Rattle.aml_laws.proofs.WorldsTogether.{world_over, worlds}
-use Rattle.machine_laws.proofs.MachinesTogether.{machine_over, machines, loaded_tables_together, initialized_together}
+use Rattle.aml_laws.proofs.Levels.{one_profile}
+use Rattle.machine_laws.proofs.MachineShapes.{machine_over, machines}
+use Rattle.machine_laws.proofs.MachinesTogether.{loaded_tables_together, initialized_together}
 use Rattle.machine_laws.proofs.LinksTogether.{gathered_together}
 use Rattle.machine_laws.proofs.ReportsCarried.{Carried, report_carried}
 use Rattle.recorded_laws.proofs.Parting.{configured_if_left, loaded_run_left}
+use Rattle.recorded_laws.proofs.PlainReports.{plain_report, report_behind}
+use Rattle.recorded_laws.proofs.TellingTogether.{told_left, told_if_together}
 
 module _ {S T : Type 0} {accesses : Accesses S} {accesses2 : Accesses T} (side : SideBySide accesses accesses2) (settings : Settings) (avoid : List ℕ) where
   -- ---- a run is the same over a space that is in step with that of another
@@ -28,10 +34,26 @@ module _ {S T : Type 0} {accesses : Accesses S} {accesses2 : Accesses T} (side :
   refusal_carried m after e t (inl parted) = inl (_, parted)
   refusal_carried m after e t (inr (u, same, i)) = inr (u, same, i)
 
+  told_carried : (m after : MachineState S) (report : RoutingReport) (t u : T) (is : IsReportFor accesses (options_of settings avoid) m after report) → IsReport accesses2 settings.dry avoid (machine_over m t) (machine_over is.configured u) is.plain
+      → Goes side machines (Ok report, after) (told_if accesses2 settings.kernel is.plain (machine_over is.configured u)) → Carried side after.world.space (λ v. IsReportFor accesses2 (options_of settings avoid) (machine_over m t) (machine_over after v) report)
+  told_carried m after report t u is plain (inl parted) = inl (_, parted)
+  told_carried m after report t u is plain (inr (v, same, i)) = inr (v, report_behind accesses2 settings avoid (machine_over m t) (machine_over is.configured u) (machine_over after v) is.plain report plain same is.readable is.claims, i)
+
+  plain_carried : (m after : MachineState S) (report : RoutingReport) (t : T) (is : IsReportFor accesses (options_of settings avoid) m after report)
+      → Carried side is.configured.world.space (λ v. IsReport accesses2 settings.dry avoid (machine_over m t) (machine_over is.configured v) is.plain) → Carried side after.world.space (λ v. IsReportFor accesses2 (options_of settings avoid) (machine_over m t) (machine_over after v) report)
+  plain_carried m after report t is (inl (u, parted)) = inl (u, told_left side settings.kernel is.plain report is.configured after u is.is_told parted)
+  plain_carried m after report t is (inr (u, plain, i)) =
+      told_carried m after report t u is plain
+      (subst (λ (x : Outcome RoutingReport × MachineState S). Goes side machines x (told_if accesses2 settings.kernel is.plain (machine_over is.configured u))) is.is_told
+      (goes_from side machines _ _ ((told_if_together {side = side} settings.kernel is.plain).goes is.configured u i)))
+
   configured_carried : (m after : MachineState S) (outcome : Outcome RoutingReport) (t : T) → IsConfigured accesses settings avoid m outcome after → side.InStep m.world.space t
       → Carried side after.world.space (λ v. IsConfigured accesses2 settings avoid (machine_over m t) outcome (machine_over after v))
   configured_carried m after (Ok report) t is i =
-      report_carried side settings.dry avoid m after report t is (subst (λ (x : Outcome Gathering × MachineState S). Goes side machines x (gathered accesses2 avoid (machine_over m t))) is.is_found (goes_from side machines _ _ ((gathered_together {side = alike side} (λ n. refl) (inl refl) avoid).goes m t i)))
+      let plain = plain_report accesses settings avoid m after report is in
+      plain_carried m after report t is
+      (report_carried side settings.dry avoid m is.configured is.plain t plain
+      (subst (λ (x : Outcome Gathering × MachineState S). Goes side machines x (gathered accesses2 avoid (machine_over m t))) plain.is_found (goes_from side machines _ _ ((gathered_together {side = alike side} (λ n. refl) (inl refl) avoid).goes m t i))))
   configured_carried m after (Err e) t is i =
       refusal_carried m after e t (subst (λ (x : Outcome Gathering × MachineState S). Goes side machines x (gathered accesses2 avoid (machine_over m t))) is (goes_from side machines _ _ ((gathered_together {side = alike side} (λ n. refl) (inl refl) avoid).goes m t i)))
 
@@ -55,7 +77,7 @@ module _ {S T : Type 0} {accesses : Accesses S} {accesses2 : Accesses T} (side :
 
   machine_run_carried : (m : MachineState S) (outcome : Outcome RoutingReport) (space : S) (t : T) → IsMachineRun accesses settings avoid m outcome space → side.InStep m.world.space t
       → Carried side space (λ v. IsMachineRun accesses2 settings avoid (machine_over m t) outcome v)
-  machine_run_carried m outcome space t is i = machine_run_of m is.after outcome space t is.is_space (started_carried m is.after outcome t is.is_started (goes_from side machines _ _ ((initialized_together {side = alike side} (λ n. refl) settings.mode).goes m t i)))
+  machine_run_carried m outcome space t is i = machine_run_of m is.after outcome space t is.is_space (started_carried m is.after outcome t is.is_started (goes_from side machines _ _ ((one_profile side 0 (initialized_together (alike side) (λ n. refl) settings.mode)).goes m t i)))
 
   loaded_run_carried : (tables : Tables) (r : Outcome (Unit {0})) (w : State S) (outcome : Outcome RoutingReport) (space : S) (t : T) → IsLoadedRun accesses settings avoid tables r w outcome space → side.InStep w.space t
       → Carried side space (λ v. IsLoadedRun accesses2 settings avoid tables r (world_over (λ r. r) w t) outcome v)
@@ -71,7 +93,7 @@ module _ {S T : Type 0} {accesses : Accesses S} {accesses2 : Accesses T} (side :
 
   pub described_run_carried : (d : Outcome Description) (before : S) (outcome : Outcome RoutingReport) (space : S) (t : T) → IsDescribedRun accesses settings avoid d before outcome space → side.InStep before t
       → Carried side space (λ v. IsDescribedRun accesses2 settings avoid d t outcome v)
-  described_run_carried (Ok d) before outcome space t is i = run_over_goes d before outcome space t is (goes_from side worlds _ _ ((loaded_tables_together {side = alike side} (λ n. refl) d.0 settings.steps d.1).goes (fresh_as settings.profile d.0.width d.1 before) t i))
+  described_run_carried (Ok d) before outcome space t is i = run_over_goes d before outcome space t is (goes_from side worlds _ _ ((one_profile side 0 (loaded_tables_together (alike side) (λ n. refl) d.0 settings.steps d.1)).goes (fresh_as settings.profile d.0.width d.1 before) t i))
   described_run_carried (Err e) before outcome space t is i = inr (t, (is.0, refl), subst (λ s. side.InStep s t) is.1 i)
 
   pub run_carried : (text : List ℕ) (before : S) (outcome : Outcome RoutingReport) (space : S) (t : T) → IsRun accesses settings avoid text before outcome space → side.InStep before t

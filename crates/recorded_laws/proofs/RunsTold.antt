@@ -24,6 +24,8 @@ use Rattle.machine_laws.proofs.ReportsCarried.{Carried}
 use Rattle.machine_laws.proofs.ReportsTold.{report_told}
 use Rattle.recorded_laws.specs.RunNotes.{RunTells}
 use Rattle.recorded_laws.proofs.CleanTexts.{described_clean}
+use Rattle.recorded_laws.proofs.BusesTold.{buses_told_of}
+use Rattle.recorded_laws.proofs.PlainReports.{plain_report}
 use Rattle.recorded_laws.proofs.Running.{run_carried}
 
 -- ---- accesses that are answered with values, and then others
@@ -85,7 +87,9 @@ module _ {S : Type 0} (accesses : Accesses S) (settings : Settings) (avoid text 
         initializing = initializing;
         left = after;
         is_report = is;
-        told = report_told accesses settings.dry avoid m after report is;
+        is_plain = plain_report (noted accesses) settings avoid m after report is;
+        told = report_told accesses settings.dry avoid m is.configured is.plain (plain_report (noted accesses) settings avoid m after report is);
+        buses = buses_told_of accesses settings.kernel settings.dry avoid m is.configured after is.plain report (plain_report (noted accesses) settings avoid m after report is) is.is_told;
         is_after = at;
       }
       configured_told m after is_ready initializing (Err e) space is at =

@@ -7,21 +7,21 @@ use Rattle.ar_space.specs.Outcome.{Outcome}
 use Rattle.ar_tables.specs.declared.tables.Tables.{Tables}
 use Rattle.aml_meaning.specs.State.{State}
 use Rattle.aml_meaning.specs.Predefined.{fresh_as}
-use Rattle.aml_laws.specs.Widened.{widened, IsLeftOut}
+use Rattle.aml_laws.specs.Widened.{widened, IsLeftOutAt}
 use Rattle.acpi_machine.specs.Calls.{initialized}
 use Rattle.acpi_machine.specs.MachineStates.{MachineState, machine_of}
 use Rattle.acpi_links.specs.Gathering.{Gathering}
 use Rattle.acpi_links.specs.Gatherings.{gathered}
 use Rattle.route_report.specs.Reports.{RoutingReport}
 use Rattle.recorded_route.specs.declared.settings.Settings.{Settings}
-use Rattle.recorded_route.specs.Runs.{Description, IsConfigured, IsConfiguredIf, IsMachineRun, IsLoadedRun, IsDescribedRun, world_over}
+use Rattle.recorded_route.specs.Runs.{Description, options_of, IsConfigured, IsConfiguredIf, IsMachineRun, IsLoadedRun, IsDescribedRun, world_over}
 use Rattle.machine_laws.specs.Widened.{machine_widened, call_widened, Withheld, IsWithheld}
 use Rattle.machine_laws.proofs.MachinesWidened.{tables_widened, initialization_widened, gathering_widened}
-use Rattle.machine_laws.proofs.ReportsWidened.{report_widened}
-use Rattle.recorded_laws.specs.Widened.{settings_widened, LeavesNothingOut}
+use Rattle.machine_laws.proofs.TellingWidened.{report_for_kernels_widened}
+use Rattle.recorded_laws.specs.Widened.{settings_widened, IsLeftOrPassed, LeavesNothingOut}
 
--- a run that was refused for a term leaves something out
-left_out_by : (outcome : Outcome RoutingReport) (e : Refusal) → outcome ≡ Err e → Withheld e → LeavesNothingOut outcome → ⊥
+-- a run that was refused for what the core profile leaves out, or the wide one passes over, leaves something out
+left_out_by : (outcome : Outcome RoutingReport) (e : Refusal) → outcome ≡ Err e → IsLeftOrPassed e → LeavesNothingOut outcome → ⊥
 left_out_by outcome e is out whole = (subst (λ (x : Outcome RoutingReport). LeavesNothingOut x) is whole) out
 
 module _ {S : Type 0} (accesses : Accesses S) (settings : Settings) (avoid : List ℕ) where
@@ -31,8 +31,8 @@ module _ {S : Type 0} (accesses : Accesses S) (settings : Settings) (avoid : Lis
   refusal_widened e m after is apart (inr same) = same ∙ ap (λ (x : Outcome Gathering × MachineState S). call_widened x) is
 
   configured_widened : (outcome : Outcome RoutingReport) (m after : MachineState S) → LeavesNothingOut outcome → IsConfigured accesses settings avoid m outcome after → IsConfigured accesses (settings_widened settings) avoid (machine_widened m) outcome (machine_widened after)
-  configured_widened (Ok report) m after whole is = report_widened accesses settings.dry avoid m after report whole is
-  configured_widened (Err e) m after whole is = refusal_widened e m after is whole (gathering_widened accesses avoid m)
+  configured_widened (Ok report) m after whole is = report_for_kernels_widened accesses (options_of settings avoid) m after report whole is
+  configured_widened (Err e) m after whole is = refusal_widened e m after is (λ out. whole (inl out)) (gathering_widened accesses avoid m)
 
   ready_widened : (r : Outcome (Unit {0})) (m after : MachineState S) (outcome : Outcome RoutingReport) → LeavesNothingOut outcome → IsConfiguredIf accesses settings avoid r m outcome after
       → IsConfiguredIf accesses (settings_widened settings) avoid r (machine_widened m) outcome (machine_widened after)
@@ -40,11 +40,13 @@ module _ {S : Type 0} (accesses : Accesses S) (settings : Settings) (avoid : Lis
   ready_widened (Err e) m after outcome whole is = (is.0, ap (λ (x : MachineState S). machine_widened x) is.1)
 
   -- initializing that was refused for a term leaves something out
-  not_ready : (r : Outcome (Unit {0})) (m after : MachineState S) (outcome : Outcome RoutingReport) → LeavesNothingOut outcome → IsConfiguredIf accesses settings avoid r m outcome after → IsLeftOut r → ⊥
-  not_ready (Ok u) m after outcome whole is out = out
-  not_ready (Err e) m after outcome whole is out = left_out_by outcome e is.0 (inl out) whole
+  not_ready : (r : Outcome (Unit {0})) (m after : MachineState S) (outcome : Outcome RoutingReport) → LeavesNothingOut outcome → IsConfiguredIf accesses settings avoid r m outcome after → IsLeftOutAt 0 r → ⊥
+  not_ready (Ok u) m after outcome whole is (inl out) = out
+  not_ready (Ok u) m after outcome whole is (inr out) = out.1
+  not_ready (Err e) m after outcome whole is (inl out) = left_out_by outcome e is.0 (inl (inl out)) whole
+  not_ready (Err e) m after outcome whole is (inr out) = left_out_by outcome e is.0 (inr out.1) whole
 
-  started_by : (m after : MachineState S) (outcome : Outcome RoutingReport) (p q : Outcome (Unit {0}) × MachineState S) → LeavesNothingOut outcome → IsConfiguredIf accesses settings avoid p.0 p.1 outcome after → IsLeftOut p.0 ⊎ (q ≡ call_widened p)
+  started_by : (m after : MachineState S) (outcome : Outcome RoutingReport) (p q : Outcome (Unit {0}) × MachineState S) → LeavesNothingOut outcome → IsConfiguredIf accesses settings avoid p.0 p.1 outcome after → IsLeftOutAt 0 p.0 ⊎ (q ≡ call_widened p)
       → IsConfiguredIf accesses (settings_widened settings) avoid q.0 q.1 outcome (machine_widened after)
   started_by m after outcome p q whole is (inl out) = absurd (not_ready p.0 p.1 after outcome whole is out)
   started_by m after outcome p q whole is (inr same) =
@@ -63,11 +65,13 @@ module _ {S : Type 0} (accesses : Accesses S) (settings : Settings) (avoid : Lis
   loaded_run_widened tables (Err e) w outcome space whole is = is
 
   -- nor does loading
-  not_loaded : (tables : Tables) (r : Outcome (Unit {0})) (w : State S) (outcome : Outcome RoutingReport) (space : S) → LeavesNothingOut outcome → IsLoadedRun accesses settings avoid tables r w outcome space → IsLeftOut r → ⊥
-  not_loaded tables (Ok u) w outcome space whole is out = out
-  not_loaded tables (Err e) w outcome space whole is out = left_out_by outcome e is.0 (inl out) whole
+  not_loaded : (tables : Tables) (r : Outcome (Unit {0})) (w : State S) (outcome : Outcome RoutingReport) (space : S) → LeavesNothingOut outcome → IsLoadedRun accesses settings avoid tables r w outcome space → IsLeftOutAt 0 r → ⊥
+  not_loaded tables (Ok u) w outcome space whole is (inl out) = out
+  not_loaded tables (Ok u) w outcome space whole is (inr out) = out.1
+  not_loaded tables (Err e) w outcome space whole is (inl out) = left_out_by outcome e is.0 (inl (inl out)) whole
+  not_loaded tables (Err e) w outcome space whole is (inr out) = left_out_by outcome e is.0 (inr out.1) whole
 
-  run_by : (tables : Tables) (p q : Outcome (Unit {0}) × State S) (outcome : Outcome RoutingReport) (space : S) → LeavesNothingOut outcome → IsLoadedRun accesses settings avoid tables p.0 p.1 outcome space → IsLeftOut p.0 ⊎ (q ≡ (p.0, widened p.1))
+  run_by : (tables : Tables) (p q : Outcome (Unit {0}) × State S) (outcome : Outcome RoutingReport) (space : S) → LeavesNothingOut outcome → IsLoadedRun accesses settings avoid tables p.0 p.1 outcome space → IsLeftOutAt 0 p.0 ⊎ (q ≡ (p.0, widened p.1))
       → IsLoadedRun accesses (settings_widened settings) avoid tables q.0 q.1 outcome space
   run_by tables p q outcome space whole is (inl out) = absurd (not_loaded tables p.0 p.1 outcome space whole is out)
   run_by tables p q outcome space whole is (inr same) =

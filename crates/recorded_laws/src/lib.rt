@@ -3,6 +3,7 @@
 #![tactic(auto)]
 
 pub mod answers;
+pub mod bounds;
 pub mod profiles;
 
 ghost use Rattle.std.specs.Prelude.{◌≡◌, ◌≢◌, ◌++◌, ℕ, List, [], None, Some, Err, slice_get};

@@ -3,7 +3,7 @@ ghost use Rattle.std.specs.Prelude.{◌≡◌, ◌⊎◌, ℕ, List};
 ghost use Rattle.ar_space.specs.Accesses.{Accesses};
 ghost use Rattle.ar_space.specs.Outcome.{Outcome};
 ghost use Rattle.ar_tables.specs.declared.mode.Mode.{Mode};
-ghost use Rattle.aml_laws.specs.Widened.{IsLeftOut};
+ghost use Rattle.aml_laws.specs.Widened.{IsLeftOutAt};
 ghost use Rattle.acpi_configure.specs.Options.{RunOptions};
 ghost use Rattle.route_report.specs.Reports.{RoutingReport};
 ghost use Rattle.recorded_route.specs.declared.settings.Settings.{Settings};
@@ -27,16 +27,17 @@ pub fn a_whole_run_is_one_in_the_wide_profile<S>()
 {}
 
 /// What the program writes over a machine text, it writes in the wide profile, too: `route`, where its report tells of
-/// nothing that the core profile leaves out, and `names` and `eval`, where they aren't refused for what it leaves out.
+/// nothing that the core profile leaves out, and `names` and `eval`, where they aren't refused for what it leaves out or
+/// the wide profile passes over.
 #[tactic(auto, using(crate::proofs::TextsWidened::route_widens, crate::proofs::TextsWidened::names_widen, crate::proofs::TextsWidened::eval_widens))]
 pub fn the_wide_profile_writes_what_the_core_one_does()
     ensures route { (mode : Mode) (evaluation : Evaluation) (o : RunOptions) (text : List ℕ) (w : Written) →
         IsWholeReport o (machine_of_text_in mode evaluation text) w →
         IsWholeReport o (machine_of_text_in mode (evaluation_widened evaluation) text) w }
-    ensures names { (evaluation : Evaluation) (text : List ℕ) → IsLeftOut (names_answer evaluation text) ⊎
+    ensures names { (evaluation : Evaluation) (text : List ℕ) → IsLeftOutAt 0 (names_answer evaluation text) ⊎
         (names_answer (evaluation_widened evaluation) text ≡ names_answer evaluation text) }
     ensures eval { (mode : Mode) (evaluation : Evaluation) (path : List ℕ) (arguments : List Argument)
-        (text : List ℕ) → IsLeftOut (eval_answer mode evaluation path arguments text) ⊎
+        (text : List ℕ) → IsLeftOutAt 0 (eval_answer mode evaluation path arguments text) ⊎
         (eval_answer mode (evaluation_widened evaluation) path arguments text ≡
         eval_answer mode evaluation path arguments text) }
 {}

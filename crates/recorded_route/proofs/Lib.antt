@@ -1,3 +1,4 @@
 mod Starting
 mod Parts
 mod Told
+mod Kept

@@ -6,7 +6,8 @@ use Rattle.std.proofs.Common.{◌∙◌, sym, ap, get_or, drop-cons, add-one}
 use Rattle.std.proofs.lemmas.List.{drop_all}
 use Rattle.ar_space.specs.declared.refusal.Refusal.{Refusal}
 use Rattle.ar_space.specs.declared.refusal.Refusal.TheVariants.{OutOfMemory}
-use Rattle.ar_space.specs.Outcome.{Outcome, Answers, NotMemory, answers_refused, ◌>>=◌}
+use Rattle.ar_space.specs.Outcome.{Outcome, Answers, NotMemory, ◌>>=◌}
+use Rattle.ar_space.proofs.Outcomes.{answers_refused}
 use Rattle.recorded_route.specs.declared.description.TablePart.{TablePart}
 use Rattle.recorded_route.specs.Runs.{with_part, with_parts}
 

@@ -1,3 +1,4 @@
 pub mod Runs
+pub mod Pins
 pub mod Evaluations
 pub mod Endings

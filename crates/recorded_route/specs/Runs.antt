@@ -1,5 +1,5 @@
 -- A run over any register space: the tables of a machine are loaded over it, the machine is initialized, and its links are configured.
-use Rattle.std.specs.Prelude.{◌≡◌, ◌+◌, ◌^◌, ◌==◌, ℕ, nat_le, List, [], ◌∷◌, length, Ok, Err, if◌then◌else◌}
+use Rattle.std.specs.Prelude.{◌≡◌, ◌+◌, ◌^◌, ◌==◌, ℕ, nat_le, false, List, [], ◌∷◌, length, Ok, Err, if◌then◌else◌}
 use Rattle.std.specs.FinMap as map
 use Rattle.std.specs.List.{slice_split}
 use Rattle.std.specs.Ordering.{nat_cmp}
@@ -17,7 +17,8 @@ use Rattle.acpi_machine.specs.Calls.{initialized}
 use Rattle.acpi_machine.specs.Loading.{loaded_tables}
 use Rattle.acpi_machine.specs.MachineStates.{MachineState, machine_of}
 use Rattle.acpi_links.specs.Gatherings.{gathered}
-use Rattle.acpi_configure.specs.Configured.{IsReport}
+use Rattle.acpi_configure.specs.ForKernels.{IsReportFor}
+use Rattle.acpi_configure.specs.Options.{RunOptions}
 use Rattle.route_report.specs.Reports.{RoutingReport}
 use Rattle.recorded_route.specs.declared.description.TablePart.{TablePart}
 use Rattle.recorded_route.specs.declared.settings.Settings.{Settings}
@@ -58,11 +59,15 @@ described_tables rsdp parts osi = do
   t ← tables_of image rsdp
   Ok (t, texts_in osi)
 
+-- what the settings ask for: of the options of a run only whether links are set, and whether the report has lines for a kernel
+abbrev pub options_of : Settings → List ℕ → RunOptions
+options_of settings avoid = record { dry = settings.dry; avoid = avoid; spare = false; spread = false; kernel = settings.kernel }
+
 -- accesses: what the register space makes of them; settings and avoid: what the caller wants
 module _ {S : Type 0} (accesses : Accesses S) (settings : Settings) (avoid : List ℕ) where
   -- the report of a machine, or the refusal of what it has to find, and the machine after it
   abbrev pub IsConfigured : MachineState S → Outcome RoutingReport → MachineState S → Type 0
-  IsConfigured m (Ok report) after = IsReport accesses settings.dry avoid m after report
+  IsConfigured m (Ok report) after = IsReportFor accesses (options_of settings avoid) m after report
   IsConfigured m (Err e) after = gathered accesses avoid m ≡ (Err e, after)
 
   -- the same of a machine as initializing left it, whose refusal ends the run

@@ -27,7 +27,7 @@ fn octets(alloc: Global, texts: Vec<Vec<u8>>) -> Result<Vec<Octets>, AllocError>
 }
 
 /// The tables in the memory of a machine text, and the texts that `_OSI` knows. Its registers are passed over.
-#[tactic(auto, using(ar_space::specs::Outcome::answering), unfolding(crate::specs::Runs::described))]
+#[tactic(auto, using(ar_space::proofs::Outcomes::answering), unfolding(crate::specs::Runs::described))]
 pub(crate) fn described(alloc: Global, text: &[u8]) -> Result<Description, Refusal>
     ensures { Answers (seen (λ d. (d.0, d.1.items)) result) (described text.now) }
 {
@@ -104,7 +104,7 @@ fn is_in_memory(part: &TablePart<'_>) -> bool
 }
 
 /// An image of memory with a part of it.
-#[tactic(auto, using(ar_space::specs::Outcome::answering), unfolding(crate::specs::Runs::with_part))]
+#[tactic(auto, using(ar_space::proofs::Outcomes::answering), unfolding(crate::specs::Runs::with_part))]
 fn with_part(image: ByteMap, part: &TablePart<'_>) -> Result<ByteMap, Refusal>
     ensures { Answers result (with_part image part.now) }
 {
@@ -129,7 +129,7 @@ fn with_parts(image: ByteMap, parts: &[TablePart<'_>]) -> Result<ByteMap, Refusa
 
 /// The tables by their Root System Description Pointer in parts of memory. A part that doesn't lie below 2^64 is
 /// refused as `NotInImage`. Of a table that isn't needed only the signature has to be among the parts.
-#[tactic(auto, using(ar_space::specs::Outcome::answering), unfolding(crate::specs::Runs::described_tables))]
+#[tactic(auto, using(ar_space::proofs::Outcomes::answering), unfolding(crate::specs::Runs::described_tables))]
 pub(crate) fn described_tables(
     alloc: Global,
     tables: &TablesInMemory<'_>,

@@ -31,7 +31,7 @@ pub struct Question<'a> {
 }
 
 /// Initializes a machine, and evaluates an object.
-#[tactic(auto, using(ar_space::specs::Change::changing), unfolding(crate::specs::Evaluations::object_of))]
+#[tactic(auto, using(ar_space::proofs::Changes::changing), unfolding(crate::specs::Evaluations::object_of))]
 fn object_of<S: Space>(
     alloc: Global,
     machine: &mut Machine<S>,
@@ -132,8 +132,8 @@ fn ending(
 }
 
 /// Loads the tables of a machine text, initializes the machine, and evaluates an object (ACPI 6.5, 5.5.2), where each
-/// access of a register is answered from a record, as `configure_recorded` does it. `dry` of the settings counts for
-/// nothing.
+/// access of a register is answered from a record, as `configure_recorded` does it. `dry` and `kernel` of the settings
+/// count for nothing.
 ///
 /// Refused are the machine text, its tables, their loading, initializing, then the text of the path, and the
 /// evaluation, but only where the record held every access until then. `Refused(OutOfMemory)` where memory ran out; a

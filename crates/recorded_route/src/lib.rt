@@ -5,12 +5,14 @@
 mod description;
 mod ending;
 mod evaluation;
+mod pins;
 mod run;
 mod settings;
 
 pub use description::{TablePart, TablesInMemory};
 pub use ending::{Ending, WantedAccess};
 pub use evaluation::{Question, evaluate_recorded, evaluate_tables_recorded};
+pub use pins::{Pin, RoutedInterrupt, Triggering, pins_of, sci_of};
 pub use recorded_space::{Access, Exchange};
 pub use run::{configure_recorded, configure_tables_recorded};
 pub use settings::Settings;

@@ -7,7 +7,7 @@ ghost use Rattle.recorded_route.specs.Runs.{IsStarted, IsMachineRun, IsRunOver, 
 use crate::description::{Description, TablesInMemory, described, described_tables};
 use crate::ending::{Ending, WantedAccess, ending_of, wanted_of};
 use crate::settings::Settings;
-use acpi_configure::configure;
+use acpi_configure::{Options, configure_with};
 use acpi_machine::{Machine, load_tables_as};
 use ar_space::{Refusal, Space};
 use recorded_space::{Exchange, Recorded};
@@ -28,7 +28,14 @@ fn start<S: Space>(
     ensures { NotMemory result → IsStarted S.accesses settings.now avoid.now machine.old result machine.new }
 {
     machine.initialize(alloc, settings.mode)?;
-    configure(alloc, machine, settings.dry, avoid)
+    let options = Options {
+        dry: settings.dry,
+        avoid,
+        spare: false,
+        spread: false,
+        kernel: settings.kernel,
+    };
+    configure_with(alloc, machine, &options)
 }
 
 /// Starts a machine whose registers are a record.
@@ -103,7 +110,7 @@ fn ending(
 }
 
 /// Loads the tables of a machine text, initializes the machine, and configures its links as
-/// `acpi_configure::configure` does, where each access of a register is answered from a record. Only the memory of
+/// `acpi_configure::configure_with` does, where each access of a register is answered from a record. Only the memory of
 /// the text is read, as the image of the tables, and its texts of `_OSI`: its registers are passed over, and accesses
 /// of memory are answered from the record too.
 ///

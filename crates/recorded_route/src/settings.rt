@@ -12,4 +12,6 @@ pub struct Settings {
     pub steps: u64,
     /// No link is set.
     pub dry: bool,
+    /// The report has lines for a kernel.
+    pub kernel: bool,
 }

@@ -7,7 +7,7 @@ use Rattle.std.specs.Cmp.{IsTotalOrder, tied_itself}
 use Rattle.std.specs.Cmp.Rules.{comparing}
 use Rattle.std.specs.FinMap.{slice_cmp-IsAntisymmetric}
 use Rattle.std.proofs.lemmas.Bool.{false≢true}
-use Rattle.aml_path.specs.Segments.{seg_cmp_exact}
+use Rattle.aml_path.proofs.Segments.{seg_cmp_exact}
 use Rattle.aml_path.specs.Paths.{path_cmp, path_eq}
 use Rattle.route_model.proofs.Counting.{Tells}
 

@@ -7,7 +7,7 @@ use Rattle.std.specs.Cmp.{IsTotalOrder}
 use Rattle.std.specs.FinMap.{IsAntisymmetric, nat_cmp-IsAntisymmetric, slice_cmp-IsAntisymmetric}
 use Rattle.std.proofs.lemmas.Cmp.{on_total, then_total, nat_cmp_total, nat_list_cmp_total}
 use Rattle.aml_path.specs.declared.segment.Seg.{Seg}
-use Rattle.aml_path.specs.Segments.{seg_cmp_exact}
+use Rattle.aml_path.proofs.Segments.{seg_cmp_exact}
 use Rattle.aml_path.specs.Paths.{path_cmp}
 use Rattle.route_model.specs.Links.{OfferingLink}
 use Rattle.route_model.proofs.Paths.{path_total}

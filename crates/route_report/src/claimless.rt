@@ -24,7 +24,7 @@ fn is_passed_over(key: &[u8]) -> bool
 }
 
 /// `D R`
-#[tactic(auto, using(ar_space::specs::Outcome::answering), unfolding(crate::specs::Reading::unread))]
+#[tactic(auto, using(ar_space::proofs::Outcomes::answering), unfolding(crate::specs::Reading::unread))]
 fn unread(alloc: Global, n: usize, words: &mut Words<'_>) -> Result<(), Refusal>
     ensures { Answers result (unread n words.old) }
 {
@@ -34,7 +34,7 @@ fn unread(alloc: Global, n: usize, words: &mut Words<'_>) -> Result<(), Refusal>
 }
 
 /// `level` or `edge`, and `low` or `high`
-#[tactic(auto, using(ar_space::specs::Outcome::answering), unfolding(crate::specs::Reading::triggered))]
+#[tactic(auto, using(ar_space::proofs::Outcomes::answering), unfolding(crate::specs::Reading::triggered))]
 fn triggered(n: usize, words: &mut Words<'_>) -> Result<(), Refusal>
     ensures answer { Answers result (triggered n words.old) }
     ensures memory { NotMemory result }
@@ -45,7 +45,7 @@ fn triggered(n: usize, words: &mut Words<'_>) -> Result<(), Refusal>
 }
 
 /// `P`, and how it is triggered
-#[tactic(auto, using(ar_space::specs::Outcome::answering), unfolding(crate::specs::Reading::link_triggered))]
+#[tactic(auto, using(ar_space::proofs::Outcomes::answering), unfolding(crate::specs::Reading::link_triggered))]
 fn link_triggered(alloc: Global, n: usize, words: &mut Words<'_>) -> Result<(), Refusal>
     ensures { Answers result (link_triggered n words.old) }
 {
@@ -54,7 +54,7 @@ fn link_triggered(alloc: Global, n: usize, words: &mut Words<'_>) -> Result<(), 
 }
 
 /// `N`, and how it is triggered
-#[tactic(auto, using(ar_space::specs::Outcome::answering), unfolding(crate::specs::Reading::number_triggered))]
+#[tactic(auto, using(ar_space::proofs::Outcomes::answering), unfolding(crate::specs::Reading::number_triggered))]
 fn number_triggered(n: usize, words: &mut Words<'_>) -> Result<(), Refusal>
     ensures answer { Answers result (number_triggered n words.old) }
     ensures memory { NotMemory result }
@@ -64,7 +64,7 @@ fn number_triggered(n: usize, words: &mut Words<'_>) -> Result<(), Refusal>
 }
 
 /// What has the interrupt, by the first of the words, and how it is triggered.
-#[tactic(auto, using(ar_space::specs::Outcome::answering), unfolding(crate::specs::Reading::source_triggered))]
+#[tactic(auto, using(ar_space::proofs::Outcomes::answering), unfolding(crate::specs::Reading::source_triggered))]
 fn source_triggered(
     alloc: Global,
     n: usize,
@@ -83,7 +83,7 @@ fn source_triggered(
 }
 
 /// `link P`, `wired N` or `sci N`, and how that is triggered
-#[tactic(auto, using(ar_space::specs::Outcome::answering), unfolding(crate::specs::Reading::trigger))]
+#[tactic(auto, using(ar_space::proofs::Outcomes::answering), unfolding(crate::specs::Reading::trigger))]
 fn trigger(alloc: Global, n: usize, words: &mut Words<'_>) -> Result<(), Refusal>
     ensures { Answers result (trigger n words.old) }
 {
@@ -92,7 +92,7 @@ fn trigger(alloc: Global, n: usize, words: &mut Words<'_>) -> Result<(), Refusal
 }
 
 /// `R`
-#[tactic(auto, using(ar_space::specs::Outcome::answering), unfolding(crate::specs::Reading::bus_refused))]
+#[tactic(auto, using(ar_space::proofs::Outcomes::answering), unfolding(crate::specs::Reading::bus_refused))]
 fn bus_refused(n: usize, words: &mut Words<'_>) -> Result<(), Refusal>
     ensures answer { Answers result (bus_refused n words.old) }
     ensures memory { NotMemory result }
@@ -102,7 +102,7 @@ fn bus_refused(n: usize, words: &mut Words<'_>) -> Result<(), Refusal>
 }
 
 /// `S B`
-#[tactic(auto, using(ar_space::specs::Outcome::answering), unfolding(crate::specs::Reading::bus_known))]
+#[tactic(auto, using(ar_space::proofs::Outcomes::answering), unfolding(crate::specs::Reading::bus_known))]
 fn bus_known(n: usize, segment: &[u8], words: &mut Words<'_>) -> Result<(), Refusal>
     ensures answer { Answers result (bus_known n segment.now words.old) }
     ensures memory { NotMemory result }
@@ -113,7 +113,7 @@ fn bus_known(n: usize, segment: &[u8], words: &mut Words<'_>) -> Result<(), Refu
 }
 
 /// `S B`, or `refused R`
-#[tactic(auto, using(ar_space::specs::Outcome::answering), unfolding(crate::specs::Reading::bus_state))]
+#[tactic(auto, using(ar_space::proofs::Outcomes::answering), unfolding(crate::specs::Reading::bus_state))]
 fn bus_state(n: usize, words: &mut Words<'_>) -> Result<(), Refusal>
     ensures answer { Answers result (bus_state n words.old) }
     ensures memory { NotMemory result }
@@ -127,7 +127,7 @@ fn bus_state(n: usize, words: &mut Words<'_>) -> Result<(), Refusal>
 }
 
 /// `D`, and its bus
-#[tactic(auto, using(ar_space::specs::Outcome::answering), unfolding(crate::specs::Reading::bus))]
+#[tactic(auto, using(ar_space::proofs::Outcomes::answering), unfolding(crate::specs::Reading::bus))]
 fn bus(alloc: Global, n: usize, words: &mut Words<'_>) -> Result<(), Refusal>
     ensures { Answers result (bus n words.old) }
 {
@@ -136,7 +136,7 @@ fn bus(alloc: Global, n: usize, words: &mut Words<'_>) -> Result<(), Refusal>
 }
 
 /// Reads over a device whose interrupts couldn't be read.
-#[tactic(auto, using(ar_space::specs::Outcome::answering), unfolding(crate::specs::Reading::unread_line))]
+#[tactic(auto, using(ar_space::proofs::Outcomes::answering), unfolding(crate::specs::Reading::unread_line))]
 fn unread_line(alloc: Global, n: usize, words: &mut Words<'_>, draft: &Draft) -> Result<(), Refusal>
     ensures { Answers (seen (λ _. draft.now) result) (unread_line n words.old draft.now) }
 {
@@ -145,7 +145,7 @@ fn unread_line(alloc: Global, n: usize, words: &mut Words<'_>, draft: &Draft) ->
 }
 
 /// Reads over how an interrupt is triggered.
-#[tactic(auto, using(ar_space::specs::Outcome::answering), unfolding(crate::specs::Reading::trigger_line))]
+#[tactic(auto, using(ar_space::proofs::Outcomes::answering), unfolding(crate::specs::Reading::trigger_line))]
 fn trigger_line(
     alloc: Global,
     n: usize,
@@ -159,7 +159,7 @@ fn trigger_line(
 }
 
 /// Reads over the bus of a routing table.
-#[tactic(auto, using(ar_space::specs::Outcome::answering), unfolding(crate::specs::Reading::bus_line))]
+#[tactic(auto, using(ar_space::proofs::Outcomes::answering), unfolding(crate::specs::Reading::bus_line))]
 fn bus_line(alloc: Global, n: usize, words: &mut Words<'_>, draft: &Draft) -> Result<(), Refusal>
     ensures { Answers (seen (λ _. draft.now) result) (bus_line n words.old draft.now) }
 {
@@ -168,7 +168,7 @@ fn bus_line(alloc: Global, n: usize, words: &mut Words<'_>, draft: &Draft) -> Re
 }
 
 /// A line by its first word: one that claims nothing.
-#[tactic(auto, using(ar_space::specs::Outcome::answering), unfolding(crate::specs::Reading::claimless))]
+#[tactic(auto, using(ar_space::proofs::Outcomes::answering), unfolding(crate::specs::Reading::claimless))]
 pub(crate) fn claimless(
     alloc: Global,
     n: usize,

@@ -66,7 +66,7 @@ impl Draft {
     }
 
     /// A link more.
-    #[tactic(auto, using(ar_space::specs::Outcome::answering), unfolding(crate::specs::Reading::with_link))]
+    #[tactic(auto, using(ar_space::proofs::Outcomes::answering), unfolding(crate::specs::Reading::with_link))]
     pub(crate) fn add_link(&mut self, n: usize, link: Link) -> Result<(), Refusal>
         ensures { Answers (seen (λ _. self.new) result) (with_link n link self.old) }
     {
@@ -79,7 +79,7 @@ impl Draft {
     }
 
     /// A wired interrupt more.
-    #[tactic(auto, using(ar_space::specs::Outcome::answering), unfolding(crate::specs::Reading::with_wired))]
+    #[tactic(auto, using(ar_space::proofs::Outcomes::answering), unfolding(crate::specs::Reading::with_wired))]
     pub(crate) fn add_wired(&mut self, n: usize, wired: (u32, u32)) -> Result<(), Refusal>
         ensures { Answers (seen (λ _. self.new) result) (with_wired n wired self.old) }
     {
@@ -92,7 +92,7 @@ impl Draft {
     }
 
     /// The interrupt that the System Control Interrupt is wired to, once.
-    #[tactic(auto, using(ar_space::specs::Outcome::answering), unfolding(crate::specs::Reading::with_sci))]
+    #[tactic(auto, using(ar_space::proofs::Outcomes::answering), unfolding(crate::specs::Reading::with_sci))]
     pub(crate) fn set_sci(&mut self, n: usize, sci: Option<u32>) -> Result<(), Refusal>
         ensures answer { Answers (seen (λ _. self.new) result) (with_sci n sci self.old) }
         ensures memory { NotMemory result }
@@ -105,7 +105,7 @@ impl Draft {
     }
 
     /// The interrupts that are avoided, once.
-    #[tactic(auto, using(ar_space::specs::Outcome::answering), unfolding(crate::specs::Reading::with_avoid))]
+    #[tactic(auto, using(ar_space::proofs::Outcomes::answering), unfolding(crate::specs::Reading::with_avoid))]
     pub(crate) fn set_avoid(&mut self, n: usize, avoid: Vec<u32>) -> Result<(), Refusal>
         ensures answer { Answers (seen (λ _. self.new) result) (with_avoid n avoid.items self.old) }
         ensures memory { NotMemory result }
@@ -118,7 +118,7 @@ impl Draft {
     }
 
     /// The interrupts of one device more, where lines may tell of these.
-    #[tactic(auto, using(ar_space::specs::Outcome::answering), unfolding(crate::specs::Reading::with_spared))]
+    #[tactic(auto, using(ar_space::proofs::Outcomes::answering), unfolding(crate::specs::Reading::with_spared))]
     pub(crate) fn add_spared(&mut self, n: usize, mut interrupts: Vec<u32>) -> Result<(), Refusal>
         ensures { Answers (seen (λ _. self.new) result) (with_spared n interrupts.items self.old) }
     {
@@ -129,7 +129,7 @@ impl Draft {
     }
 
     /// A line of options that claims nothing, where lines may tell of options.
-    #[tactic(auto, using(ar_space::specs::Outcome::answering), unfolding(crate::specs::Reading::with_option))]
+    #[tactic(auto, using(ar_space::proofs::Outcomes::answering), unfolding(crate::specs::Reading::with_option))]
     pub(crate) fn add_option(&self, n: usize) -> Result<(), Refusal>
         ensures answer { Answers (seen (λ _. self.now) result) (with_option n self.now) }
         ensures memory { NotMemory result }
@@ -142,7 +142,7 @@ impl Draft {
     }
 
     /// The rule of the choice, once.
-    #[tactic(auto, using(ar_space::specs::Outcome::answering), unfolding(crate::specs::Reading::with_rule))]
+    #[tactic(auto, using(ar_space::proofs::Outcomes::answering), unfolding(crate::specs::Reading::with_rule))]
     pub(crate) fn set_rule(&mut self, n: usize, rule: Rule) -> Result<(), Refusal>
         ensures answer { Answers (seen (λ _. self.new) result) (with_rule n rule self.old) }
         ensures memory { NotMemory result }
@@ -155,7 +155,7 @@ impl Draft {
     }
 
     /// What one link more is given.
-    #[tactic(auto, using(ar_space::specs::Outcome::answering), unfolding(crate::specs::Reading::with_give))]
+    #[tactic(auto, using(ar_space::proofs::Outcomes::answering), unfolding(crate::specs::Reading::with_give))]
     pub(crate) fn add_give(&mut self, n: usize, give: (Path, u32)) -> Result<(), Refusal>
         ensures { Answers (seen (λ _. self.new) result) (with_give n give self.old) }
     {
@@ -164,7 +164,7 @@ impl Draft {
     }
 
     /// How many sources the busiest interrupt serves, once.
-    #[tactic(auto, using(ar_space::specs::Outcome::answering), unfolding(crate::specs::Reading::with_busiest))]
+    #[tactic(auto, using(ar_space::proofs::Outcomes::answering), unfolding(crate::specs::Reading::with_busiest))]
     pub(crate) fn set_busiest(&mut self, n: usize, busiest: u32) -> Result<(), Refusal>
         ensures answer { Answers (seen (λ _. self.new) result) (with_busiest n busiest self.old) }
         ensures memory { NotMemory result }
@@ -177,7 +177,7 @@ impl Draft {
     }
 
     /// Why no assignment has a less busy one, once.
-    #[tactic(auto, using(ar_space::specs::Outcome::answering), unfolding(crate::specs::Reading::with_bound))]
+    #[tactic(auto, using(ar_space::proofs::Outcomes::answering), unfolding(crate::specs::Reading::with_bound))]
     pub(crate) fn set_bound(&mut self, n: usize, bound: Option<Bound>) -> Result<(), Refusal>
         ensures answer { Answers (seen (λ _. self.new) result) (with_bound n bound self.old) }
         ensures memory { NotMemory result }
@@ -190,7 +190,7 @@ impl Draft {
     }
 
     /// The claim, each of its lists in order, of a report that has n - 1 lines.
-    #[tactic(auto, using(ar_space::specs::Outcome::answering), unfolding(crate::specs::Reading::claimed))]
+    #[tactic(auto, using(ar_space::proofs::Outcomes::answering), unfolding(crate::specs::Reading::claimed))]
     pub(crate) fn claim(self, n: usize) -> Result<Claim, Refusal>
         ensures { Answers result (claimed n self) }
     {
@@ -255,7 +255,7 @@ fn barred_by(avoid: Vec<u32>, spared: Option<Vec<u32>>) -> Result<Vec<u32>, Refu
 }
 
 /// What was said of the rule of the choice.
-#[tactic(auto, using(ar_space::specs::Outcome::answering))]
+#[tactic(auto, using(ar_space::proofs::Outcomes::answering))]
 fn rule_here(n: usize, rule: Option<Rule>) -> Result<Rule, Refusal>
     ensures answer { Answers result (here n rule) }
     ensures memory { NotMemory result }
@@ -267,7 +267,7 @@ fn rule_here(n: usize, rule: Option<Rule>) -> Result<Rule, Refusal>
 }
 
 /// What was said of the System Control Interrupt.
-#[tactic(auto, using(ar_space::specs::Outcome::answering))]
+#[tactic(auto, using(ar_space::proofs::Outcomes::answering))]
 fn sci_here(n: usize, sci: Option<Option<u32>>) -> Result<Option<u32>, Refusal>
     ensures answer { Answers result (here n sci) }
     ensures memory { NotMemory result }
@@ -279,7 +279,7 @@ fn sci_here(n: usize, sci: Option<Option<u32>>) -> Result<Option<u32>, Refusal>
 }
 
 /// Interrupts that were said.
-#[tactic(auto, using(ar_space::specs::Outcome::answering))]
+#[tactic(auto, using(ar_space::proofs::Outcomes::answering))]
 fn numbers_here(n: usize, numbers: Option<Vec<u32>>) -> Result<Vec<u32>, Refusal>
     ensures answer { Answers (seen (λ v. v.items) result) (here n (option_map (λ v. v.items) numbers)) }
     ensures memory { NotMemory result }
@@ -291,7 +291,7 @@ fn numbers_here(n: usize, numbers: Option<Vec<u32>>) -> Result<Vec<u32>, Refusal
 }
 
 /// What was said of the busiest interrupt.
-#[tactic(auto, using(ar_space::specs::Outcome::answering))]
+#[tactic(auto, using(ar_space::proofs::Outcomes::answering))]
 fn busiest_here(n: usize, busiest: Option<u32>) -> Result<u32, Refusal>
     ensures answer { Answers result (here n busiest) }
     ensures memory { NotMemory result }
@@ -303,7 +303,7 @@ fn busiest_here(n: usize, busiest: Option<u32>) -> Result<u32, Refusal>
 }
 
 /// What was said of the bound.
-#[tactic(auto, using(ar_space::specs::Outcome::answering))]
+#[tactic(auto, using(ar_space::proofs::Outcomes::answering))]
 fn bound_here(n: usize, bound: Option<Option<Bound>>) -> Result<Option<Bound>, Refusal>
     ensures answer { Answers result (here n bound) }
     ensures memory { NotMemory result }

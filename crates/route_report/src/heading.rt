@@ -9,7 +9,7 @@ use ar_space::Refusal;
 use text_words::Words;
 
 /// The version that a word is.
-#[tactic(auto, using(ar_space::specs::Outcome::answering))]
+#[tactic(auto, using(ar_space::proofs::Outcomes::answering))]
 fn version_here(n: usize, word: &[u8]) -> Result<Version, Refusal>
     ensures answer { Answers result (version_here n word.now) }
     ensures memory { NotMemory result }
@@ -26,7 +26,7 @@ fn version_here(n: usize, word: &[u8]) -> Result<Version, Refusal>
 }
 
 /// The first line: a report of version 1, 2 or 3.
-#[tactic(auto, using(ar_space::specs::Outcome::answering), unfolding(crate::specs::Reading::heading))]
+#[tactic(auto, using(ar_space::proofs::Outcomes::answering), unfolding(crate::specs::Reading::heading))]
 pub(crate) fn heading(n: usize, text: &[u8]) -> Result<Version, Refusal>
     ensures answer { Answers result (heading n (words text.now)) }
     ensures memory { NotMemory result }

@@ -21,8 +21,8 @@ ghost use Rattle.route_report.specs.Readable.{IsReadable, IsSmall, spared_by, sp
 use aml_path::laws::text_is_read_back;
 
 /// The text of a report is read as the report's own claim, its lists in order, where its links, offers and wired
-/// interrupts are within the limits of reading: at most 256 links, each with an offer in ascending order, at most
-/// 4096 wired interrupts, the avoided interrupts in ascending order, each once, and at least one interrupt of each
+/// interrupts are within the limits of reading: at most 256 links, each with an offer that ascends and isn't empty, at
+/// most 4096 wired interrupts, the avoided interrupts in ascending order, each once, and at least one interrupt of each
 /// device whose interrupts are spared.
 pub fn a_printed_report_is_read_back()
     ensures { (report : RoutingReport) → IsReadable report → IsSmall report →

@@ -29,7 +29,7 @@ fn ascends(numbers: &[u32], number: u32) -> bool
 }
 
 /// A number more, in ascending order.
-#[tactic(auto, using(ar_space::specs::Outcome::answering), unfolding(crate::specs::Reading::with_next))]
+#[tactic(auto, using(ar_space::proofs::Outcomes::answering), unfolding(crate::specs::Reading::with_next))]
 fn add_next(n: usize, numbers: &mut Vec<u32>, word: &[u8]) -> Result<(), Refusal>
     ensures { Answers (seen (λ _. numbers.new.items) result) (with_next n numbers.old.items word.now) }
 {
@@ -55,7 +55,7 @@ fn add_offers(n: usize, offers: &mut Vec<u32>, words: &mut Words<'_>) -> Result<
     Err(bad_line(n))
 }
 
-#[tactic(auto, using(ar_space::specs::Outcome::answering), unfolding(crate::specs::Reading::offers))]
+#[tactic(auto, using(ar_space::proofs::Outcomes::answering), unfolding(crate::specs::Reading::offers))]
 fn offers(alloc: Global, n: usize, words: &mut Words<'_>) -> Result<Vec<u32>, Refusal>
     ensures { Answers (seen (λ v. v.items) result) (offers n words.old) }
 {
@@ -67,7 +67,7 @@ fn offers(alloc: Global, n: usize, words: &mut Words<'_>) -> Result<Vec<u32>, Re
 }
 
 /// `small low offers N.. now V`, or `extended`, or `high`
-#[tactic(auto, using(ar_space::specs::Outcome::answering), unfolding(crate::specs::Reading::offered))]
+#[tactic(auto, using(ar_space::proofs::Outcomes::answering), unfolding(crate::specs::Reading::offered))]
 fn offered(alloc: Global, n: usize, words: &mut Words<'_>) -> Result<Vec<u32>, Refusal>
     ensures { Answers (seen (λ v. v.items) result) (offered n words.old) }
 {
@@ -78,7 +78,7 @@ fn offered(alloc: Global, n: usize, words: &mut Words<'_>) -> Result<Vec<u32>, R
 }
 
 /// `P`, and what it offers
-#[tactic(auto, using(ar_space::specs::Outcome::answering), unfolding(crate::specs::Reading::link))]
+#[tactic(auto, using(ar_space::proofs::Outcomes::answering), unfolding(crate::specs::Reading::link))]
 fn link(alloc: Global, n: usize, words: &mut Words<'_>) -> Result<Link, Refusal>
     ensures { Answers result (link n words.old) }
 {
@@ -88,7 +88,7 @@ fn link(alloc: Global, n: usize, words: &mut Words<'_>) -> Result<Link, Refusal>
 }
 
 /// `N C`
-#[tactic(auto, using(ar_space::specs::Outcome::answering), unfolding(crate::specs::Reading::wired))]
+#[tactic(auto, using(ar_space::proofs::Outcomes::answering), unfolding(crate::specs::Reading::wired))]
 fn wired(n: usize, words: &mut Words<'_>) -> Result<(u32, u32), Refusal>
     ensures answer { Answers result (wired n words.old) }
     ensures memory { NotMemory result }
@@ -100,7 +100,7 @@ fn wired(n: usize, words: &mut Words<'_>) -> Result<(u32, u32), Refusal>
 }
 
 /// `N` or `none`
-#[tactic(auto, using(ar_space::specs::Outcome::answering), unfolding(crate::specs::Reading::sci))]
+#[tactic(auto, using(ar_space::proofs::Outcomes::answering), unfolding(crate::specs::Reading::sci))]
 fn sci(n: usize, words: &mut Words<'_>) -> Result<Option<u32>, Refusal>
     ensures answer { Answers result (sci n words.old) }
     ensures memory { NotMemory result }
@@ -125,7 +125,7 @@ fn add_ascending(n: usize, numbers: &mut Vec<u32>, words: &mut Words<'_>) -> Res
 }
 
 /// `-`, or `N..`
-#[tactic(auto, using(ar_space::specs::Outcome::answering), unfolding(crate::specs::Reading::avoid))]
+#[tactic(auto, using(ar_space::proofs::Outcomes::answering), unfolding(crate::specs::Reading::avoid))]
 fn avoid(alloc: Global, n: usize, words: &mut Words<'_>) -> Result<Vec<u32>, Refusal>
     ensures { Answers (seen (λ v. v.items) result) (avoid n words.old) }
 {
@@ -142,7 +142,7 @@ fn avoid(alloc: Global, n: usize, words: &mut Words<'_>) -> Result<Vec<u32>, Ref
 }
 
 /// `P N`
-#[tactic(auto, using(ar_space::specs::Outcome::answering), unfolding(crate::specs::Reading::give))]
+#[tactic(auto, using(ar_space::proofs::Outcomes::answering), unfolding(crate::specs::Reading::give))]
 fn give(alloc: Global, n: usize, words: &mut Words<'_>) -> Result<(Path, u32), Refusal>
     ensures { Answers result (give n words.old) }
 {
@@ -153,7 +153,7 @@ fn give(alloc: Global, n: usize, words: &mut Words<'_>) -> Result<(Path, u32), R
 }
 
 /// `K`
-#[tactic(auto, using(ar_space::specs::Outcome::answering), unfolding(crate::specs::Reading::busiest))]
+#[tactic(auto, using(ar_space::proofs::Outcomes::answering), unfolding(crate::specs::Reading::busiest))]
 fn busiest(n: usize, words: &mut Words<'_>) -> Result<u32, Refusal>
     ensures answer { Answers result (busiest n words.old) }
     ensures memory { NotMemory result }
@@ -164,7 +164,7 @@ fn busiest(n: usize, words: &mut Words<'_>) -> Result<u32, Refusal>
 }
 
 /// A path more.
-#[tactic(auto, using(ar_space::specs::Outcome::answering), unfolding(crate::specs::Reading::with_path))]
+#[tactic(auto, using(ar_space::proofs::Outcomes::answering), unfolding(crate::specs::Reading::with_path))]
 fn add_path(alloc: Global, n: usize, paths: &mut Vec<Path>, word: &[u8]) -> Result<(), Refusal>
     ensures { Answers (seen (λ _. paths.new.items) result) (with_path n paths.old.items word.now) }
 {
@@ -193,7 +193,7 @@ fn add_paths(
 }
 
 /// `-` for no path, or one at least, up to the word `over`.
-#[tactic(auto, using(ar_space::specs::Outcome::answering), unfolding(crate::specs::Reading::set_links))]
+#[tactic(auto, using(ar_space::proofs::Outcomes::answering), unfolding(crate::specs::Reading::set_links))]
 fn set_links(
     alloc: Global,
     n: usize,
@@ -214,7 +214,7 @@ fn set_links(
 }
 
 /// A number more.
-#[tactic(auto, using(ar_space::specs::Outcome::answering), unfolding(crate::specs::Reading::with_number))]
+#[tactic(auto, using(ar_space::proofs::Outcomes::answering), unfolding(crate::specs::Reading::with_number))]
 fn add_number(n: usize, numbers: &mut Vec<u32>, word: &[u8]) -> Result<(), Refusal>
     ensures { Answers (seen (λ _. numbers.new.items) result) (with_number n numbers.old.items word.now) }
 {
@@ -243,7 +243,7 @@ fn add_numbers(n: usize, numbers: &mut Vec<u32>, words: &mut Words<'_>) -> Resul
 }
 
 /// `N..`, one number at least
-#[tactic(auto, using(ar_space::specs::Outcome::answering), unfolding(crate::specs::Reading::some_numbers))]
+#[tactic(auto, using(ar_space::proofs::Outcomes::answering), unfolding(crate::specs::Reading::some_numbers))]
 fn some_numbers(alloc: Global, n: usize, words: &mut Words<'_>) -> Result<Vec<u32>, Refusal>
     ensures { Answers (seen (λ v. v.items) result) (some_numbers n words.old) }
 {
@@ -255,7 +255,7 @@ fn some_numbers(alloc: Global, n: usize, words: &mut Words<'_>) -> Result<Vec<u3
 }
 
 /// `D N..`
-#[tactic(auto, using(ar_space::specs::Outcome::answering), unfolding(crate::specs::Reading::spared))]
+#[tactic(auto, using(ar_space::proofs::Outcomes::answering), unfolding(crate::specs::Reading::spared))]
 fn spared(alloc: Global, n: usize, words: &mut Words<'_>) -> Result<Vec<u32>, Refusal>
     ensures { Answers (seen (λ v. v.items) result) (spared n words.old) }
 {
@@ -264,7 +264,7 @@ fn spared(alloc: Global, n: usize, words: &mut Words<'_>) -> Result<Vec<u32>, Re
 }
 
 /// `P.. over N..`
-#[tactic(auto, using(ar_space::specs::Outcome::answering), unfolding(crate::specs::Reading::set))]
+#[tactic(auto, using(ar_space::proofs::Outcomes::answering), unfolding(crate::specs::Reading::set))]
 fn set(alloc: Global, n: usize, first: &[u8], words: &mut Words<'_>) -> Result<Bound, Refusal>
     ensures { Answers result (set n first.now words.old) }
 {
@@ -274,7 +274,7 @@ fn set(alloc: Global, n: usize, first: &[u8], words: &mut Words<'_>) -> Result<B
 }
 
 /// `none`, or `P.. over N..`
-#[tactic(auto, using(ar_space::specs::Outcome::answering), unfolding(crate::specs::Reading::bound))]
+#[tactic(auto, using(ar_space::proofs::Outcomes::answering), unfolding(crate::specs::Reading::bound))]
 fn bound(alloc: Global, n: usize, words: &mut Words<'_>) -> Result<Option<Bound>, Refusal>
     ensures { Answers result (bound n words.old) }
 {
@@ -288,7 +288,7 @@ fn bound(alloc: Global, n: usize, words: &mut Words<'_>) -> Result<Option<Bound>
 }
 
 /// Adds a link.
-#[tactic(auto, using(ar_space::specs::Outcome::answering), unfolding(crate::specs::Reading::link_line))]
+#[tactic(auto, using(ar_space::proofs::Outcomes::answering), unfolding(crate::specs::Reading::link_line))]
 fn link_line(
     alloc: Global,
     n: usize,
@@ -302,7 +302,7 @@ fn link_line(
 }
 
 /// Adds a wired interrupt with its count.
-#[tactic(auto, using(ar_space::specs::Outcome::answering), unfolding(crate::specs::Reading::wired_line))]
+#[tactic(auto, using(ar_space::proofs::Outcomes::answering), unfolding(crate::specs::Reading::wired_line))]
 fn wired_line(n: usize, words: &mut Words<'_>, draft: &mut Draft) -> Result<(), Refusal>
     ensures { Answers (seen (λ _. draft.new) result) (wired_line n words.old draft.old) }
 {
@@ -311,7 +311,7 @@ fn wired_line(n: usize, words: &mut Words<'_>, draft: &mut Draft) -> Result<(), 
 }
 
 /// Sets the interrupt that the System Control Interrupt is wired to.
-#[tactic(auto, using(ar_space::specs::Outcome::answering), unfolding(crate::specs::Reading::sci_line))]
+#[tactic(auto, using(ar_space::proofs::Outcomes::answering), unfolding(crate::specs::Reading::sci_line))]
 fn sci_line(n: usize, words: &mut Words<'_>, draft: &mut Draft) -> Result<(), Refusal>
     ensures answer { Answers (seen (λ _. draft.new) result) (sci_line n words.old draft.old) }
     ensures memory { NotMemory result }
@@ -321,7 +321,7 @@ fn sci_line(n: usize, words: &mut Words<'_>, draft: &mut Draft) -> Result<(), Re
 }
 
 /// Sets the interrupts that are avoided.
-#[tactic(auto, using(ar_space::specs::Outcome::answering), unfolding(crate::specs::Reading::avoid_line))]
+#[tactic(auto, using(ar_space::proofs::Outcomes::answering), unfolding(crate::specs::Reading::avoid_line))]
 fn avoid_line(
     alloc: Global,
     n: usize,
@@ -335,7 +335,7 @@ fn avoid_line(
 }
 
 /// Adds the interrupts of a device that are spared.
-#[tactic(auto, using(ar_space::specs::Outcome::answering), unfolding(crate::specs::Reading::spared_line))]
+#[tactic(auto, using(ar_space::proofs::Outcomes::answering), unfolding(crate::specs::Reading::spared_line))]
 fn spared_line(
     alloc: Global,
     n: usize,
@@ -349,7 +349,7 @@ fn spared_line(
 }
 
 /// Sets the rule of the choice.
-#[tactic(auto, using(ar_space::specs::Outcome::answering), unfolding(crate::specs::Reading::rule_line))]
+#[tactic(auto, using(ar_space::proofs::Outcomes::answering), unfolding(crate::specs::Reading::rule_line))]
 fn rule_line(n: usize, rule: Rule, words: &Words<'_>, draft: &mut Draft) -> Result<(), Refusal>
     ensures answer { Answers (seen (λ _. draft.new) result) (rule_line n rule words.now draft.old) }
     ensures memory { NotMemory result }
@@ -359,7 +359,7 @@ fn rule_line(n: usize, rule: Rule, words: &Words<'_>, draft: &mut Draft) -> Resu
 }
 
 /// Adds what a link is given.
-#[tactic(auto, using(ar_space::specs::Outcome::answering), unfolding(crate::specs::Reading::give_line))]
+#[tactic(auto, using(ar_space::proofs::Outcomes::answering), unfolding(crate::specs::Reading::give_line))]
 fn give_line(
     alloc: Global,
     n: usize,
@@ -373,7 +373,7 @@ fn give_line(
 }
 
 /// Sets how busy the busiest interrupt is.
-#[tactic(auto, using(ar_space::specs::Outcome::answering), unfolding(crate::specs::Reading::busiest_line))]
+#[tactic(auto, using(ar_space::proofs::Outcomes::answering), unfolding(crate::specs::Reading::busiest_line))]
 fn busiest_line(n: usize, words: &mut Words<'_>, draft: &mut Draft) -> Result<(), Refusal>
     ensures answer { Answers (seen (λ _. draft.new) result) (busiest_line n words.old draft.old) }
     ensures memory { NotMemory result }
@@ -383,7 +383,7 @@ fn busiest_line(n: usize, words: &mut Words<'_>, draft: &mut Draft) -> Result<()
 }
 
 /// Sets why no assignment has a less busy one.
-#[tactic(auto, using(ar_space::specs::Outcome::answering), unfolding(crate::specs::Reading::bound_line))]
+#[tactic(auto, using(ar_space::proofs::Outcomes::answering), unfolding(crate::specs::Reading::bound_line))]
 fn bound_line(
     alloc: Global,
     n: usize,
@@ -397,7 +397,7 @@ fn bound_line(
 }
 
 /// A line by its first word.
-#[tactic(auto, using(ar_space::specs::Outcome::answering), unfolding(crate::specs::Reading::keyed))]
+#[tactic(auto, using(ar_space::proofs::Outcomes::answering), unfolding(crate::specs::Reading::keyed))]
 fn keyed(
     alloc: Global,
     n: usize,
@@ -433,7 +433,7 @@ fn keyed(
 }
 
 /// The n-th line.
-#[tactic(auto, using(ar_space::specs::Outcome::answering), unfolding(crate::specs::Reading::line))]
+#[tactic(auto, using(ar_space::proofs::Outcomes::answering), unfolding(crate::specs::Reading::line))]
 pub(crate) fn line(alloc: Global, n: usize, text: &[u8], draft: &mut Draft) -> Result<(), Refusal>
     ensures { Answers (seen (λ _. draft.new) result) (line n (words text.now) draft.old) }
 {

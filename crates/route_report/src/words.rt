@@ -22,7 +22,7 @@ pub(crate) fn bad_line(n: usize) -> Refusal
 }
 
 /// The next word.
-#[tactic(auto, using(ar_space::specs::Outcome::answering))]
+#[tactic(auto, using(ar_space::proofs::Outcomes::answering))]
 pub(crate) fn word<'a>(n: usize, words: &mut Words<'a>) -> Result<&'a [u8], Refusal>
     ensures answer { Answers (seen (λ w. (w.now, words.new)) result) (word n words.old) }
     ensures memory { NotMemory result }
@@ -34,7 +34,7 @@ pub(crate) fn word<'a>(n: usize, words: &mut Words<'a>) -> Result<&'a [u8], Refu
 }
 
 /// No word is left.
-#[tactic(auto, using(ar_space::specs::Outcome::answering))]
+#[tactic(auto, using(ar_space::proofs::Outcomes::answering))]
 pub(crate) fn ended(n: usize, words: &Words<'_>) -> Result<(), Refusal>
     ensures answer { Answers result (ended n words.now) }
     ensures memory { NotMemory result }
@@ -47,7 +47,7 @@ pub(crate) fn ended(n: usize, words: &Words<'_>) -> Result<(), Refusal>
 }
 
 /// The next word is this one.
-#[tactic(auto, using(ar_space::specs::Outcome::answering), unfolding(crate::specs::Reading::expected))]
+#[tactic(auto, using(ar_space::proofs::Outcomes::answering), unfolding(crate::specs::Reading::expected))]
 pub(crate) fn expected(n: usize, key: &[u8], words: &mut Words<'_>) -> Result<(), Refusal>
     ensures answer { Answers (seen (λ _. words.new) result) (expected n key.now words.old) }
     ensures memory { NotMemory result }
@@ -61,7 +61,7 @@ pub(crate) fn expected(n: usize, key: &[u8], words: &mut Words<'_>) -> Result<()
 }
 
 /// The next word is one of two.
-#[tactic(auto, using(ar_space::specs::Outcome::answering), unfolding(crate::specs::Reading::one_of))]
+#[tactic(auto, using(ar_space::proofs::Outcomes::answering), unfolding(crate::specs::Reading::one_of))]
 pub(crate) fn one_of(
     n: usize,
     this: &[u8],
@@ -80,7 +80,7 @@ pub(crate) fn one_of(
 }
 
 /// The next word as a number.
-#[tactic(auto, using(ar_space::specs::Outcome::answering), unfolding(crate::specs::Reading::numbered))]
+#[tactic(auto, using(ar_space::proofs::Outcomes::answering), unfolding(crate::specs::Reading::numbered))]
 pub(crate) fn number(n: usize, words: &mut Words<'_>) -> Result<u32, Refusal>
     ensures answer { Answers (seen (λ a. (a, words.new)) result) (numbered n words.old) }
     ensures memory { NotMemory result }
@@ -90,7 +90,7 @@ pub(crate) fn number(n: usize, words: &mut Words<'_>) -> Result<u32, Refusal>
 }
 
 /// The next word as a path.
-#[tactic(auto, using(ar_space::specs::Outcome::answering), unfolding(crate::specs::Reading::named))]
+#[tactic(auto, using(ar_space::proofs::Outcomes::answering), unfolding(crate::specs::Reading::named))]
 pub(crate) fn path(alloc: Global, n: usize, words: &mut Words<'_>) -> Result<Path, Refusal>
     ensures { Answers (seen (λ p. (p, words.new)) result) (named n words.old) }
 {
@@ -99,7 +99,7 @@ pub(crate) fn path(alloc: Global, n: usize, words: &mut Words<'_>) -> Result<Pat
 }
 
 /// The number that a word is.
-#[tactic(auto, using(ar_space::specs::Outcome::answering))]
+#[tactic(auto, using(ar_space::proofs::Outcomes::answering))]
 pub(crate) fn number_here(n: usize, word: &[u8]) -> Result<u32, Refusal>
     ensures answer { Answers result (number_here n word.now) }
     ensures memory { NotMemory result }
@@ -129,7 +129,7 @@ fn is_text_of(alloc: Global, path: &Path, word: &[u8]) -> Result<bool, Refusal>
 }
 
 /// The path that a word is: its segments have four characters each.
-#[tactic(auto, using(ar_space::specs::Outcome::answering), unfolding(crate::specs::Reading::path_here))]
+#[tactic(auto, using(ar_space::proofs::Outcomes::answering), unfolding(crate::specs::Reading::path_here))]
 pub(crate) fn path_here(alloc: Global, n: usize, word: &[u8]) -> Result<Path, Refusal>
     ensures { Answers result (path_here n word.now) }
 {

@@ -5,7 +5,7 @@ use ar_space::{Place, Space, SpaceFault, Width};
 use std::marker::Model;
 
 /// A register space over another one, which makes so many accesses and refuses each one behind these: that answers
-/// `Device`, and the space below doesn't see it.
+/// `Device`, and the space below doesn't see it. Without a bound it makes all of them.
 ///
 /// Steps bound the terms that an evaluation begins, and not the registers that it reads and writes: one read of a field
 /// whose address is a field in turn may make very many. A caller that has to bound these as well hands in its register
@@ -13,7 +13,7 @@ use std::marker::Model;
 #[derive(Drop)]
 pub struct Metered<S> {
     inner: S,
-    left: u64,
+    left: Option<u64>,
 }
 
 impl<S> Model for Metered<S> {
@@ -27,8 +27,8 @@ impl<S> Model for Metered<S> {
 }
 
 impl<S> Metered<S> {
-    /// A register space over another one, which makes so many accesses. It takes no memory.
-    pub fn new(inner: S, accesses: u64) -> Metered<S>
+    /// A register space over another one, which makes so many accesses, or all of them. It takes no memory.
+    pub fn new(inner: S, accesses: Option<u64>) -> Metered<S>
         ensures { result ≡ record { inner = inner; left = accesses } }
     {
         Metered {
@@ -37,8 +37,9 @@ impl<S> Metered<S> {
         }
     }
 
-    /// How many accesses are still made. A `Device` fault while some are left is one of the space below.
-    pub fn left(&self) -> u64
+    /// How many accesses are still made, where they are bounded. A `Device` fault while some are left is one of the space
+    /// below.
+    pub fn left(&self) -> Option<u64>
         ensures { result ≡ self.now.left }
     {
         self.left
@@ -65,18 +66,24 @@ impl<S: Space> Space for Metered<S> {
     ghost accesses = { metered S.accesses };
 
     fn read(&mut self, place: Place, width: Width) -> Result<u64, SpaceFault> {
-        if self.left == 0 {
-            return Err(SpaceFault::Device);
+        match self.left {
+            None => self.inner.read(place, width),
+            Some(0) => Err(SpaceFault::Device),
+            Some(left) => {
+                self.left = Some(left - 1);
+                self.inner.read(place, width)
+            }
         }
-        self.left -= 1;
-        self.inner.read(place, width)
     }
 
     fn write(&mut self, place: Place, width: Width, value: u64) -> Result<(), SpaceFault> {
-        if self.left == 0 {
-            return Err(SpaceFault::Device);
+        match self.left {
+            None => self.inner.write(place, width, value),
+            Some(0) => Err(SpaceFault::Device),
+            Some(left) => {
+                self.left = Some(left - 1);
+                self.inner.write(place, width, value)
+            }
         }
-        self.left -= 1;
-        self.inner.write(place, width, value)
     }
 }

@@ -1,6 +1,6 @@
 use Rattle.std.specs.Prelude.{Contains, zip}
 use Rattle.std.proofs.Common.{get_or, arith, refl, sym, subst}
-use Rattle.ar_space.specs.Change.{does_same, does_seen_err, same_ok}
+use Rattle.ar_space.proofs.Changes.{does_same, does_seen_err, same_ok}
 use Rattle.acpi_machine.specs.Stops.{AllOrNone}
 use Rattle.acpi_machine.proofs.Stopping.{none_made, stops_here, stops_in, goes_on}
 use Rattle.acpi_configure.specs.Settling.{link_set}

@@ -19,8 +19,6 @@ returns-in-Ok g c = λ spent. record {
 }
 
 pub returns : goal.returns
-returns g c = λ spent. record {
-  is = λ ne.
-      called_err g.S.Space.accesses c.args.path.now (map given_of c.args.arguments.items) c.args.machine.now c.evaluate_object.new.self c.in-Err.refusal spent
-      (stands_key c.stands.result c.args.path.now c.args.machine.now c.stands.ensures ∙ c.if-not-stands.false) (c.in-Err.ensures.answer.is ne);
-}
+returns g c = λ spent.
+    called_err g.S.Space.accesses c.args.path.now (map given_of c.args.arguments.items) c.args.machine.now c.evaluate_object.new.self c.pass_call_over.new.self c.in-Err.refusal c.pass_call_over.result spent
+    (stands_key c.stands.result c.args.path.now c.args.machine.now c.stands.ensures ∙ c.if-not-stands.false) c.in-Err.ensures.answer.is c.pass_call_over.ensures

@@ -1,5 +1,5 @@
 use Rattle.std.proofs.Common.{◌++◌, arith, refl}
-use Rattle.ar_space.specs.Change.{same_ok}
+use Rattle.ar_space.proofs.Changes.{same_ok}
 use Rattle.acpi_links.proofs.Folding.{same_turn, same_added, fold_end}
 use Rattle.acpi_links.specs.Devices.{pins_of_device, pins_of_each}
 use Rattle.acpi_explain.specs.Halting.{IsHalted, IsUnread}

@@ -1,4 +1,4 @@
-use Rattle.ar_space.specs.Change.{does_ok, does_seen_err, does_give, settle_ok}
+use Rattle.ar_space.proofs.Changes.{does_ok, does_seen_err, does_give, settle_ok}
 use Rattle.acpi_links.specs.Gatherings.{pins_found}
 use Rattle.acpi_links.proofs.Settled.{settle_seen_err}
 use Rattle.acpi_links.proofs.Stopped.{no_table, devices_as_listed}

@@ -1,4 +1,4 @@
-use Rattle.ar_space.specs.Change.{does_ok, does_err, does_made, does_give}
+use Rattle.ar_space.proofs.Changes.{does_ok, does_err, does_made, does_give}
 use Rattle.acpi_links.specs.Settings.{setting_handed}
 use Rattle.acpi_links.proofs.Stopped.{handed_made}
 use Rattle.acpi_links.proofs.resources.hand_setting.Goals as goal

@@ -1,5 +1,5 @@
 use Rattle.std.proofs.Common.{sym, ◌∙◌}
-use Rattle.ar_space.specs.Change.{does_same, does_err, same_ok}
+use Rattle.ar_space.proofs.Changes.{does_same, does_err, same_ok}
 use Rattle.acpi_machine.specs.Buses.{address_part}
 use Rattle.acpi_machine.proofs.Bridged.{no_bridges, bridge_next, bridges_end}
 use Rattle.acpi_machine.proofs.buses.bus_behind_all.Goals as goal

@@ -1,5 +1,5 @@
 use Rattle.std.proofs.Common.{arith}
-use Rattle.ar_space.specs.Change.{does_same, does_err, same_ok}
+use Rattle.ar_space.proofs.Changes.{does_same, does_err, same_ok}
 use Rattle.acpi_machine.proofs.Loaded.{same_each}
 use Rattle.acpi_machine.proofs.loading.load_each.Goals as goal
 

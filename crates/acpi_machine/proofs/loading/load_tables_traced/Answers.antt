@@ -1,5 +1,5 @@
 use Rattle.std.proofs.Common.{ap, ◌∙◌, sym}
-use Rattle.acpi_machine.proofs.Whole.{texts_refused_by, texts_refused_space, names_refused_by, names_refused_space, all_done}
+use Rattle.acpi_machine.proofs.Whole.{texts_refused_by, texts_refused_space, texts_refused_passed, names_refused_by, names_refused_space, names_refused_passed, all_done}
 use Rattle.acpi_machine.proofs.loading.load_tables_traced.Goals as goal
 
 pub returns-in-Err-clause-refusal : goal.returns-in-Err-clause-refusal
@@ -21,4 +21,13 @@ pub returns-in-Err-load_all-clause-refusal : goal.returns-in-Err-load_all-clause
 returns-in-Err-load_all-clause-refusal g c = λ ne. ap (λ p. p.0) ((all_done _ _ _ _ _ _ _ (rw (← c.deref.ensures.value) c.in-Ok.ensures.value) c.in-Ok-with_profile.ensures.world c.in-Err-load_all.ensures).is ne)
 
 pub returns-in-Err-load_all-clause-space : goal.returns-in-Err-load_all-clause-space
-returns-in-Err-load_all-clause-space g c = λ ne. ap (λ p. p.1.space) ((all_done _ _ _ _ _ _ _ (rw (← c.deref.ensures.value) c.in-Ok.ensures.value) c.in-Ok-with_profile.ensures.world c.in-Err-load_all.ensures).is ne) ∙ sym c.into_parts-space.ensures
+returns-in-Err-load_all-clause-space g c = λ ne. ap (λ p. p.1.space) ((all_done _ _ _ _ _ _ _ (rw (← c.deref.ensures.value) c.in-Ok.ensures.value) c.in-Ok-with_profile.ensures.world c.in-Err-load_all.ensures).is ne) ∙ sym c.into_parts-space.ensures.space
+
+pub returns-in-Err-clause-passed : goal.returns-in-Err-clause-passed
+returns-in-Err-clause-passed g c = λ ne. texts_refused_passed _ _ _ _ _ _ (rw (← c.deref.ensures.value) c.in-Err.ensures.value) ne ∙ sym c.new-in-Err.ensures
+
+pub returns-in-Err-with_profile-clause-passed : goal.returns-in-Err-with_profile-clause-passed
+returns-in-Err-with_profile-clause-passed g c = λ ne. names_refused_passed _ _ _ _ _ _ (rw (← c.deref.ensures.value) c.in-Ok.ensures.value) (c.in-Err-with_profile.ensures.refusal ne) ∙ sym c.new-in-Err-with_profile-2.ensures
+
+pub returns-in-Err-load_all-clause-passed : goal.returns-in-Err-load_all-clause-passed
+returns-in-Err-load_all-clause-passed g c = λ ne. ap (λ p. p.1.passed) ((all_done _ _ _ _ _ _ _ (rw (← c.deref.ensures.value) c.in-Ok.ensures.value) c.in-Ok-with_profile.ensures.world c.in-Err-load_all.ensures).is ne) ∙ sym c.into_parts-space.ensures.passed

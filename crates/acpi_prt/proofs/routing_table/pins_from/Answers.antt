@@ -1,5 +1,5 @@
 use Rattle.std.proofs.Common.{map, arith}
-use Rattle.ar_space.specs.Change.{does_same, does_seen_err, same_ok}
+use Rattle.ar_space.proofs.Changes.{does_same, does_seen_err, same_ok}
 use Rattle.std.proofs.lemmas.List.{length-map}
 use Rattle.aml_meaning.specs.Given.{given_of}
 use Rattle.acpi_machine.specs.Stops.{AllOrNone}

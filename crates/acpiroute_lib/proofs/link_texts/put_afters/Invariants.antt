@@ -1,5 +1,5 @@
 use Rattle.std.proofs.Common.{◌≡◌, ◌++◌, drop}
-use Rattle.acpiroute_lib.specs.Explaining.{after_texts}
+use Rattle.acpiroute_lib.specs.LinkTexts.{after_texts}
 use Rattle.acpiroute_lib.proofs.link_texts.put_afters.Given as goal
 
 abbrev pub invariant-loop-i : goal.invariant-loop-i

@@ -1,8 +1,8 @@
 use Rattle.std.specs.Prelude.{codes, option_map}
 use Rattle.route_report.specs.Lines.{spaced}
 use Rattle.route_report.specs.Printing.{now_words}
-use Rattle.acpiroute_lib.specs.Explaining.{link_words}
-use Rattle.acpiroute_lib.proofs.Putting.{four_put}
+use Rattle.acpiroute_lib.specs.LinkTexts.{link_words}
+use Rattle.acpi_explain.proofs.Putting.{four_put}
 use Rattle.acpiroute_lib.proofs.link_texts.put_other.Goals as goal
 
 pub returns : goal.returns

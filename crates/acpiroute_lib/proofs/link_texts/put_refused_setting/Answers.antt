@@ -1,7 +1,7 @@
 use Rattle.std.proofs.Common.{◌∙◌, ap, ◌++◌}
 use Rattle.std.specs.Prelude.{codes}
-use Rattle.acpiroute_lib.specs.Explaining.{link_words}
-use Rattle.acpiroute_lib.proofs.Putting.{two_put}
+use Rattle.acpiroute_lib.specs.LinkTexts.{link_words}
+use Rattle.acpi_explain.proofs.Putting.{two_put}
 use Rattle.acpiroute_lib.proofs.link_texts.put_refused_setting.Goals as goal
 
 pub returns : goal.returns

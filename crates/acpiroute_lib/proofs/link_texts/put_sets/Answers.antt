@@ -1,5 +1,5 @@
 use Rattle.std.proofs.Common.{refl}
-use Rattle.acpiroute_lib.specs.Explaining.{set_text, set_texts}
+use Rattle.acpiroute_lib.specs.LinkTexts.{set_text, set_texts}
 use Rattle.acpiroute_lib.proofs.Putting.{put_more, all_put, first_set}
 use Rattle.acpiroute_lib.proofs.link_texts.put_sets.Goals as goal
 

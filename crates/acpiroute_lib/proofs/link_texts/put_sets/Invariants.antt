@@ -1,5 +1,5 @@
 use Rattle.std.proofs.Common.{◌≡◌, ◌++◌, drop}
-use Rattle.acpiroute_lib.specs.Explaining.{set_texts}
+use Rattle.acpiroute_lib.specs.LinkTexts.{set_texts}
 use Rattle.acpiroute_lib.proofs.link_texts.put_sets.Given as goal
 
 abbrev pub invariant-loop-set : goal.invariant-loop-set

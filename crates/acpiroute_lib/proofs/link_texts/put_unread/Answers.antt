@@ -1,7 +1,7 @@
 use Rattle.std.specs.Prelude.{codes, decimal}
 use Rattle.std.proofs.Common.{◌∙◌, ap, ◌++◌}
-use Rattle.acpiroute_lib.specs.Explaining.{link_words}
-use Rattle.acpiroute_lib.proofs.Putting.{four_put}
+use Rattle.acpiroute_lib.specs.LinkTexts.{link_words}
+use Rattle.acpi_explain.proofs.Putting.{four_put}
 use Rattle.acpiroute_lib.proofs.link_texts.put_unread.Goals as goal
 
 pub returns : goal.returns

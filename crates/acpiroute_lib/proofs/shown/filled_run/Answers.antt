@@ -3,15 +3,16 @@ use Rattle.std.specs.Prelude.{None}
 use Rattle.ar_space.specs.Bytes.{byte_accesses}
 use Rattle.ar_tables.specs.FindTables.{tables_of}
 use Rattle.watched_space.specs.Filling.{filled}
-use Rattle.watched_space.specs.MissingPlaces.{no_missing}
+use Rattle.watched_space.specs.Metering.{metered}
+use Rattle.acpiroute_lib.specs.WhyCommand.{first_filled}
 use Rattle.acpiroute_lib.proofs.Endings.{finding_ended}
 use Rattle.acpiroute_lib.proofs.shown.filled_run.Goals as goal
 
 pub returns-in-Err-clause-run : goal.returns-in-Err-clause-run
 returns-in-Err-clause-run c =
     record {
-      left = record { inner = c.args.said.space; missing = no_missing };
-      is_end = finding_ended (filled byte_accesses) c.args.asking.now None c.in-Err.refusal (tables_of c.args.said.space.memory c.args.said.rsdp) c.args.said.osi (record { inner = c.args.said.space; missing = no_missing })
+      left = first_filled c.args.asking.now.evaluation c.args.said.space;
+      is_end = finding_ended (metered (filled byte_accesses)) c.args.asking.now None c.in-Err.refusal (tables_of c.args.said.space.memory c.args.said.rsdp) c.args.said.osi (first_filled c.args.asking.now.evaluation c.args.said.space)
           (λ ne. ap (λ m. tables_of m c.args.said.rsdp) (sym c.memory.ensures) ∙ c.in-Err.ensures.is ne);
       are_places = sym c.new-in-Err.ensures.items;
     }

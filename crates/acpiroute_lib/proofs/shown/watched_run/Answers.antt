@@ -1,10 +1,11 @@
 use Rattle.std.proofs.Common.{◌∙◌, ap, refl, subst, sym}
 use Rattle.std.specs.Prelude.{Ok, None}
-use Rattle.ar_space.specs.Bytes.{byte_accesses}
+use Rattle.acpiroute_lib.specs.Machines.{register_accesses}
 use Rattle.ar_tables.specs.FindTables.{tables_of}
 use Rattle.watched_space.specs.Watching.{watched}
-use Rattle.acpiroute_lib.specs.WhyCommand.{IsWatched}
+use Rattle.acpiroute_lib.specs.WhyCommand.{IsWatched, first_watch}
 use Rattle.acpiroute_lib.proofs.Endings.{finding_ended}
+use Rattle.acpiroute_lib.proofs.Phases.{phase_not_found}
 use Rattle.acpiroute_lib.proofs.shown.watched_run.Goals as goal
 
 pub returns-in-Ok : goal.returns-in-Ok
@@ -15,8 +16,10 @@ returns-in-Ok c =
 pub returns-in-Err : goal.returns-in-Err
 returns-in-Err c =
     record {
-      left = record { inner = c.args.said.space; last = None };
-      is_end = finding_ended (watched byte_accesses) c.args.asking.now None c.in-Err.refusal (tables_of c.args.said.space.memory c.args.said.rsdp) c.args.said.osi (record { inner = c.args.said.space; last = None })
+      left = first_watch c.args.asking.now.evaluation c.args.said.space;
+      is_end = finding_ended (watched register_accesses) c.args.asking.now None c.in-Err.refusal (tables_of c.args.said.space.memory c.args.said.rsdp) c.args.said.osi (first_watch c.args.asking.now.evaluation c.args.said.space)
+          (λ ne. ap (λ m. tables_of m c.args.said.rsdp) (sym c.memory.ensures) ∙ c.in-Err.ensures.is ne);
+      is_phase = phase_not_found (watched register_accesses) c.args.asking.now (tables_of c.args.said.space.memory c.args.said.rsdp) c.args.said.osi (first_watch c.args.asking.now.evaluation c.args.said.space) c.in-Err.refusal
           (λ ne. ap (λ m. tables_of m c.args.said.rsdp) (sym c.memory.ensures) ∙ c.in-Err.ensures.is ne);
       is_last = refl;
     }

@@ -1,5 +1,5 @@
 use Rattle.std.proofs.Common.{refl, ap, ◌∙◌}
-use Rattle.ar_space.specs.Change.{does_same, does_err, same_ok}
+use Rattle.ar_space.proofs.Changes.{does_same, does_err, same_ok}
 use Rattle.aml_grammar.specs.Apart.{first_of}
 use Rattle.aml_terms.specs.AtTree.{at_tree, at_list}
 use Rattle.aml_frames.proofs.DeclaringFields.{same_laid, laid_end}

@@ -21,3 +21,12 @@ returns-in-UnitWritten-clause-falls g c =
 
 pub returns-in-Third-clause-falls : goal.returns-in-Third-clause-falls
 returns-in-Third-clause-falls g c = rw c.in-Third.is (charged_free c.resume_third.result c.resume_third.new.run.1 c.args.run.now.1 _ _ c.resume_third.ensures.spent (omega arith) c.resume_third.ensures.falls)
+
+pub returns-in-BankRead-clause-falls : goal.returns-in-BankRead-clause-falls
+returns-in-BankRead-clause-falls g c = rw c.in-BankRead.is (charged_free c.read_selected.result c.read_selected.new.run.1 c.args.run.now.1 _ _ c.read_selected.ensures.spent (omega arith) c.read_selected.ensures.falls)
+
+pub returns-in-BankWrite-clause-falls : goal.returns-in-BankWrite-clause-falls
+returns-in-BankWrite-clause-falls g c = rw c.in-BankWrite.is (charged_free c.write_selected.result c.write_selected.new.run.1 c.args.run.now.1 _ _ c.write_selected.ensures.spent (omega arith) c.write_selected.ensures.falls)
+
+pub returns-in-BankRead-clause-means : goal.returns-in-BankRead-clause-means
+returns-in-BankRead-clause-means g c = rw c.in-BankRead.is c.read_selected.ensures.means

@@ -3,6 +3,7 @@ use Rattle.aml_frames.specs.declared.frames.Next.TheVariants as next
 use Rattle.aml_frames.specs.declared.uses.Dyadic.TheVariants as dyadic
 use Rattle.aml_frames.specs.declared.uses.Monadic.TheVariants as monadic
 use Rattle.aml_frames.proofs.Knowing.{leads_on}
+use Rattle.aml_frames.proofs.BankTerms.{falls_few}
 use Rattle.aml_frames.proofs.WideSteps.{leads_convert, leads_to_string, leads_middle}
 use Rattle.aml_frames.proofs.wide.begin_asked.Goals as goal
 
@@ -14,3 +15,6 @@ returns-in-ToString-clause-means g c = rw c.in-ToString.is (leads_on (next.Term 
 
 pub returns-in-Mid-clause-means : goal.returns-in-Mid-clause-means
 returns-in-Mid-clause-means g c = rw c.in-Mid.is (leads_on (next.Term c.args.levels (frames.First dyadic.Mid c.args.levels)) c.args.act.now _ c.begin_dyadic-in-Mid.ensures.means (leads_middle c.args.levels))
+
+pub returns-in-BankField-clause-falls : goal.returns-in-BankField-clause-falls
+returns-in-BankField-clause-falls g c = falls_few c.begin_bank_fields.result c.begin_bank_fields.ensures.falls

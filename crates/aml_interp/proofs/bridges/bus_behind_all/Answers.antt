@@ -1,5 +1,5 @@
 use Rattle.std.proofs.Common.{sym, ◌∙◌}
-use Rattle.ar_space.specs.Change.{does_same, does_err, same_ok}
+use Rattle.ar_space.proofs.Changes.{does_same, does_err, same_ok}
 use Rattle.aml_meaning.specs.Meaning.{meaning}
 use Rattle.aml_frames.specs.Uses.{asking}
 use Rattle.aml_interp.proofs.Buses.{no_bridges, bridge_next, bridges_end}

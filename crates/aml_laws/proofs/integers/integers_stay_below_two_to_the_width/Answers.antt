@@ -1,6 +1,6 @@
 use Rattle.aml_laws.proofs.IntegersOfAnswers.{answer_within, answer_value_within}
 use Rattle.aml_laws.proofs.IntegersOfPredefined.{predefined_world_within}
-use Rattle.aml_laws.proofs.IntegersOfRules.{term_within, list_within}
+use Rattle.aml_laws.proofs.IntegersOfTables.{term_within, list_within}
 use Rattle.aml_laws.proofs.IntegersOfTables.{table_within, object_within, object_value_within}
 use Rattle.aml_laws.proofs.integers.integers_stay_below_two_to_the_width.Goals as goal
 

@@ -1,5 +1,5 @@
 use Rattle.std.proofs.Common.{arith, rules}
-use Rattle.ar_space.specs.Change.{does_same, does_err, same_ok}
+use Rattle.ar_space.proofs.Changes.{does_same, does_err, same_ok}
 use Rattle.aml_meaning.specs.declared.datum.Datum.{the_lemmas}
 use Rattle.aml_meaning.proofs.GivenRows.{row_is_list}
 use Rattle.aml_meaning.specs.Importing.{package_imported}

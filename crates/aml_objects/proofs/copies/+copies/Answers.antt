@@ -1,5 +1,5 @@
 use Rattle.std.proofs.Common.{arith}
-use Rattle.ar_space.specs.Change.{does_same, does_err, same_ok}
+use Rattle.ar_space.proofs.Changes.{does_same, does_err, same_ok}
 use Rattle.aml_objects.proofs.Copying.{same_each, same_more, each_end}
 use Rattle.aml_objects.specs.Copies.{package_copy}
 use Rattle.aml_objects.proofs.copies.+copies.Goals as goal

@@ -1,5 +1,6 @@
 use Rattle.std.proofs.Common.{◌∙◌, ap, sym}
-use Rattle.ar_space.specs.Each.{each, following, each_start}
+use Rattle.ar_space.specs.Each.{each, following}
+use Rattle.ar_space.proofs.EachInTurn.{each_start}
 use Rattle.ar_tables.specs.Lists.{entry_at, entries_at}
 use Rattle.ar_tables.proofs.Turns.{list_turn, list_refused, list_done}
 use Rattle.ar_tables.proofs.root_table.each_entry.Goals as goal

@@ -1,5 +1,6 @@
 use Rattle.std.proofs.Common.{◌∙◌, ap, sym}
-use Rattle.ar_space.specs.Each.{each, following, each_start}
+use Rattle.ar_space.specs.Each.{each, following}
+use Rattle.ar_space.proofs.EachInTurn.{each_start}
 use Rattle.ar_tables.specs.declared.table.TableKind.TheVariants.{Ssdt}
 use Rattle.ar_tables.specs.Headers.{table_at}
 use Rattle.ar_tables.specs.FindTables.{ssdts_at}

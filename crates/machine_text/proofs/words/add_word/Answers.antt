@@ -1,6 +1,6 @@
 use Rattle.std.proofs.Common.{◌≡◌, ◌∙◌, ◌+◌, ◌-◌, ◌/◌, ◌%◌, ◌≤◌, ◌++◌, rules, length, take, replicate, vec_len, sym, ap, arith, Ok, Err}
 use Rattle.std.proofs.lemmas.List.{take_all}
-use Rattle.ar_space.specs.Outcome.{answers_is}
+use Rattle.ar_space.proofs.Outcomes.{answers_is}
 use Rattle.machine_text.proofs.Joined.{with_bytes, without_bytes, no_word, odd_word}
 use Rattle.machine_text.proofs.Splices.{end_put}
 use Rattle.machine_text.proofs.words.add_word.Goals as goal

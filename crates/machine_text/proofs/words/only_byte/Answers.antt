@@ -1,6 +1,6 @@
 use Rattle.std.proofs.Common.{◌∙◌, sym, ap, Err, [], ◌∷◌}
 use Rattle.std.specs.Prelude.{option_map}
-use Rattle.ar_space.specs.Outcome.{answers_is}
+use Rattle.ar_space.proofs.Outcomes.{answers_is}
 use Rattle.machine_text.proofs.Joined.{only_bytes, only_refused}
 use Rattle.machine_text.proofs.Pairs.{two_digits}
 use Rattle.machine_text.proofs.words.only_byte.Goals as goal

@@ -1,7 +1,7 @@
 use Rattle.std.proofs.Common.{◌≡◌, ◌∙◌, ap, sym, true, false, Err}
 use Rattle.std.specs.Prelude.{codes}
 use Rattle.std.specs.Str.{bytes_eq}
-use Rattle.ar_space.specs.Outcome.{answers_is}
+use Rattle.ar_space.proofs.Outcomes.{answers_is}
 use Rattle.route_report.specs.Reading.{with_next}
 use Rattle.route_report.proofs.Steps.{until_key, until_on, until_fail, until_none}
 use Rattle.route_report.proofs.line.add_offers.Goals as goal

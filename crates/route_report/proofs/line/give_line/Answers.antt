@@ -1,4 +1,4 @@
-use Rattle.ar_space.specs.Outcome.{seen_err}
+use Rattle.ar_space.proofs.Outcomes.{seen_err}
 use Rattle.route_report.specs.Reading.{give, with_give, give_line}
 use Rattle.route_report.proofs.line.give_line.Goals as goal
 

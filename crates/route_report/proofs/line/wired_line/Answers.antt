@@ -1,4 +1,4 @@
-use Rattle.ar_space.specs.Outcome.{answers_ok, seen_err}
+use Rattle.ar_space.proofs.Outcomes.{answers_ok, seen_err}
 use Rattle.route_report.specs.Reading.{wired, with_wired, wired_line}
 use Rattle.route_report.proofs.line.wired_line.Goals as goal
 

@@ -1,5 +1,5 @@
 use Rattle.std.proofs.Common.{◌≡◌, ◌∙◌, ◌++◌, ℕ, List, [], ap, sym, Ok}
-use Rattle.ar_space.specs.Outcome.{answers_is}
+use Rattle.ar_space.proofs.Outcomes.{answers_is}
 use Rattle.route_report.specs.Lines.{text_of_lines}
 use Rattle.route_report.specs.Printing.{found_lines, chosen_lines, text_of_report}
 use Rattle.route_report.specs.Reading.{claim_of_text}

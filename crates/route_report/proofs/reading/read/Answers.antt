@@ -1,5 +1,5 @@
 use Rattle.std.proofs.Common.{sym, ◌∙◌, ap, Err, eqb-true}
-use Rattle.ar_space.specs.Outcome.{answers_is}
+use Rattle.ar_space.proofs.Outcomes.{answers_is}
 use Rattle.route_report.proofs.Texts.{nothing_read, heading_fail, heading_on}
 use Rattle.route_report.proofs.reading.read.Goals as goal
 

@@ -1,5 +1,5 @@
 use Rattle.std.proofs.Common.{arith}
-use Rattle.ar_space.specs.Change.{does_same, does_seen_err, same_ok}
+use Rattle.ar_space.proofs.Changes.{does_same, does_seen_err, same_ok}
 use Rattle.aml_meaning.proofs.Imports.{same_argument, arguments_end}
 use Rattle.aml_meaning.proofs.world_state.WorldState.import_all.Goals as goal
 

@@ -1,0 +1,17 @@
+use Rattle.std.proofs.Common.{refl, rules}
+use Rattle.acpi_explain.proofs.explanation.Explanation.new.Goals as goal
+
+pub returns : goal.returns
+returns c =
+    record {
+      name = c.help_for-help.result.name.now;
+      places = c.in_ok-traced.traced.places.items;
+      are_places = c.in_ok-traced.ensures.places;
+      taken = c.in_ok-traced.traced.steps.items;
+      is_taken = c.in_ok-traced.ensures.steps;
+      help = c.help_for-help.result.help.now;
+      is_refusal = refl;
+      is_stage = refl;
+      is_access = search rules;
+      is_text = search rules;
+    }

@@ -1,5 +1,0 @@
-use Rattle.std.proofs.Common.{rules}
-use Rattle.acpiroute_lib.proofs.why_command.refusal_answer.Goals as goal
-
-pub returns : goal.returns
-returns c = record { name = c.help_for-help.result.name.now; stage = c.args.stage.now; places = c.args.traced.now.places.items; steps = c.args.traced.now.steps.items; help = c.help_for-help.result.help.now; is = search rules }

@@ -1,0 +1,48 @@
+//! What the calls of a machine make of its world.
+ghost use Rattle.std.specs.Prelude.{ℕ, List};
+ghost use Rattle.ar_space.specs.Accesses.{Accesses};
+ghost use Rattle.ar_space.specs.declared.integer_width.IntegerWidth.{IntegerWidth};
+ghost use Rattle.ar_tables.specs.declared.mode.Mode.{Mode};
+ghost use Rattle.ar_tables.specs.declared.tables.Tables.{Tables};
+ghost use Rattle.aml_path.specs.declared.segment.Seg.{Seg};
+ghost use Rattle.aml_meaning.specs.Given.{Given};
+ghost use Rattle.aml_meaning.specs.Predefined.{fresh_as};
+ghost use Rattle.aml_meaning.specs.State.{State};
+ghost use Rattle.aml_meaning.specs.declared.profile.Profile.{Profile};
+ghost use Rattle.aml_laws.specs.Becomes.{Becomes};
+ghost use Rattle.aml_laws.specs.PassedNotes.{KeepsTheFirst, GoesOn};
+ghost use Rattle.acpi_machine.specs.Calls.{called_where_it_stands, evaluated_object, initialized};
+ghost use Rattle.acpi_machine.specs.Loading.{all_loaded, loaded_tables};
+ghost use Rattle.acpi_machine.specs.MachineStates.{MachineState};
+
+/// What a machine makes of its world evaluations make of it, one after another, and notes of what the wide profile
+/// passes over: by its tables, by each call of initializing, passed over or not, by all of them, and by an object that
+/// it evaluates, however these end. So the laws of `aml_laws` that speak of all that evaluations make of a world speak
+/// of the worlds of machines.
+#[tactic(auto, using(crate::proofs::MachineWorlds::loading_evaluates, crate::proofs::MachineWorlds::call_evaluates, crate::proofs::MachineWorlds::initializing_evaluates, crate::proofs::MachineWorlds::object_evaluates))]
+pub fn a_machine_makes_of_its_world_what_evaluations_do<S>()
+    ensures tables { (accesses : Accesses S) (t : Tables) (steps : ℕ) (w : State S) →
+        Becomes accesses w (all_loaded accesses t steps w).1 }
+    ensures call { (accesses : Accesses S) (p : List Seg) (arguments : List Given) (m : MachineState S) →
+        Becomes accesses m.world (called_where_it_stands accesses p arguments m).1.world }
+    ensures initialization { (accesses : Accesses S) (mode : Mode) (m : MachineState S) →
+        Becomes accesses m.world (initialized accesses mode m).1.world }
+    ensures object { (accesses : Accesses S) (p : List Seg) (arguments : List Given) (m : MachineState S) →
+        Becomes accesses m.world (evaluated_object accesses p arguments m).1.world }
+{}
+
+/// Of what a machine passes over so many are kept as are counted, or 64 where these are more: in the world that its
+/// tables leave, in either profile, and also behind calls of initializing that are passed over and behind objects that
+/// it evaluates. What was kept before initializing stays, in its order, and the count never falls.
+#[tactic(auto, using(crate::proofs::MachineWorlds::first_of_loading, crate::proofs::MachineWorlds::first_of_initializing, crate::proofs::MachineWorlds::more_of_initializing, crate::proofs::MachineWorlds::first_of_object))]
+pub fn the_first_that_a_machine_passes_over_are_kept<S>()
+    ensures tables { (accesses : Accesses S) (profile : Profile) (width : IntegerWidth) (osi : List (List ℕ))
+        (space : S) (t : Tables) (steps : ℕ) →
+        KeepsTheFirst (loaded_tables accesses t steps osi (fresh_as profile width osi space)).1.passed }
+    ensures initialization { (accesses : Accesses S) (mode : Mode) (m : MachineState S) →
+        KeepsTheFirst m.world.passed → KeepsTheFirst (initialized accesses mode m).1.world.passed }
+    ensures goes_on { (accesses : Accesses S) (mode : Mode) (m : MachineState S) →
+        GoesOn m.world.passed (initialized accesses mode m).1.world.passed }
+    ensures object { (accesses : Accesses S) (p : List Seg) (arguments : List Given) (m : MachineState S) →
+        KeepsTheFirst m.world.passed → KeepsTheFirst (evaluated_object accesses p arguments m).1.world.passed }
+{}
