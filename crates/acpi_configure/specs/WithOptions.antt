@@ -79,3 +79,10 @@ pub record IsReportWith {S : Type 0} (accesses : Accesses S) (o : RunOptions) (b
   pub paths : paths_of (claim_of_report r).links ≡ paths_of found.gathering.problem.links
   pub offers : map (effective_offers (claim_of_report r)) (claim_of_report r).links ≡ offers_of found.gathering.problem.links
   pub counts : (i : ℕ) → wired_to (effective_counts (claim_of_report r)) i ≡ wired_to found.gathering.problem.wired i
+
+-- What is found and chosen for a machine where these are the options, before a link is set: the machine is this one then.
+pub record IsChoice {S : Type 0} (accesses : Accesses S) (o : RunOptions) (before after : MachineState S) (g : Gathering) (a : RoutingAnswer) : Type 0 where
+  pub found : Findings
+  pub is_found : found_by accesses o (sci_of before) before ≡ (Ok found, after)
+  pub is_gathering : found.gathering ≡ g
+  pub chosen : IsChosen o.spread g.problem a

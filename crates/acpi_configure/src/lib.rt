@@ -2,6 +2,7 @@
 //! the links, and reports what was found, chosen and set.
 #![tactic(auto)]
 
+mod choice;
 mod choosing;
 mod chosen_lines;
 mod configuring;
@@ -18,6 +19,7 @@ mod pin_names;
 mod settling;
 mod triggers;
 
+pub use choice::{Choice, choose_with};
 pub use configuring::configure;
 pub use for_kernels::configure_with;
 pub use options::Options;

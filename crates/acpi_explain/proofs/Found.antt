@@ -24,7 +24,7 @@ use Rattle.acpi_links.specs.Presence.{is_present}
 use Rattle.acpi_links.specs.Resources.{possible_resources, current_resources}
 use Rattle.acpi_links.specs.Stops.{offer_asked}
 use Rattle.acpi_explain.specs.declared.stage.Stage.{Stage}
-use Rattle.acpi_explain.specs.declared.stage.Stage.TheVariants.{Loading, Calling, RoutingTable, Reading, Gathering as Together}
+use Rattle.acpi_explain.specs.declared.stage.Stage.TheVariants.{Loading, Calling, RoutingTable, Reading, Setting, ReadingAgain, Gathering as Together}
 use Rattle.acpi_explain.specs.declared.halt.Halt.{Halt}
 use Rattle.acpi_explain.specs.declared.halt.Halt.TheVariants.{Memory, At}
 use Rattle.aml_path.specs.Text.{text_of}
@@ -60,6 +60,8 @@ named_at link name (Loading n) h = absurd h
 named_at link name (Calling p) h = absurd h
 named_at link name (RoutingTable p) h = absurd h
 named_at link name (Reading p) h = (p, refl, h)
+named_at link name (Setting p) h = absurd h
+named_at link name (ReadingAgain p) h = absurd h
 named_at link name Together h = absurd h
 
 module _ {S : Type 0} (accesses : Accesses S) where
@@ -164,6 +166,8 @@ module _ {S : Type 0} (accesses : Accesses S) where
         go (Calling p) e f i = absurd i
         go (RoutingTable p) e f i = absurd i
         go (Reading p) e f i = (link, n, f.0, subst (λ s. IsOfLink accesses avoid link p s after e) (sym f.1) i)
+        go (Setting p) e f i = absurd i
+        go (ReadingAgain p) e f i = absurd i
         go Together e f i = i
 
     -- ---- all of it
@@ -182,6 +186,8 @@ module _ {S : Type 0} (accesses : Accesses S) where
         go (Calling p) i = absurd i
         go (RoutingTable p) i = i
         go (Reading p) i = absurd i
+        go (Setting p) i = absurd i
+        go (ReadingAgain p) i = absurd i
         go Together i = absurd i
 
     pins_refused : (before after : MachineState S) (pins : List (List Seg × Pin)) (e : Refusal) → pins_of_each accesses (devices before) before ≡ (Ok pins, after) → few_pins (sci_of before) pins ≡ Err e → gathered accesses avoid before ≡ (Err e, after)
@@ -229,6 +235,8 @@ module _ {S : Type 0} (accesses : Accesses S) where
         go (Calling p) i = absurd i
         go (RoutingTable p) i = absurd i
         go (Reading p) i = record { pins = pins; asked = middle; are_found = is; few = few; link = i.0; number = i.1; is_first = i.2; is_object = i.3 }
+        go (Setting p) i = absurd i
+        go (ReadingAgain p) i = absurd i
         go Together i = i
 
     links_put : (before middle after : MachineState S) (pins : List (List Seg × Pin)) (links : List PresentLink) (x : Outcome (Unit {0})) → pins_found accesses (sci_of before) before ≡ (Ok pins, middle) → few_links (links_named pins) ≡ Ok tt

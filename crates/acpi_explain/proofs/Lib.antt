@@ -3,7 +3,9 @@ pub mod Called
 pub mod Found
 pub mod Halted
 pub mod Left
+pub mod LinksTold
 pub mod Loaded
 pub mod Paths
 pub mod Putting
 pub mod Spared
+pub mod Texts

@@ -12,7 +12,7 @@ use Rattle.acpiroute_words.specs.ErrorLines.{refusal_words}
 use Rattle.acpiroute_words.specs.Hexadecimal.{hexadecimal}
 use Rattle.acpi_explain.specs.declared.explanation.Explanation.{Explanation}
 use Rattle.acpi_explain.specs.declared.stage.Stage.{Stage}
-use Rattle.acpi_explain.specs.declared.stage.Stage.TheVariants.{Loading, Calling, RoutingTable, Reading, Gathering}
+use Rattle.acpi_explain.specs.declared.stage.Stage.TheVariants.{Loading, Calling, RoutingTable, Reading, Setting, ReadingAgain, Gathering}
 
 -- `DSDT`, or an SSDT by its number
 abbrev pub table_words : ℕ → List ℕ
@@ -25,6 +25,8 @@ stage_words (Loading n) = codes "loading " ++ table_words n
 stage_words (Calling p) = codes "calling " ++ text_of p
 stage_words (RoutingTable p) = codes "reading the routing table of " ++ text_of p
 stage_words (Reading p) = codes "reading " ++ text_of p
+stage_words (Setting p) = codes "setting " ++ text_of p
+stage_words (ReadingAgain p) = codes "reading " ++ (text_of p ++ codes " again")
 stage_words Gathering = codes "gathering links and pins"
 
 -- `while` and what was done, where that is known

@@ -17,7 +17,7 @@ use Rattle.acpi_explain.specs.Stages.{IsOfLink, IsOfNoObject}
 use Rattle.acpi_explain.specs.declared.halt.Halt.{Halt}
 use Rattle.acpi_explain.specs.declared.halt.Halt.TheVariants.{Memory, At}
 use Rattle.acpi_explain.specs.declared.stage.Stage.{Stage}
-use Rattle.acpi_explain.specs.declared.stage.Stage.TheVariants.{Loading, Calling, RoutingTable, Reading, Gathering as Together}
+use Rattle.acpi_explain.specs.declared.stage.Stage.TheVariants.{Loading, Calling, RoutingTable, Reading, Setting, ReadingAgain, Gathering as Together}
 
 -- the change is refused, at a stage of which this holds
 abbrev pub IsHalted : {S A : Type 0} → Change S A → (Stage → S → Refusal → Type 0) → S → S → Halt → Type 0
@@ -30,6 +30,8 @@ IsNamed link name (Loading n) = ⊥
 IsNamed link name (Calling path) = ⊥
 IsNamed link name (RoutingTable device) = ⊥
 IsNamed link name (Reading path) = child_named link name ≡ Ok path
+IsNamed link name (Setting other) = ⊥
+IsNamed link name (ReadingAgain other) = ⊥
 IsNamed link name Together = ⊥
 
 -- accesses: what the register space makes of them
@@ -40,6 +42,8 @@ module _ {S : Type 0} (accesses : Accesses S) where
   IsUnread list before (Calling path) after e = ⊥
   IsUnread list before (RoutingTable device) after e = (n : ℕ) × IsFirstRefused (pins_of_device accesses) list n device before after e
   IsUnread list before (Reading path) after e = ⊥
+  IsUnread list before (Setting other) after e = ⊥
+  IsUnread list before (ReadingAgain other) after e = ⊥
   IsUnread list before Together after e = ⊥
 
   -- an object of a link, or that nothing is left of what it offers
@@ -48,6 +52,8 @@ module _ {S : Type 0} (accesses : Accesses S) where
   IsInLink avoid link before (Calling path) after e = ⊥
   IsInLink avoid link before (RoutingTable device) after e = ⊥
   IsInLink avoid link before (Reading path) after e = IsOfLink accesses avoid link path before after e
+  IsInLink avoid link before (Setting other) after e = ⊥
+  IsInLink avoid link before (ReadingAgain other) after e = ⊥
   IsInLink avoid link before Together after e = IsOfNoObject {A = Gathering} (Err e)
 
   -- the same of one of these links
@@ -56,6 +62,8 @@ module _ {S : Type 0} (accesses : Accesses S) where
   IsInLinks avoid list before (Calling path) after e = ⊥
   IsInLinks avoid list before (RoutingTable device) after e = ⊥
   IsInLinks avoid list before (Reading path) after e = (link : List Seg) × (n : ℕ) × (first : IsFirstRefused (link_asked accesses avoid) list n link before after e) × IsOfLink accesses avoid link path first.there after e
+  IsInLinks avoid list before (Setting other) after e = ⊥
+  IsInLinks avoid list before (ReadingAgain other) after e = ⊥
   IsInLinks avoid list before Together after e = IsOfNoObject {A = Gathering} (Err e)
 
   -- no object is refused: all are answered, and what was found is put together or refused

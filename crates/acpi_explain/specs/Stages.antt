@@ -151,6 +151,8 @@ module _ {S : Type 0} (accesses : Accesses S) where
     IsRefusedAt (stages.Calling path) before after e = ⊥
     IsRefusedAt (stages.RoutingTable device) before after e = (n : ℕ) × IsFirstRefused (pins_of_device accesses) (devices before) n device before after e
     IsRefusedAt (stages.Reading path) before after e = IsObject path before after e
+    IsRefusedAt (stages.Setting link) before after e = ⊥
+    IsRefusedAt (stages.ReadingAgain link) before after e = ⊥
     IsRefusedAt stages.Gathering before after e = IsOfNoObject {A = Gathering} (Err e)
 
     -- gathering is refused by e at a stage

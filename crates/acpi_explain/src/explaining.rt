@@ -1,5 +1,5 @@
 //! The lines of `why` where a run is refused.
-ghost use Rattle.std.specs.Prelude.{◌≡◌, ◌++◌, IfOk, OnOk};
+ghost use Rattle.std.specs.Prelude.{◌≡◌, ◌++◌, IfOk, OnOk, codes};
 ghost use Rattle.aml_path.specs.Text.{text_of};
 ghost use Rattle.acpi_explain.specs.Explaining.{table_words, stage_words, stage_line, direction_word, access_line};
 ghost use Rattle.acpi_explain.specs.Explaining.{refusal_line, help_line, refused_text};
@@ -33,6 +33,15 @@ fn put_named(alloc: Global, text: &mut Vec<u8>, words: &[u8], path: &Path) -> Re
     put_path(alloc, text, path)
 }
 
+/// That the object at a path is read again.
+fn put_again(alloc: Global, text: &mut Vec<u8>, path: &Path) -> Result<(), AllocError>
+    ensures { OnOk result (text.new.items ≡ text.old.items ++ (codes "reading " ++ (text_of path.now ++ codes " again"))) }
+{
+    text.extend_from_slice(b"reading ")?;
+    put_path(alloc, text, path)?;
+    text.extend_from_slice(b" again")
+}
+
 /// What was done.
 fn put_stage(alloc: Global, text: &mut Vec<u8>, stage: &Stage) -> Result<(), AllocError>
     ensures { OnOk result (text.new.items ≡ text.old.items ++ stage_words stage.now) }
@@ -47,6 +56,8 @@ fn put_stage(alloc: Global, text: &mut Vec<u8>, stage: &Stage) -> Result<(), All
             put_named(alloc, text, b"reading the routing table of ", path)
         }
         Stage::Reading(path) => put_named(alloc, text, b"reading ", path),
+        Stage::Setting(path) => put_named(alloc, text, b"setting ", path),
+        Stage::ReadingAgain(path) => put_again(alloc, text, path),
         Stage::Gathering => text.extend_from_slice(b"gathering links and pins"),
     }
 }
@@ -106,7 +117,7 @@ fn refusal_line(alloc: Global, refusal: &Refusal, name: &str) -> Result<Vec<u8>,
     Ok(text)
 }
 
-fn put_help(text: &mut Vec<u8>, help: &str) -> Result<(), AllocError>
+pub(crate) fn put_help(text: &mut Vec<u8>, help: &str) -> Result<(), AllocError>
     ensures { OnOk result (text.new.items ≡ text.old.items ++ help_line help.now) }
 {
     text.extend_from_slice(b"help ")?;

@@ -13,6 +13,10 @@ pub enum Stage {
     RoutingTable(Path),
     /// This object was evaluated, and what it answers taken apart.
     Reading(Path),
+    /// This link was set to the interrupt that was chosen for it, by `_SRS`.
+    Setting(Path),
+    /// What this link is set to was read again, by `_CRS`, once all links were set.
+    ReadingAgain(Path),
     /// What was found was put together.
     Gathering,
 }

@@ -2,6 +2,7 @@ pub mod Caused
 pub mod Deliveries
 pub mod Endings
 pub mod Evaluated
+pub mod LinkRuns
 pub mod Machines
 pub mod NameLines
 pub mod One

@@ -240,9 +240,9 @@ no_tables accesses q tables osi before phase x (Ok stage) is ne = λ e left p r.
 no_tables accesses q tables osi before phase x (Err e) is ne = tt
 
 -- a machine that isn't initialized
-pub not_initialized : {S E : Type 0} (x : Refusal) (m : Outcome (Unit {0}) × MachineState S) (after : MachineState S) (r : Result (Option Stage) E) (P : Option Stage → MachineState S → Type 0) → (x ≢ OutOfMemory → m ≡ (Err x, after)) → IfOk r (λ _. x ≢ OutOfMemory)
-    → IfOk r (λ stage. (ready : MachineState S) → m ≡ (Ok tt, ready) → P stage ready)
-not_initialized {S = S} x m after (Ok stage) P is ne = λ ready i. let never : ◌≡◌ {A = Outcome (Unit {0})} (Err x) (Ok tt) = ap (λ (p : Outcome (Unit {0}) × MachineState S). p.0) (sym (is ne) ∙ i) in absurd (cc never)
+pub not_initialized : {S E B : Type 0} (x : Refusal) (m : Outcome (Unit {0}) × MachineState S) (after : MachineState S) (r : Result B E) (P : B → MachineState S → Type 0) → (x ≢ OutOfMemory → m ≡ (Err x, after)) → IfOk r (λ _. x ≢ OutOfMemory)
+    → IfOk r (λ found. (ready : MachineState S) → m ≡ (Ok tt, ready) → P found ready)
+not_initialized {S = S} x m after (Ok found) P is ne = λ ready i. let never : ◌≡◌ {A = Outcome (Unit {0})} (Err x) (Ok tt) = ap (λ (p : Outcome (Unit {0}) × MachineState S). p.0) (sym (is ne) ∙ i) in absurd (cc never)
 not_initialized x m after (Err e) P is ne = tt
 
 -- a machine that is initialized
@@ -251,12 +251,12 @@ pub initialized_so : {S : Type 0} (m : Outcome (Unit {0}) × MachineState S) (af
 initialized_so {S = S} m after stage P is h ready i = (stage, (refl, subst (λ x. P x stage) (ap (λ (p : Outcome (Unit {0}) × MachineState S). p.1) (sym is ∙ i)) h))
 
 -- what is said of all, where one is refused or is it
-pub of_refused : {A E : Type 0} (x : Refusal) (text : Outcome A) (r : Result (Option Stage) E) (P : A → Option Stage → Type 0) → (x ≢ OutOfMemory → text ≡ Err x) → IfOk r (λ _. x ≢ OutOfMemory) → IfOk r (λ stage. (a : A) → text ≡ Ok a → P a stage)
-of_refused {A = A} x text (Ok stage) P is ne = λ a i. let never : ◌≡◌ {A = Outcome A} (Err x) (Ok a) = sym (is ne) ∙ i in absurd (cc never)
+pub of_refused : {A B E : Type 0} (x : Refusal) (text : Outcome A) (r : Result B E) (P : A → B → Type 0) → (x ≢ OutOfMemory → text ≡ Err x) → IfOk r (λ _. x ≢ OutOfMemory) → IfOk r (λ found. (a : A) → text ≡ Ok a → P a found)
+of_refused {A = A} x text (Ok found) P is ne = λ a i. let never : ◌≡◌ {A = Outcome A} (Err x) (Ok a) = sym (is ne) ∙ i in absurd (cc never)
 of_refused x text (Err e) P is ne = tt
 
-pub of_all : {A E : Type 0} (text : Outcome A) (a : A) (r : Result (Option Stage) E) (P : A → Option Stage → Type 0) → text ≡ Ok a → IfOk r (P a) → IfOk r (λ stage. (b : A) → text ≡ Ok b → P b stage)
-of_all {A = A} text a (Ok stage) P is h = λ b i. let both : ◌≡◌ {A = Outcome A} (Ok a) (Ok b) = sym is ∙ i in let same : a ≡ b = cc both in subst (λ y. P y stage) same h
+pub of_all : {A B E : Type 0} (text : Outcome A) (a : A) (r : Result B E) (P : A → B → Type 0) → text ≡ Ok a → IfOk r (P a) → IfOk r (λ found. (b : A) → text ≡ Ok b → P b found)
+of_all {A = A} text a (Ok found) P is h = λ b i. let both : ◌≡◌ {A = Outcome A} (Ok a) (Ok b) = sym is ∙ i in let same : a ≡ b = cc both in subst (λ y. P y found) same h
 of_all text a (Err e) P is h = tt
 
 -- the object at the path of a text

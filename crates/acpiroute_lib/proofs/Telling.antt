@@ -1,6 +1,6 @@
 -- The answers of `why`, from the run and its lines.
 use Rattle.std.proofs.Common.{◌≡◌, ◌≢◌, ◌∙◌, ap, sym}
-use Rattle.std.specs.Prelude.{ℕ, List, Option, Ok, Err, IfOk, IfErr, IsErr, IsErrAnd}
+use Rattle.std.specs.Prelude.{ℕ, List, Option, Ok, Err, IfOk, IfErr, IsErr, IsErrAnd, ◌++◌, codes}
 use Rattle.ar_space.specs.Outcome.{Outcome, Answers, NotMemory}
 use Rattle.ar_space.specs.declared.refusal.Refusal.{Refusal}
 use Rattle.ar_space.specs.declared.refusal.Refusal.TheVariants.{OutOfMemory}
@@ -16,9 +16,10 @@ use Rattle.acpi_explain.specs.Explaining.{IsExplanation}
 use Rattle.acpi_explain.specs.declared.explanation.Explanation.{Explanation}
 use Rattle.acpi_explain.specs.declared.stage.Stage.{Stage}
 use Rattle.watched_space.specs.Watching.{watched}
+use Rattle.acpiroute_lib.specs.LinksAsked.{AreLinksIn}
 use Rattle.acpiroute_lib.specs.WhyStages.{IsStageOf}
 use Rattle.acpiroute_lib.specs.declared.run_end.RunEnd.TheVariants as end
-use Rattle.acpiroute_lib.specs.WhyCommand.{told, first_watch, IsStageFound, IsRefusalTold, IsWatched, IsExplained, IsWhy, IsFilled, IsListed, IsRegisters, IsWhyAnswer, IsRegistersAnswer}
+use Rattle.acpiroute_lib.specs.WhyCommand.{told, first_watch, IsStageFound, IsRefusalTold, AreLinksFound, IsDoneTold, IsWatched, IsExplained, IsWhy, IsFilled, IsListed, IsRegisters, IsWhyAnswer, IsRegistersAnswer}
 use Rattle.acpiroute_lib.specs.declared.run_end.RunEnd.{RunEnd}
 
 -- what holds where something is answered
@@ -31,10 +32,16 @@ pub explanation_told : (steps : ℕ) (IsIt : Option Stage → Type 0) (e : Refus
     → IsRefusalTold steps IsIt e access w
 explanation_told steps IsIt e stage access x w it h is = record { stage = stage; is_stage = it; explanation = x; is_explanation = h; is = is }
 
+-- that a run isn't refused, with lines of which that holds
+pub done_told : (AreIt : List ℕ → Type 0) (lines : List ℕ) (w : Written) → AreIt lines → w ≡ told (codes "not refused\n" ++ lines) → IsDoneTold AreIt w
+done_told AreIt lines w it is = record { lines = lines; are_lines = it; is = is }
+
 module _ (q : Asking) (said : MachineText) where
   -- the stage that a second run found is that of the run
   staged : (text : List ℕ) → machine_text text ≡ Ok said → (ended : RunEnd) (last : Option Accessed) (w : Written) → IsWatched q (tables_of said.space.memory said.rsdp) said.osi said.space ended last
-      → IsExplained q.evaluation.steps (λ phase e. IsStageFound q phase text) ended last w → IsExplained q.evaluation.steps (λ phase e. IsStageOf (watched register_accesses) q (tables_of said.space.memory said.rsdp) said.osi (first_watch q.evaluation said.space) e) ended last w
+      → IsExplained q.evaluation.steps (λ phase e. IsStageFound q phase text) (AreLinksFound q text) ended last w
+      → IsExplained q.evaluation.steps (λ phase e. IsStageOf (watched register_accesses) q (tables_of said.space.memory said.rsdp) said.osi (first_watch q.evaluation said.space) e)
+      (AreLinksIn register_accesses q (tables_of said.space.memory said.rsdp) said.osi (first_watch q.evaluation said.space)) ended last w
   staged text is (end.Refused phase e) last w run (ne, lines) = (
     ne,
     record {
@@ -45,10 +52,10 @@ module _ (q : Asking) (said : MachineText) where
       is = lines.is;
     },
   )
-  staged text is (end.Done report) last w run lines = lines
+  staged text is (end.Done report) last w run lines = done_told _ lines.lines w (lines.are_lines said is) lines.is
 
   pub why_told : (text : List ℕ) (ended : RunEnd) (last : Option Accessed) (r : Outcome Written) → IsWatched q (tables_of said.space.memory said.rsdp) said.osi said.space ended last
-      → IfOk r (IsExplained q.evaluation.steps (λ phase e. IsStageFound q phase text) ended last) → IfOk r (λ w. machine_text text ≡ Ok said → IsWhy q said w)
+      → IfOk r (IsExplained q.evaluation.steps (λ phase e. IsStageFound q phase text) (AreLinksFound q text) ended last) → IfOk r (λ w. machine_text text ≡ Ok said → IsWhy q said w)
   why_told text ended last (Ok w) run lines = λ is. record { ended = ended; last = last; is_run = run; is_explained = staged text is ended last w run lines }
   why_told text ended last (Err e) run lines = tt
 
@@ -76,4 +83,4 @@ module _ (q : Asking) (text : List ℕ) where
   registers_refused (Ok w) h i ne = absurd (cc i.0)
   registers_refused {e = e} (Err x) h i ne = text_refused e x h i.1 ne
 
-pub ruleset telling = (explanation_told, why_told, registers_told, why_answered, registers_answered, why_refused, registers_refused)
+pub ruleset telling = (explanation_told, done_told, why_told, registers_told, why_answered, registers_answered, why_refused, registers_refused)

@@ -1,3 +1,4 @@
+pub mod LinksAsked
 pub mod Machines
 pub mod NameLines
 pub mod NamesCommand
@@ -5,7 +6,6 @@ pub mod ValueText
 pub mod EvalCommand
 pub mod RouteCommand
 pub mod Ended
-pub mod LinkTexts
 pub mod MissingLines
 pub mod WhyStages
 pub mod WhyCommand

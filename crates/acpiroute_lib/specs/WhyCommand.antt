@@ -24,7 +24,7 @@ use Rattle.acpiroute_words.specs.Written.{Written}
 use Rattle.acpiroute_words.specs.declared.completion.Completion.TheVariants.{Done}
 use Rattle.acpi_machine.specs.MachineStates.{MachineState}
 use Rattle.acpiroute_lib.specs.Ended.{IsMachineEnd, IsEnd}
-use Rattle.acpiroute_lib.specs.LinkTexts.{done_text}
+use Rattle.acpiroute_lib.specs.LinksAsked.{AreLinksIn}
 use Rattle.acpiroute_lib.specs.Machines.{Registers, register_accesses, registers_of}
 use Rattle.acpiroute_lib.specs.MissingLines.{missing_lines}
 use Rattle.acpiroute_lib.specs.WhyStages.{machine_phase, run_phase, IsPhase, IsStageOf, IsStageIn}
@@ -62,6 +62,17 @@ abbrev pub IsStageFound : Asking → Option Phase → List ℕ → Option Stage 
 IsStageFound q phase text stage = (said : MachineText) → machine_text text ≡ Ok said
     → IsStageIn (watched register_accesses) phase q (tables_of said.space.memory said.rsdp) said.osi (first_watch q.evaluation said.space) stage
 
+-- the lines of links in the run over a machine text, if it is not refused
+abbrev pub AreLinksFound : Asking → List ℕ → List ℕ → Type 0
+AreLinksFound q text lines = (said : MachineText) → machine_text text ≡ Ok said
+    → AreLinksIn register_accesses q (tables_of said.space.memory said.rsdp) said.osi (first_watch q.evaluation said.space) lines
+
+-- that a run isn't refused, and behind that lines of which this holds
+pub record IsDoneTold (AreIt : List ℕ → Type 0) (w : Written) : Type 0 where
+  pub lines : List ℕ
+  pub are_lines : AreIt lines
+  pub is : w ≡ told (codes "not refused\n" ++ lines)
+
 -- The text of an explanation of the refusal of the run, with a stage of which this holds, where so many steps might be taken.
 pub record IsRefusalTold (steps : ℕ) (IsIt : Option Stage → Type 0) (e : Refusal) (access : Option Accessed) (w : Written) : Type 0 where
   pub stage : Option Stage
@@ -70,17 +81,19 @@ pub record IsRefusalTold (steps : ℕ) (IsIt : Option Stage → Type 0) (e : Ref
   pub is_explanation : IsExplanation e stage access steps explanation
   pub is : w ≡ told explanation.text.items
 
--- the lines of how a run ended, with a stage of which this holds; want of memory is told in none
-abbrev pub IsExplained : ℕ → (Option Phase → Refusal → Option Stage → Type 0) → RunEnd → Option Accessed → Written → Type 0
-IsExplained steps IsIt (end.Refused phase e) last w = (e ≢ OutOfMemory) × IsRefusalTold steps (IsIt phase e) e (shown_access e last) w
-IsExplained steps IsIt (end.Done report) last w = w ≡ told (done_text report)
+-- the lines of how a run ended, with a stage and lines of links of which this holds; want of memory is told in none
+abbrev pub IsExplained : ℕ → (Option Phase → Refusal → Option Stage → Type 0) → (List ℕ → Type 0) → RunEnd → Option Accessed → Written → Type 0
+IsExplained steps IsIt AreIt (end.Refused phase e) last w = (e ≢ OutOfMemory) × IsRefusalTold steps (IsIt phase e) e (shown_access e last) w
+IsExplained steps IsIt AreIt (end.Done report) last w = IsDoneTold AreIt w
 
--- what is told where the run is refused: the stage of just this run, at which it is refused so
+-- What is told: where the run is refused, the stage of just this run, at which it is refused so; else the links that just this run doesn't
+-- set as they were to be.
 pub record IsWhy (q : Asking) (said : MachineText) (w : Written) : Type 0 where
   pub ended : RunEnd
   pub last : Option Accessed
   pub is_run : IsWatched q (tables_of said.space.memory said.rsdp) said.osi said.space ended last
-  pub is_explained : IsExplained q.evaluation.steps (λ phase e. IsStageOf (watched register_accesses) q (tables_of said.space.memory said.rsdp) said.osi (first_watch q.evaluation said.space) e) ended last w
+  pub is_explained : IsExplained q.evaluation.steps (λ phase e. IsStageOf (watched register_accesses) q (tables_of said.space.memory said.rsdp) said.osi (first_watch q.evaluation said.space) e)
+      (AreLinksIn register_accesses q (tables_of said.space.memory said.rsdp) said.osi (first_watch q.evaluation said.space)) ended last w
 
 -- ---- which registers are missing
 

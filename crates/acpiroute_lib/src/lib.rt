@@ -6,7 +6,7 @@ mod commands;
 mod ended;
 mod eval_command;
 pub mod laws;
-mod link_texts;
+mod link_run;
 mod machine;
 mod memory;
 mod name_lines;

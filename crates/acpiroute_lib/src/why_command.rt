@@ -4,11 +4,11 @@ ghost use Rattle.ar_space.specs.Outcome.{NotMemory};
 ghost use Rattle.ar_space.specs.declared.refusal.Refusal.TheVariants.{OutOfMemory};
 ghost use Rattle.machine_text.specs.MachineText.{machine_text};
 ghost use Rattle.acpiroute_words.specs.ErrorLines.{error_line};
-ghost use Rattle.acpiroute_lib.specs.WhyCommand.{told, IsStageFound, IsExplained, IsListed};
+ghost use Rattle.acpiroute_lib.specs.WhyCommand.{told, IsStageFound, AreLinksFound, IsExplained, IsListed};
 ghost use Rattle.acpiroute_lib.specs.WhyCommand.{IsWhy, IsRegisters};
 ghost use Rattle.acpiroute_lib.specs.WhyCommand.{IsWhyAnswer, IsRegistersAnswer};
 
-use crate::link_texts::done_text;
+use crate::link_run::link_lines;
 use crate::place_words::missing_lines;
 use crate::refused_stage::stage_when_refused;
 use crate::run_end::RunEnd;
@@ -30,6 +30,15 @@ fn told(text: Vec<u8>) -> Answer
     }
 }
 
+/// That a run isn't refused, and behind that the lines of its links.
+fn done(alloc: Global, lines: &[u8]) -> Result<Answer, AllocError>
+    ensures { IfOk result (λ w. w ≡ told (codes "not refused\n" ++ lines.now)) }
+{
+    let mut text = Vec::from_slice(alloc, b"not refused\n")?;
+    text.extend_from_slice(lines)?;
+    Ok(told(text))
+}
+
 /// The lines of how a run over a machine text ended. Want of memory is told in none.
 #[tactic(auto, using(crate::proofs::Telling::telling))]
 fn explained(
@@ -42,7 +51,7 @@ fn explained(
 ) -> Result<Answer, Refusal>
     ensures memory { IfErr result (λ refusal. refusal ≡ OutOfMemory) }
     ensures lines { IfOk result (IsExplained asking.now.evaluation.steps
-        (λ phase e. IsStageFound asking.now phase text.now) end last) }
+        (λ phase e. IsStageFound asking.now phase text.now) (AreLinksFound asking.now text.now) end last) }
 {
     match end {
         RunEnd::Refused(_, Refusal::OutOfMemory) => Err(Refusal::OutOfMemory),
@@ -51,7 +60,11 @@ fn explained(
             let why = Explanation::new(alloc, refusal, stage, last, trace, asking.evaluation)?;
             Ok(told(why.text))
         }
-        RunEnd::Done(report) => Ok(told(done_text(alloc, &report)?)),
+        RunEnd::Done(report) => {
+            drop(report);
+            let lines = link_lines(alloc, asking, text)?;
+            Ok(done(alloc, &lines)?)
+        }
     }
 }
 

@@ -21,6 +21,7 @@ pub mod BusesTogether
 pub mod MachinesWidened
 pub mod NumbersTold
 pub mod OthersTogether
+pub mod FoundTogether
 pub mod ProfilesAsked
 pub mod ReportsCarried
 pub mod ReportsTold

@@ -19,3 +19,4 @@ pub mod StreamLines
 pub mod RunsWidened
 pub mod TextsWidened
 pub mod Bounding
+pub mod Watching

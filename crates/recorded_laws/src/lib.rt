@@ -5,6 +5,7 @@
 pub mod answers;
 pub mod bounds;
 pub mod profiles;
+pub mod watched;
 
 ghost use Rattle.std.specs.Prelude.{◌≡◌, ◌≢◌, ◌++◌, ℕ, List, [], None, Some, Err, slice_get};
 ghost use Rattle.ar_space.specs.declared.refusal.SpaceFault.{SpaceFault};
