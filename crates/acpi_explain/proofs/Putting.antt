@@ -1,5 +1,5 @@
 -- Texts that are put one behind another.
-use Rattle.std.proofs.Common.{◌≡◌, ◌∙◌, ap, sym, refl, ℕ, List, [], ◌∷◌, ◌++◌, append_assoc, append-nil}
+use Rattle.std.proofs.Common.{◌≡◌, ◌≤◌, ◌∙◌, ap, sym, refl, ℕ, List, [], ◌∷◌, ◌++◌, append_assoc, append-nil}
 use Rattle.std.specs.Prelude.{Option, Some, None, Ok, Err, Result, IfOk, codes}
 use Rattle.std.specs.Global.{Vec}
 use Rattle.acpi_explain.specs.Explaining.{line_of, term_lines, name_line, steps_line, AreTerms, ArePlaces, IsSteps}
@@ -36,6 +36,6 @@ without_name text h = (h.0, None, h.1 ∙ sym (append-nil (term_lines h.0)))
 pub with_name : (text next rest : List ℕ) → AreTerms text → next ≡ text ++ line_of (codes "name ") rest → ArePlaces next
 with_name text next rest h put = (h.0, Some rest, put ∙ ap (λ t. t ++ line_of (codes "name ") rest) h.1)
 
-pub steps_taken : {E : Type 0} (r : Result (Vec ℕ) E) (taken steps : ℕ) → IfOk r (λ text. text.items ≡ steps_line (Some taken) steps) → IfOk r (λ text. IsSteps steps text.items)
-steps_taken (Ok text) taken steps is = (Some taken, is)
-steps_taken (Err e) taken steps is = tt
+pub steps_taken : {E : Type 0} (r : Result (Vec ℕ) E) (taken steps : ℕ) → taken ≤ steps → IfOk r (λ text. text.items ≡ steps_line (Some taken) steps) → IfOk r (λ text. IsSteps steps text.items)
+steps_taken (Ok text) taken steps le is = (Some taken, le, is)
+steps_taken (Err e) taken steps le is = tt

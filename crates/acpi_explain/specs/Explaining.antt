@@ -1,5 +1,5 @@
 -- The lines of `why` where a run is refused.
-use Rattle.std.specs.Prelude.{◌≡◌, ℕ, zero, suc, List, [], ◌∷◌, ◌++◌, Option, Some, None, codes, decimal}
+use Rattle.std.specs.Prelude.{◌≡◌, ◌≤◌, ⊤, ℕ, zero, suc, List, [], ◌∷◌, ◌++◌, Option, Some, None, codes, decimal}
 use Rattle.ar_space.specs.Accesses.{byte_count}
 use Rattle.ar_space.specs.declared.refusal.Refusal.{Refusal}
 use Rattle.ar_space.specs.declared.space.Place.{Place}
@@ -82,8 +82,13 @@ abbrev pub steps_line : Option ℕ → ℕ → List ℕ
 steps_line None steps = []
 steps_line (Some taken) steps = codes "steps " ++ (decimal taken ++ (codes " of " ++ (decimal steps ++ codes "\n")))
 
+-- no more than there were
+abbrev pub AreWithin : ℕ → Option ℕ → Type 0
+AreWithin steps None = ⊤
+AreWithin steps (Some taken) = taken ≤ steps
+
 abbrev pub IsSteps : ℕ → List ℕ → Type 0
-IsSteps steps text = (taken : Option ℕ) × (text ≡ steps_line taken steps)
+IsSteps steps text = (taken : Option ℕ) × AreWithin steps taken × (text ≡ steps_line taken steps)
 
 -- ---- a refusal
 

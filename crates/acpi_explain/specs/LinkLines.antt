@@ -44,8 +44,8 @@ is_given n other = false
 
 -- what to do where it reads back something else
 abbrev pub other_help : Option (List ℕ) → List ℕ
-other_help None = codes "none: without _CRS it isn't known to what the link is set"
-other_help (Some now) = codes "compare what _SRS writes with what _CRS reads; registers behind an index register share one byte here"
+other_help None = codes "a link without _CRS doesn't say to what it is set"
+other_help (Some now) = codes "a link without _SRS, or one that refused its setting, keeps its interrupt; else compare what _SRS writes with what _CRS reads; registers behind an index register share one byte here"
 
 -- what a link was given, and what it reads back
 abbrev pub other_line : ℕ → List Seg → Option (List ℕ) → List ℕ

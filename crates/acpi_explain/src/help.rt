@@ -84,12 +84,12 @@ const ROWS: [Help; 58] = [
     Help {
         number: 33,
         name: "TooDeep",
-        help: "none: terms nest more than 64 levels deep",
+        help: "no remedy: terms nest more than 64 levels deep",
     },
     Help {
         number: 34,
         name: "NotInBody",
-        help: "none: a control method that declares what only a table may",
+        help: "no remedy: a control method that declares what only a table may",
     },
     Help {
         number: 40,
@@ -124,7 +124,7 @@ const ROWS: [Help; 58] = [
     Help {
         number: 61,
         name: "NotFound",
-        help: "look for the path in names; if it is there, the AML uses a name that no table declares",
+        help: "no table declares the name: look for its last segment in names; an SSDT may be missing, or out of order",
     },
     Help {
         number: 70,
@@ -134,7 +134,7 @@ const ROWS: [Help; 58] = [
     Help {
         number: 71,
         name: "CallDepth",
-        help: "none: control methods call one another more than 32 deep",
+        help: "no remedy: control methods call one another more than 32 deep",
     },
     Help {
         number: 72,
@@ -149,7 +149,7 @@ const ROWS: [Help; 58] = [
     Help {
         number: 74,
         name: "SpaceKind",
-        help: "none: a field of an embedded controller, SMBus, CMOS or GPIO",
+        help: "no remedy: a field of an embedded controller, SMBus, CMOS or GPIO",
     },
     Help {
         number: 75,
@@ -169,7 +169,7 @@ const ROWS: [Help; 58] = [
     Help {
         number: 78,
         name: "DeepPci",
-        help: "--profile wide, with the bytes 0E and 19 of each bridge",
+        help: "--profile wide, with the bytes 0E and 19 of each bridge, where a device with _ADR is around the region; else no remedy",
     },
     Help {
         number: 79,
@@ -184,7 +184,7 @@ const ROWS: [Help; 58] = [
     Help {
         number: 81,
         name: "ObjectLimit",
-        help: "none: an object is too large, or there are too many",
+        help: "no remedy: an object is too large, or there are too many",
     },
     Help {
         number: 90,
@@ -199,7 +199,7 @@ const ROWS: [Help; 58] = [
     Help {
         number: 100,
         name: "Edge",
-        help: "none: the link offers an edge-triggered interrupt",
+        help: "no remedy: the link offers an edge-triggered interrupt",
     },
     Help {
         number: 101,
@@ -209,12 +209,12 @@ const ROWS: [Help; 58] = [
     Help {
         number: 102,
         name: "Dependent",
-        help: "none: the link's _PRS has dependent functions",
+        help: "no remedy: the link's _PRS has dependent functions",
     },
     Help {
         number: 103,
         name: "Several",
-        help: "none: the link's _PRS has a second interrupt descriptor",
+        help: "no remedy: the link's _PRS has a second interrupt descriptor",
     },
     Help {
         number: 104,
@@ -234,7 +234,7 @@ const ROWS: [Help; 58] = [
     Help {
         number: 107,
         name: "Source",
-        help: "none: the link's interrupt is one of another controller",
+        help: "no remedy: the link's interrupt is one of another controller",
     },
     Help {
         number: 110,
@@ -254,12 +254,12 @@ const ROWS: [Help; 58] = [
     Help {
         number: 113,
         name: "NotALink",
-        help: "look at the link with names: if its _HID is a control method, --profile wide calls it; else a table is missing",
+        help: "look at each link that the _PRT names, with names: if the _HID of one is a control method, --profile wide calls it; else a table is missing",
     },
     Help {
         number: 114,
         name: "SourceIndex",
-        help: "none: an entry has a source index at a link device",
+        help: "no remedy: an entry has a source index at a link device",
     },
     Help {
         number: 120,
@@ -269,12 +269,12 @@ const ROWS: [Help; 58] = [
     Help {
         number: 121,
         name: "NoOffer",
-        help: "none: the link has no _PRS",
+        help: "no remedy: the link has no _PRS",
     },
     Help {
         number: 122,
         name: "TooMany",
-        help: "none: more than 256 links or 4096 pins",
+        help: "no remedy: more than 256 links or 4096 pins",
     },
     Help {
         number: 123,
@@ -330,11 +330,11 @@ fn wide_help(number: u8) -> Option<&'static str> {
     match number {
         60 => Some("look at the control method: it declares a name that stands already"),
         61 => Some(
-            "look for the path in names; route tells in lines passed which items were passed over: one may have declared the name",
+            "no table declares the name: look for its last segment in names, and in the lines passed of route for an item that would have declared it",
         ),
-        73 => Some("none: docs/OPCODES.md lists the terms that aren't evaluated"),
+        73 => Some("no remedy: docs/OPCODES.md lists the terms that aren't evaluated"),
         78 => Some(
-            "give the bytes 0E and 19 of each bridge; none where a device without _ADR, or one that is no bridge, is in between",
+            "give the bytes 0E and 19 of each bridge; no remedy where no device with _ADR is around the region, or one that is no bridge is in between",
         ),
         113 => Some("look at the link with names: its _HID isn't PNP0C0F, or a table is missing"),
         _ => None,

@@ -127,9 +127,9 @@ fn other_help(now: &Option<InterruptNumbers>) -> &'static str
     ensures { result.now ≡ other_help now.now }
 {
     match now {
-        None => "none: without _CRS it isn't known to what the link is set",
+        None => "a link without _CRS doesn't say to what it is set",
         Some(_) => {
-            "compare what _SRS writes with what _CRS reads; registers behind an index register share one byte here"
+            "a link without _SRS, or one that refused its setting, keeps its interrupt; else compare what _SRS writes with what _CRS reads; registers behind an index register share one byte here"
         }
     }
 }

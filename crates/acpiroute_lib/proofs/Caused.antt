@@ -64,7 +64,7 @@ module _ (words : List (List ℕ)) (left : Option (List ℕ)) (read_failed : Boo
       → Takes errors errors2 r.line → r.status ≡ 1 → TellsCause words left read_failed false errors errors2
   of_request input is_input q asked (Ok w) comes r same line is = absurd (not_one w.completion (subst (λ x. x.status ≡ 1) same is))
   of_request input is_input q asked (Err e) comes r same line is =
-      record { input = input; is_input = is_input; refusal = e; is_cause = refused words input q read_failed e asked comes; passed = told_passed q read_failed input; is_passed = inr (q, asked, refl); line = subst (λ x. Takes errors errors2 x.line) same line }
+      record { input = input; is_input = is_input; refusal = e; is_cause = refused words input q read_failed e asked comes; passed = told_passed q read_failed input; is_passed = (q, asked, refl); line = subst (λ x. Takes errors errors2 x.line) same line }
 
   of_reply : (input : List ℕ) → IsInput left input → (r : Reply) → IsReply words read_failed input r → Takes errors errors2 r.line → r.status ≡ 1 → TellsCause words left read_failed false errors errors2
   of_reply input is_input r (inl c) line is = absurd (shown_otherwise c.fault r c.shown is)
@@ -73,7 +73,7 @@ module _ (words : List (List ℕ)) (left : Option (List ℕ)) (read_failed : Boo
 
   told : Ran words left read_failed status output output2 errors errors2 → status ≡ 1 → (failed : Bool) → output2.has_failed ≡ failed → TellsCause words left read_failed failed errors errors2
   told r is true same =
-      record { input = r.input; is_input = r.is_input; refusal = refusal.Input fault.WriteFault; is_cause = refl; passed = []; is_passed = inl refl; line = subst (λ b. Takes errors errors2 (if b then error_line (refusal.Input fault.WriteFault) else r.reply.line)) same r.delivered.line }
+      record { input = r.input; is_input = r.is_input; refusal = refusal.Input fault.WriteFault; is_cause = refl; passed = []; is_passed = refl; line = subst (λ b. Takes errors errors2 (if b then error_line (refusal.Input fault.WriteFault) else r.reply.line)) same r.delivered.line }
   told r is false same =
       of_reply r.input r.is_input r.reply r.is_reply (subst (λ b. Takes errors errors2 (if b then error_line (refusal.Input fault.WriteFault) else r.reply.line)) same r.delivered.line)
       (sym (subst (λ b. status ≡ (if b then 1 else r.reply.status)) same r.delivered.status_is) ∙ is)

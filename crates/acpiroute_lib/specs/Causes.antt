@@ -24,9 +24,10 @@ IsCause words read_failed true input r = r ≡ Input WriteFault
 IsCause words true false input r = r ≡ Input ReadFault
 IsCause words false false input r = (r ≡ OutOfMemory) ⊎ IsOwnRefusal words input r
 
--- the lines before that of a refusal: none, or those of what the command of the words passes over
-abbrev pub IsPassed : List (List ℕ) → Bool → List ℕ → List ℕ → Type 0
-IsPassed words read_failed input passed = (passed ≡ []) ⊎ ((q : Request) × (asked_of words ≡ Some (For q)) × (passed ≡ told_passed q read_failed input))
+-- the lines before that of a refusal: none where a write failed, else those of what the command of the words passes over
+abbrev pub IsPassed : List (List ℕ) → Bool → Bool → List ℕ → List ℕ → Type 0
+IsPassed words read_failed true input passed = passed ≡ []
+IsPassed words read_failed false input passed = (q : Request) × (asked_of words ≡ Some (For q)) × (passed ≡ told_passed q read_failed input)
 
 -- a run tells a refusal for such a cause, by its line on the errors, the last there
 pub record TellsCause (words : List (List ℕ)) (left : Option (List ℕ)) (read_failed write_failed : Bool) (errors errors2 : Held) : Type 0 where
@@ -35,5 +36,5 @@ pub record TellsCause (words : List (List ℕ)) (left : Option (List ℕ)) (read
   pub refusal : Refusal
   pub is_cause : IsCause words read_failed write_failed input refusal
   pub passed : List ℕ
-  pub is_passed : IsPassed words read_failed input passed
+  pub is_passed : IsPassed words read_failed write_failed input passed
   pub line : Takes errors errors2 (refusal_told passed refusal)

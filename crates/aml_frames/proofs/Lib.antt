@@ -12,6 +12,7 @@ pub mod Beginning
 pub mod Entering
 pub mod ShortNames
 mod ShortOperations
+mod ShortOperators
 pub mod ShortTerms
 pub mod BitBytes
 pub mod Elements

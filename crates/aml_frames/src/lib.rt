@@ -39,6 +39,7 @@ mod resuming;
 mod searching;
 mod short_names;
 mod short_operations;
+mod short_operators;
 mod short_terms;
 mod stack;
 mod statements;

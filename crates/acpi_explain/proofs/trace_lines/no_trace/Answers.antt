@@ -5,4 +5,4 @@ pub returns-clause-places : goal.returns-clause-places
 returns-clause-places c = ([], None, c.new.ensures.items)
 
 pub returns-clause-steps : goal.returns-clause-steps
-returns-clause-steps c = λ n. (None, c.new-2.ensures.items)
+returns-clause-steps c = λ n. (None, tt, c.new-2.ensures.items)
