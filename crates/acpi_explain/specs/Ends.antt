@@ -35,4 +35,5 @@ module _ {S : Type 0} (accesses : Accesses S) (mode : Mode) where
   abbrev pub IsEvalEnd : List Seg → List Given → MachineState S → MachineState S → End → Type 0
   IsEvalEnd path arguments before after (Initializing e) = IsStopped before after e
   IsEvalEnd path arguments before after (Running e) = e ≢ OutOfMemory → (ready : MachineState S) × (IsReady before ready × (evaluated_object accesses path arguments ready ≡ (Err e, after)))
-  IsEvalEnd path arguments before after (Done report) = (ready : MachineState S) × (IsReady before ready × ((value : Given) × (evaluated_object accesses path arguments ready ≡ (Ok value, after))))
+  IsEvalEnd path arguments before after (Done (Some report)) = ⊥
+  IsEvalEnd path arguments before after (Done None) = (ready : MachineState S) × (IsReady before ready × ((value : Given) × (evaluated_object accesses path arguments ready ≡ (Ok value, after))))

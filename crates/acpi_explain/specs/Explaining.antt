@@ -1,5 +1,5 @@
 -- The lines of `why` where a run is refused.
-use Rattle.std.specs.Prelude.{◌≡◌, ◌≤◌, ⊤, ℕ, zero, suc, List, [], ◌∷◌, ◌++◌, Option, Some, None, codes, decimal}
+use Rattle.std.specs.Prelude.{◌≡◌, ◌≢◌, ◌≤◌, ⊤, ℕ, zero, suc, List, [], ◌∷◌, ◌++◌, Option, Some, None, codes, decimal}
 use Rattle.ar_space.specs.Accesses.{byte_count}
 use Rattle.ar_space.specs.declared.refusal.Refusal.{Refusal}
 use Rattle.ar_space.specs.declared.space.Place.{Place}
@@ -60,6 +60,15 @@ access_line (Some a) = codes "access " ++ (direction_word a.direction ++ (place_
 abbrev pub line_of : List ℕ → List ℕ → List ℕ
 line_of word rest = word ++ (rest ++ codes "\n")
 
+-- no line feed stands in it
+abbrev pub IsInLine : List ℕ → Type 0
+IsInLine [] = ⊤
+IsInLine (b ∷ bs) = (b ≢ 10) × IsInLine bs
+
+abbrev pub AreInLine : List (List ℕ) → Type 0
+AreInLine [] = ⊤
+AreInLine (rest ∷ more) = IsInLine rest × AreInLine more
+
 abbrev pub term_lines : List (List ℕ) → List ℕ
 term_lines [] = []
 term_lines (rest ∷ more) = line_of (codes "in ") rest ++ term_lines more
@@ -70,12 +79,16 @@ name_line (Some rest) = line_of (codes "name ") rest
 
 -- lines of terms, each of which begins with `in`
 abbrev pub AreTerms : List ℕ → Type 0
-AreTerms text = (terms : List (List ℕ)) × (text ≡ term_lines terms)
+AreTerms text = (terms : List (List ℕ)) × AreInLine terms × (text ≡ term_lines terms)
+
+abbrev pub IsNameInLine : Option (List ℕ) → Type 0
+IsNameInLine None = ⊤
+IsNameInLine (Some rest) = IsInLine rest
 
 -- Such lines, and behind them at most one that begins with `name`. What else they say is that of the evaluator's own frames, and no
 -- definition has it.
 abbrev pub ArePlaces : List ℕ → Type 0
-ArePlaces text = (terms : List (List ℕ)) × (name : Option (List ℕ)) × (text ≡ term_lines terms ++ name_line name)
+ArePlaces text = (terms : List (List ℕ)) × (name : Option (List ℕ)) × AreInLine terms × IsNameInLine name × (text ≡ term_lines terms ++ name_line name)
 
 -- how many steps were taken, of those that there were
 abbrev pub steps_line : Option ℕ → ℕ → List ℕ
@@ -105,14 +118,16 @@ refused_text e name stage places access steps help =
     refusal_line e name ++ (stage_line stage ++ (places ++ (access_line access ++ (steps ++ help_line help))))
 
 -- What explains the refusal of a run: its text has the lines of the refusal, of this stage and this access, where so many steps might be
--- taken. The name of the refusal and the help stand in a table, and no definition has them.
+-- taken. The name of the refusal and the help, a line each, stand in a table, and no definition has them.
 pub record IsExplanation (e : Refusal) (stage : Option Stage) (access : Option Accessed) (steps : ℕ) (x : Explanation) : Type 0 where
   pub name : List ℕ
+  pub is_name : IsInLine name
   pub places : List ℕ
   pub are_places : ArePlaces places
   pub taken : List ℕ
   pub is_taken : IsSteps steps taken
   pub help : List ℕ
+  pub is_help : IsInLine help
   pub is_refusal : x.refusal ≡ e
   pub is_stage : x.stage ≡ stage
   pub is_access : x.access ≡ access

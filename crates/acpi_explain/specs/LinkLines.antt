@@ -63,7 +63,8 @@ AreTold IsTold [] before after text = (before ≡ after) × (text ≡ [])
 AreTold {S = S} IsTold (x ∷ xs) before after text =
     (there : S) × (own : List ℕ) × (rest : List ℕ) × IsTold x before there own × AreTold IsTold xs there after rest × (text ≡ own ++ rest)
 
--- accesses: what the register space makes of them, below the one that keeps the last access; steps: how many an evaluation may take
+-- accesses: what the register space makes of them, below the one that keeps the last access; steps: how many an
+-- evaluation may take, as the caller says
 module _ {S : Type 0} (accesses : Accesses S) (steps : ℕ) where
   -- the text of what explains a refusal, which left the machine so
   pub record IsExplainedBy (stage : Stage) (e : Refusal) (after : MachineState (Watch S)) (text : List ℕ) : Type 0 where
@@ -94,9 +95,8 @@ module _ {S : Type 0} (accesses : Accesses S) (steps : ℕ) where
   IsLinkRead x before after text = (came : Outcome (Option (List ℕ))) × (current_resources (watched accesses) x.0.0 before ≡ (came, after)) × IsReadTold x.1 x.0.0 came after text
 
   -- all links are set before the first is read
-  pub record AreLinksTold (list : List (PresentLink × ℕ)) (before : MachineState (Watch S)) (text : List ℕ) : Type 0 where
+  pub record AreLinksTold (list : List (PresentLink × ℕ)) (before after : MachineState (Watch S)) (text : List ℕ) : Type 0 where
     pub set : MachineState (Watch S)
-    pub after : MachineState (Watch S)
     pub sets : List ℕ
     pub reads : List ℕ
     pub are_set : AreTold IsLinkSet list before set sets
@@ -104,14 +104,14 @@ module _ {S : Type 0} (accesses : Accesses S) (steps : ℕ) where
     pub is : text ≡ sets ++ reads
 
   -- unless no link is to be set
-  abbrev pub AreLinksToldUnless : Bool → List (PresentLink × ℕ) → MachineState (Watch S) → List ℕ → Type 0
-  AreLinksToldUnless true list before text = text ≡ []
-  AreLinksToldUnless false list before text = AreLinksTold list before text
+  abbrev pub AreLinksToldUnless : Bool → List (PresentLink × ℕ) → MachineState (Watch S) → MachineState (Watch S) → List ℕ → Type 0
+  AreLinksToldUnless true list before after text = (before ≡ after) × (text ≡ [])
+  AreLinksToldUnless false list before after text = AreLinksTold list before after text
 
-  -- the links that a run with these options finds, each with the interrupt that it is given
-  pub record AreLinksExplained (o : RunOptions) (before : MachineState (Watch S)) (text : List ℕ) : Type 0 where
+  -- the links that a run with these options finds, each with the interrupt that it is given; it leaves the machine so
+  pub record AreLinksExplained (o : RunOptions) (before after : MachineState (Watch S)) (text : List ℕ) : Type 0 where
     pub gathering : Gathering
     pub answer : RoutingAnswer
     pub chosen_in : MachineState (Watch S)
     pub choice : IsChoice (watched accesses) o before chosen_in gathering answer
-    pub are_told : AreLinksToldUnless o.dry (zip gathering.links answer.choice) chosen_in text
+    pub are_told : AreLinksToldUnless o.dry (zip gathering.links answer.choice) chosen_in after text

@@ -2,12 +2,12 @@
 ghost use Rattle.std.specs.Prelude.{◌≡◌, ◌++◌, IfOk, OnOk, codes};
 ghost use Rattle.aml_path.specs.Text.{text_of};
 ghost use Rattle.acpi_explain.specs.Explaining.{table_words, stage_words, stage_line, direction_word, access_line};
-ghost use Rattle.acpi_explain.specs.Explaining.{refusal_line, help_line, refused_text};
+ghost use Rattle.acpi_explain.specs.Explaining.{refusal_line, help_line, IsInLine, refused_text};
 
 use crate::help::Help;
 use crate::places::put_place;
 use crate::stage::Stage;
-use crate::trace_lines::TraceText;
+use crate::trace_lines::{TraceText, in_line};
 use acpiroute_words::{put_number, put_path, refusal_words};
 use aml_path::Path;
 use ar_space::Refusal;
@@ -107,41 +107,58 @@ fn put_access(text: &mut Vec<u8>, access: Option<Accessed>) -> Result<(), AllocE
 }
 
 /// The refusal as its error line has it, and its name.
-fn refusal_line(alloc: Global, refusal: &Refusal, name: &str) -> Result<Vec<u8>, AllocError>
+fn refusal_line(alloc: Global, refusal: &Refusal, name: &[u8]) -> Result<Vec<u8>, AllocError>
     ensures { IfOk result (λ text. text.items ≡ refusal_line refusal.now name.now) }
 {
     let mut text = refusal_words(alloc, refusal)?;
     text.extend_from_slice(b" ")?;
-    text.extend_from_slice(name.as_bytes())?;
+    text.extend_from_slice(name)?;
     text.extend_from_slice(b"\n")?;
     Ok(text)
 }
 
-pub(crate) fn put_help(text: &mut Vec<u8>, help: &str) -> Result<(), AllocError>
+pub(crate) fn put_help(text: &mut Vec<u8>, help: &[u8]) -> Result<(), AllocError>
     ensures { OnOk result (text.new.items ≡ text.old.items ++ help_line help.now) }
 {
     text.extend_from_slice(b"help ")?;
-    text.extend_from_slice(help.as_bytes())?;
+    text.extend_from_slice(help)?;
     text.extend_from_slice(b"\n")
+}
+
+/// The name of a refusal, and what to do, a line each.
+#[derive(Drop)]
+pub(crate) struct HelpLines {
+    pub(crate) name: Vec<u8>,
+    pub(crate) help: Vec<u8>,
+}
+
+/// What is said of a refusal, a line each.
+pub(crate) fn help_lines(alloc: Global, help: &Help) -> Result<HelpLines, AllocError>
+    ensures name { IfOk result (λ lines. IsInLine lines.name.items) }
+    ensures help { IfOk result (λ lines. IsInLine lines.help.items) }
+{
+    let name = in_line(alloc, help.name.as_bytes())?;
+    let help = in_line(alloc, help.help.as_bytes())?;
+    Ok(HelpLines { name, help })
 }
 
 /// The lines of a refusal, in their order.
 pub(crate) fn refused_text(
     alloc: Global,
     refusal: &Refusal,
-    help: &Help,
+    help: &HelpLines,
     stage: &Option<Stage>,
     traced: &TraceText,
     access: Option<Accessed>,
 ) -> Result<Vec<u8>, AllocError>
-    ensures { IfOk result (λ text. text.items ≡ refused_text refusal.now help.now.name.now stage.now
-        traced.now.places.items access traced.now.steps.items help.now.help.now) }
+    ensures { IfOk result (λ text. text.items ≡ refused_text refusal.now help.now.name.items stage.now
+        traced.now.places.items access traced.now.steps.items help.now.help.items) }
 {
-    let mut text = refusal_line(alloc, refusal, help.name)?;
+    let mut text = refusal_line(alloc, refusal, &help.name)?;
     put_stage_line(alloc, &mut text, stage)?;
     text.extend_from_slice(&traced.places)?;
     put_access(&mut text, access)?;
     text.extend_from_slice(&traced.steps)?;
-    put_help(&mut text, help.help)?;
+    put_help(&mut text, &help.help)?;
     Ok(text)
 }

@@ -3,7 +3,7 @@ ghost use Rattle.std.specs.Prelude.{IfOk, Some};
 ghost use Rattle.acpi_explain.specs.Explaining.{IsExplanation};
 ghost use Rattle.acpi_explain.specs.Told.{shown_access};
 
-use crate::explaining::refused_text;
+use crate::explaining::{help_lines, refused_text};
 use crate::help::help_for;
 use crate::stage::Stage;
 use crate::told::shown_access;
@@ -52,7 +52,7 @@ impl Explanation {
         ensures { IfOk result (IsExplanation refusal stage (shown_access refusal last) evaluation.steps) }
     {
         let access = shown_access(&refusal, last);
-        let help = help_for(refusal.number(), evaluation.profile);
+        let help = help_lines(alloc, &help_for(refusal.number(), evaluation.profile))?;
         let traced = trace_text(alloc, trace, &stage, evaluation.steps)?;
         let text = refused_text(alloc, &refusal, &help, &stage, &traced, access)?;
         Ok(Explanation {

@@ -148,7 +148,7 @@ fn put_other(
     text.extend_from_slice(b" and reads back")?;
     put_now(text, now)?;
     text.extend_from_slice(b"\n")?;
-    put_help(text, other_help(now))?;
+    put_help(text, other_help(now).as_bytes())?;
     Ok(())
 }
 

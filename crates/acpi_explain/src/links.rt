@@ -228,7 +228,7 @@ fn link_texts<S: Space>(
     requires each { length choice.now ≡ length links.now }
     requires offered { AllZip Contains (map (λ link. link.1.numbers) links.now) choice.now }
     ensures { IfOk result (λ text. AreLinksTold S.accesses evaluation.steps (zip links.now choice.now) machine.old
-        text.items) }
+        machine.new text.items) }
 {
     let mut text = set_links(alloc, machine, links, choice, evaluation)?;
     let reads = read_links(alloc, machine, links, choice, evaluation)?;
@@ -248,7 +248,7 @@ fn choice_texts<S: Space>(
     requires offered { AllZip Contains (map (λ link. link.1.numbers) choice.now.gathered.links)
         choice.now.answer.choice }
     ensures { IfOk result (λ text. AreLinksToldUnless S.accesses evaluation.steps dry
-        (zip choice.now.gathered.links choice.now.answer.choice) machine.old text.items) }
+        (zip choice.now.gathered.links choice.now.answer.choice) machine.old machine.new text.items) }
 {
     match dry {
         true => Ok(Vec::new(alloc)),
@@ -265,7 +265,7 @@ fn choice_texts<S: Space>(
 /// Makes the run of `acpi_configure::configure_with` step by step, and gives the lines of `why` for it: a line for each
 /// link that refused its setting, whose `_CRS` was refused then, or that reads back something else than it was given.
 /// Below that line stands what explains it, as `Explanation` has it. A link that is set as it was to be has no line; in
-/// a dry run none has.
+/// a dry run none has. `evaluation` is what the machine was loaded with: its steps and its profile stand in the lines.
 ///
 /// ```
 /// let mut machine = load_tables(alloc, tables, LastAccess::new(space), evaluation.steps, osi)?;
@@ -279,7 +279,7 @@ pub fn explain_links<S: Space>(
     evaluation: Evaluation,
 ) -> Result<Vec<u8>, Refusal>
     ensures lines { IfOk result (λ text. AreLinksExplained S.accesses evaluation.steps options.now machine.old
-        text.items) }
+        machine.new text.items) }
     ensures refusal { IfErr result (λ refusal. refusal ≢ OutOfMemory →
         found_by (watched S.accesses) options.now (sci_of machine.old) machine.old ≡ (Err refusal, machine.new)) }
 {

@@ -1,7 +1,7 @@
 //! The lines that tell where evaluation was refused: the terms that were being evaluated, the name that was looked for,
 //! and the steps. What the terms and the name are no contract says: rows test it.
 ghost use Rattle.std.specs.Prelude.{◌≡◌, ◌++◌, ℕ, Some, IfOk, OnOk};
-ghost use Rattle.acpi_explain.specs.Explaining.{line_of, AreTerms, ArePlaces, steps_line, IsSteps};
+ghost use Rattle.acpi_explain.specs.Explaining.{line_of, IsInLine, AreTerms, ArePlaces, steps_line, IsSteps};
 
 use crate::explaining::put_table;
 use crate::stage::Stage;
@@ -72,6 +72,19 @@ fn name_words(alloc: Global, name: &TraceName) -> Result<Vec<u8>, AllocError> {
     Ok(text)
 }
 
+/// The bytes but line feeds: what is to stand in one line.
+pub(crate) fn in_line(alloc: Global, bytes: &[u8]) -> Result<Vec<u8>, AllocError>
+    ensures { IfOk result (λ text. IsInLine text.items) }
+{
+    let mut text = Vec::new(alloc);
+    for byte in bytes {
+        if *byte != b'\n' {
+            text.push(*byte)?;
+        }
+    }
+    Ok(text)
+}
+
 /// A line that begins with a word.
 fn put_line(text: &mut Vec<u8>, word: &[u8], rest: &[u8]) -> Result<(), AllocError>
     ensures { OnOk result (text.new.items ≡ text.old.items ++ line_of word.now rest.now) }
@@ -87,7 +100,8 @@ fn term_lines(alloc: Global, trace: &Trace, table: Option<usize>) -> Result<Vec<
 {
     let mut text = Vec::new(alloc);
     for place in trace.places() {
-        let words = term_words(alloc, place, table)?;
+        let own = term_words(alloc, place, table)?;
+        let words = in_line(alloc, &own)?;
         put_line(&mut text, b"in ", &words)?;
     }
     Ok(text)
@@ -101,7 +115,8 @@ fn place_lines(alloc: Global, trace: &Trace, table: Option<usize>) -> Result<Vec
     match trace.name() {
         None => Ok(text),
         Some(name) => {
-            let words = name_words(alloc, name)?;
+            let own = name_words(alloc, name)?;
+            let words = in_line(alloc, &own)?;
             put_line(&mut text, b"name ", &words)?;
             Ok(text)
         }

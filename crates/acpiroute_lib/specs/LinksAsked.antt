@@ -20,7 +20,7 @@ module _ {S : Type 0} (accesses : Accesses S) where
   -- those of an initialized machine, where what the run has to find isn't refused
   abbrev pub AreLinksOf : RunOptions → ℕ → MachineState (Watch S) → List ℕ → Type 0
   AreLinksOf o steps ready lines =
-      (found : Findings) (after : MachineState (Watch S)) → found_by (watched accesses) o (sci_of ready) ready ≡ (Ok found, after) → AreLinksExplained accesses steps o ready lines
+      (found : Findings) (after : MachineState (Watch S)) → found_by (watched accesses) o (sci_of ready) ready ≡ (Ok found, after) → (left : MachineState (Watch S)) × AreLinksExplained accesses steps o ready left lines
 
   -- `eval` sets no link
   abbrev pub AreLinksAsked : Question → ℕ → MachineState (Watch S) → List ℕ → Type 0

@@ -53,10 +53,10 @@ module _ {S : Type 0} (w : State S) (scope : List Seg) (n : Name) where
   unfolding field_found entry_found settle ◌>>=◌ go_on
   field_by number o f = rw (f.finds, f.numbered, f.is) refl
 
-  region_there : (number : ℕ) (r : OperationRegion) → Finds w scope n number (object.OperationRegion r) → region_found scope n w ≡ (Ok number, w)
+  pub region_there : (number : ℕ) (r : OperationRegion) → Finds w scope n number (object.OperationRegion r) → region_found scope n w ≡ (Ok number, w)
   region_there number r f = region_by number (object.OperationRegion r) f
 
-  source_by : (number : ℕ) (source : FieldSource) → FindsField w scope n number source → field_found scope n w ≡ (in_region number source, w)
+  pub source_by : (number : ℕ) (source : FieldSource) → FindsField w scope n number source → field_found scope n w ≡ (in_region number source, w)
   source_by number source (u, f, same) = field_by number (object.FieldUnit u) f ∙ ap (λ x. (in_region number x, w)) same
 
 -- an object that is no operation region, and one that is no field unit

@@ -16,7 +16,7 @@ use Rattle.aml_meaning.specs.PciFunctions.{adr, segment_group, base_bus, pci_fun
 use Rattle.aml_meaning.specs.Regions.{pci_space}
 use Rattle.aml_meaning.specs.Bridges.{header_of, bridge_header, bridges_to, bridges_above, secondary_bus}
 use Rattle.aml_meaning.specs.Fields.{inherited, bus_behind, bus_behind_all, pci_address}
-use Rattle.aml_laws.specs.BusesFound.{BusesFound, there, behind, TellAddresses, no_more, one_more, TellsPart, of_none, of_some}
+use Rattle.aml_laws.specs.BusesFound.{BusesFound, there, behind, TellsNumber, TellAddresses, no_more, one_more, TellsPart, of_none, of_some}
 
 below : (n k : ℕ) → n < k → nat_lt n k ≡ true
 below n k less = grind (arith, nat_tests)
@@ -46,28 +46,33 @@ module _ {S : Type 0} (accesses : Accesses S) (seg : ℕ) (small : seg < 65536) 
   told bus dev func kind number s t u b d f first is second = rw (function_space seg bus dev func small b d f, header_place seg bus dev func, first, bridge_kind kind is, number_place seg bus dev func, second) refl
 
   module _ (call : List Seg → Run S ℕ) where
-    one_behind : (w : State S) (steps : ℕ) (p : List Seg) (bus dev func number : ℕ) (u : S) → ((s : State S × ℕ) → call (p ++ adr ∷ []) s ≡ (Ok (dev * 65536 + func), s)) → secondary_bus accesses seg bus (dev * 65536 + func) w.space ≡ (Ok number, u)
-        → bus_behind accesses call seg bus p (w, steps) ≡ (Ok number, (record w { space = u }, steps))
+    -- of a world with other registers
+    one_behind : (w : State S) (steps : ℕ) (p : List Seg) (bus dev func number : ℕ) (s u : S) → TellsNumber call w steps (p ++ adr ∷ []) (dev * 65536 + func) → secondary_bus accesses seg bus (dev * 65536 + func) s ≡ (Ok number, u)
+        → bus_behind accesses call seg bus p (record w { space = s }, steps) ≡ (Ok number, (record w { space = u }, steps))
     unfolding bus_behind lift on_space go_on ◌>>=◌
-    one_behind w steps p bus dev func number u tells is = rw (tells (w, steps), is) refl
+    one_behind w steps p bus dev func number s u tells is = rw (tells s, is) refl
 
-    pub buses_found : (w : State S) (steps bus end : ℕ) (ps : List (List Seg)) (addresses : List (ℕ × ℕ)) (after : S) → TellAddresses call ps addresses → BusesFound accesses seg bus addresses w.space end after
-        → bus_behind_all accesses call seg bus ps (w, steps) ≡ (Ok end, (record w { space = after }, steps))
+    all_behind : (w : State S) (steps bus end : ℕ) (ps : List (List Seg)) (addresses : List (ℕ × ℕ)) (s after : S) → TellAddresses call w steps ps addresses → BusesFound accesses seg bus addresses s end after
+        → bus_behind_all accesses call seg bus ps (record w { space = s }, steps) ≡ (Ok end, (record w { space = after }, steps))
     unfolding bus_behind_all give go_on ◌>>=◌
-    buses_found w steps bus end ps addresses after no_more (there _ _) = refl
-    buses_found w steps bus end ps addresses after (one_more p qs dev func further tells all) (behind _ _ _ kind number _ _ s t u _ b d f first is second rest) =
-        rw (one_behind w steps p bus dev func number u tells (told bus dev func kind number w.space t u b d f first is second)) (buses_found (record w { space = u }) steps number end qs further after all rest)
+    all_behind w steps bus end ps addresses s after no_more (there _ _) = refl
+    all_behind w steps bus end ps addresses s after (one_more p qs dev func further tells all) (behind _ _ _ kind number _ _ _ t u _ b d f first is second rest) =
+        rw (one_behind w steps p bus dev func number s u tells (told bus dev func kind number s t u b d f first is second)) (all_behind w steps number end qs further u after all rest)
+
+    pub buses_found : (w : State S) (steps bus end : ℕ) (ps : List (List Seg)) (addresses : List (ℕ × ℕ)) (after : S) → TellAddresses call w steps ps addresses → BusesFound accesses seg bus addresses w.space end after
+        → bus_behind_all accesses call seg bus ps (w, steps) ≡ (Ok end, (record w { space = after }, steps))
+    buses_found w steps bus end ps addresses after all found = all_behind w steps bus end ps addresses w.space after all found
 
     -- ---- the whole address
 
-    part_told : (w : State S) (steps : ℕ) (name : Seg) (scope : List Seg) (n : ℕ) → TellsPart call w name scope n → inherited accesses call name scope (w, steps) ≡ (Ok n, (w, steps))
+    pub part_told : (w : State S) (steps : ℕ) (name : Seg) (scope : List Seg) (n : ℕ) → TellsPart call w steps name scope n → inherited accesses call name scope (w, steps) ≡ (Ok n, (w, steps))
     unfolding inherited lift give go_on ◌>>=◌
     part_told w steps name scope _ (of_none none) = rw none refl
-    part_told w steps name scope n (of_some at _ is tells) = rw is (tells (w, steps))
+    part_told w steps name scope n (of_some at _ is tells) = rw is (tells w.space)
 
-    pub address_told : (w : State S) (steps bus end dev func : ℕ) (scope p : List Seg) (addresses : List (ℕ × ℕ)) (after : S) → pci_function scope w ≡ (Ok p, w) → TellsPart call w segment_group p seg → TellsPart call w base_bus p bus
-        → TellAddresses call (bridges_to w.names.map p) addresses → BusesFound accesses seg bus addresses w.space end after → end < 256 → dev < 32 → func < 8 → ((s : State S × ℕ) → call (p ++ adr ∷ []) s ≡ (Ok (dev * 65536 + func), s))
+    pub address_told : (w : State S) (steps bus end dev func : ℕ) (scope p : List Seg) (addresses : List (ℕ × ℕ)) (after : S) → pci_function scope w ≡ (Ok p, w) → TellsPart call w steps segment_group p seg → TellsPart call w steps base_bus p bus
+        → TellAddresses call w steps (bridges_to w.names.map p) addresses → BusesFound accesses seg bus addresses w.space end after → end < 256 → dev < 32 → func < 8 → TellsNumber call w steps (p ++ adr ∷ []) (dev * 65536 + func)
         → pci_address accesses call scope (w, steps) ≡ (Ok (spaces.Pci seg end dev func), (record w { space = after }, steps))
     unfolding pci_address bridges_above lift settle go_on ◌>>=◌
     address_told w steps bus end dev func scope p addresses after belongs group first bridges found b d f tells =
-        rw (belongs, part_told w steps segment_group p seg group, part_told w steps base_bus p bus first, buses_found w steps bus end (bridges_to w.names.map p) addresses after bridges found, tells (record w { space = after }, steps), function_space seg end dev func small b d f) refl
+        rw (belongs, part_told w steps segment_group p seg group, part_told w steps base_bus p bus first, buses_found w steps bus end (bridges_to w.names.map p) addresses after bridges found, tells after, function_space seg end dev func small b d f) refl

@@ -196,7 +196,7 @@ module _ {S : Type 0} (accesses : Accesses S) where
 
   -- ---- whole evaluations
 
-  with_steps_explains : {A : Type 0} (steps : ℕ) (m : Run S A) → RunExplains accesses m → EvaluationExplains accesses (with_steps steps m)
+  pub with_steps_explains : {A : Type 0} (steps : ℕ) (m : Run S A) → RunExplains accesses m → EvaluationExplains accesses (with_steps steps m)
   unfolding with_steps
   with_steps_explains steps m h = record { explained = λ w. h.explained (w, steps); spent = λ w. spent_with_none (m (w, steps)).0 }
 
@@ -204,7 +204,7 @@ module _ {S : Type 0} (accesses : Accesses S) where
   unfolding framed
   framed_explains m h = record { explained = h.explained; spent = h.spent }
 
-  ending_explains : {A : Type 0} (m : Change (State S) A) → EvaluationExplains accesses m → EvaluationExplains accesses (ending m)
+  pub ending_explains : {A : Type 0} (m : Change (State S) A) → EvaluationExplains accesses m → EvaluationExplains accesses (ending m)
   unfolding ending
   ending_explains m h = record { explained = h.explained; spent = h.spent }
 

@@ -40,7 +40,7 @@ use Rattle.aml_laws.proofs.StoreTargetsTogether.{bytes_in_together, declaration_
 module _ {S T : Type 0} {accesses : Accesses S} {accesses2 : Accesses T} {side : Sides accesses accesses2} where
   -- ---- changes of the world
 
-  nearest_together : (x : Sought) (q : List Seg) → Together side worlds (nearest x q) (nearest x q)
+  pub nearest_together : (x : Sought) (q : List Seg) → Together side worlds (nearest x q) (nearest x q)
   unfolding nearest
   nearest_together x q = plain (λ w. refl) (λ w. refl) (λ w t. refl)
 
@@ -137,7 +137,7 @@ module _ {S T : Type 0} {accesses : Accesses S} {accesses2 : Accesses T} {side :
   part_in_together s None = give_together _
   part_in_together s (Some q) = each _
 
-  inherited_together : (s : Seg) (q : List Seg) → Together side runs (inherited accesses call s q) (inherited accesses2 call2 s q)
+  pub inherited_together : (s : Seg) (q : List Seg) → Together side runs (inherited accesses call s q) (inherited accesses2 call2 s q)
   unfolding inherited
   inherited_together s q = then_together (lift_together (nearest_together _ q)) (λ o. part_in_together s o)
 
@@ -145,7 +145,7 @@ module _ {S T : Type 0} {accesses : Accesses S} {accesses2 : Accesses T} {side :
   unfolding bus_behind
   bus_behind_together seg bus q = then_together (each _) (λ address. lift_together (space_together (secondary_bus_together seg bus address)))
 
-  bus_behind_all_together : (seg bus : ℕ) (qs : List (List Seg)) → Together side runs (bus_behind_all accesses call seg bus qs) (bus_behind_all accesses2 call2 seg bus qs)
+  pub bus_behind_all_together : (seg bus : ℕ) (qs : List (List Seg)) → Together side runs (bus_behind_all accesses call seg bus qs) (bus_behind_all accesses2 call2 seg bus qs)
   unfolding bus_behind_all
   bus_behind_all_together seg bus [] = give_together _
   bus_behind_all_together seg bus (q ∷ qs) = then_together (bus_behind_together seg bus q) (λ behind. bus_behind_all_together seg behind qs)

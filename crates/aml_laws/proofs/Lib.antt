@@ -29,6 +29,7 @@ pub mod CleanOutcomes
 pub mod CleanReading
 pub mod CleanValues
 pub mod CleanWorlds
+pub mod ComparedValues
 pub mod ConversionsAnswered
 pub mod CopiesAnswered
 pub mod CopiesApart
@@ -74,6 +75,7 @@ pub mod FieldsPreserve
 pub mod FieldsTogether
 pub mod FoundNamesStand
 pub mod FrameNumbers
+pub mod FramesOpened
 pub mod HandedBack
 pub mod HandedIn
 pub mod IndexRegisters
@@ -110,6 +112,7 @@ pub mod MeaningTogether
 pub mod MoreSteps
 pub mod MutexesCounted
 pub mod MutexesFree
+pub mod NamedIntegers
 pub mod NamesSearched
 pub mod NamesStay
 pub mod NestedData
@@ -135,6 +138,7 @@ pub mod ReferencesToNames
 pub mod ReferencesToSlots
 pub mod ReferencesToTargets
 pub mod RefusedDeclarations
+pub mod RegionsDeclared
 pub mod RegisterAccesses
 pub mod RuleByParts
 pub mod RulesPreserve
@@ -148,6 +152,7 @@ pub mod StepsOfParts
 pub mod StepsOfRules
 pub mod StepsOfTerms
 pub mod StoreTargetsPreserve
+pub mod StoredCopies
 pub mod StoreTargetsTogether
 pub mod Together
 pub mod TreesCost

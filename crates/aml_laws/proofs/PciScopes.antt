@@ -141,6 +141,10 @@ module _ {S : Type 0} (w : State S) where
   unfolding pci_function nearest settle go_on ◌>>=◌
   no_function scope none = rw (nearest_none names_of sought.Function scope (length scope) (λ j le. not_true _ (λ h. none j le (function_is names_of (take j scope) h)))) refl
 
+  -- no bridge among a path and those above it
+  pub bridge_lacks : (p : List Seg) → NoneSuch (IsBridgeAt names_of) p (length p) → nearest_from names_of sought.Bridge p (length p) ≡ None
+  bridge_lacks p none = nearest_none names_of sought.Bridge p (length p) (λ j le. not_true _ (λ h. none j le (bridge_is names_of (take j p) h)))
+
   module _ (scope : List Seg) (k : ℕ) (is : IsNearestSuch (IsFunctionAt names_of) scope k) where
     found_near : nearest_from names_of sought.Function scope (length scope) ≡ Some (take k scope)
     found_near = nearest_is names_of sought.Function scope k (length scope) (function_tested names_of (take k scope) is.such) is.within (λ j more le. not_true _ (λ h. is.none_nearer j more le (function_is names_of (take j scope) h)))

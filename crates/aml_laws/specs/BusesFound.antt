@@ -18,15 +18,18 @@ pub data BusesFound {S : Type 0} (accesses : Accesses S) (seg : ℕ) : ℕ → L
       → accesses.reads t (place.Pci seg bus dev func 25) W8 ≡ (Ok number, u) → BusesFound accesses seg number further u end v
       → BusesFound accesses seg bus ((dev, func) ∷ further) s end v
 
--- the `_ADR` of each bridge answers its device in the high word and its function in the low one, and changes nothing
-pub data TellAddresses {S : Type 0} (call : List Seg → Run S ℕ) : List (List Seg) → List (ℕ × ℕ) → Type 0 where
-  no_more : TellAddresses call [] []
-  one_more : (p : List Seg) (ps : List (List Seg)) (dev func : ℕ) (further : List (ℕ × ℕ))
-      → ((s : State S × ℕ) → call (p ++ adr ∷ []) s ≡ (Ok (dev * 65536 + func), s)) → TellAddresses call ps further
-      → TellAddresses call (p ∷ ps) ((dev, func) ∷ further)
+-- What an object answers where an address is asked for: a number, and nothing changes, whatever the registers are by then. So it is where a
+-- name holds an integer.
+abbrev pub TellsNumber : {S : Type 0} → (List Seg → Run S ℕ) → State S → ℕ → List Seg → ℕ → Type 0
+TellsNumber {S} call w steps p n = (t : S) → call p (record w { space = t }, steps) ≡ (Ok n, (record w { space = t }, steps))
 
--- The number that the nearest object of a name tells, of a scope and those above it, and 0 where there is none. It changes nothing.
-pub data TellsPart {S : Type 0} (call : List Seg → Run S ℕ) (w : State S) (name : Seg) (scope : List Seg) : ℕ → Type 0 where
-  of_none : nearest (Parent name) scope w ≡ (Ok None, w) → TellsPart call w name scope 0
-  of_some : (at : List Seg) (n : ℕ) → nearest (Parent name) scope w ≡ (Ok (Some at), w) → ((s : State S × ℕ) → call (at ++ name ∷ []) s ≡ (Ok n, s))
-      → TellsPart call w name scope n
+-- the `_ADR` of each bridge answers its device in the high word and its function in the low one
+pub data TellAddresses {S : Type 0} (call : List Seg → Run S ℕ) (w : State S) (steps : ℕ) : List (List Seg) → List (ℕ × ℕ) → Type 0 where
+  no_more : TellAddresses call w steps [] []
+  one_more : (p : List Seg) (ps : List (List Seg)) (dev func : ℕ) (further : List (ℕ × ℕ)) → TellsNumber call w steps (p ++ adr ∷ []) (dev * 65536 + func) → TellAddresses call w steps ps further
+      → TellAddresses call w steps (p ∷ ps) ((dev, func) ∷ further)
+
+-- the number that the nearest object of a name tells, of a scope and those above it, and 0 where there is none
+pub data TellsPart {S : Type 0} (call : List Seg → Run S ℕ) (w : State S) (steps : ℕ) (name : Seg) (scope : List Seg) : ℕ → Type 0 where
+  of_none : nearest (Parent name) scope w ≡ (Ok None, w) → TellsPart call w steps name scope 0
+  of_some : (at : List Seg) (n : ℕ) → nearest (Parent name) scope w ≡ (Ok (Some at), w) → TellsNumber call w steps (at ++ name ∷ []) n → TellsPart call w steps name scope n

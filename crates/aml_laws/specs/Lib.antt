@@ -6,6 +6,7 @@ pub mod BankRegisters
 pub mod Becomes
 pub mod BusesFound
 pub mod Calls
+pub mod Comparisons
 pub mod Copied
 pub mod Copyable
 pub mod CostsOfTrees
@@ -16,6 +17,7 @@ pub mod Declares
 pub mod Digits
 pub mod Events
 pub mod FieldLists
+pub mod FramesOpened
 pub mod Handed
 pub mod HandedBack
 pub mod HandedIn
@@ -37,11 +39,13 @@ pub mod PciScopes
 pub mod Plain
 pub mod Reached
 pub mod RegionAccesses
+pub mod RegionTerms
 pub mod ResourceLists
 pub mod SpaceFaults
 pub mod Steps
 pub mod StepsTaken
 pub mod UnitValues
+pub mod StoredCopies
 pub mod Unreferenced
 pub mod Widened
 pub mod Within

@@ -1,10 +1,17 @@
 //! Copies of values.
-ghost use Rattle.std.specs.Prelude.{◌≡◌, ◌≤◌, ◌++◌, ◌+◌, ℕ, length, Ok};
+ghost use Rattle.std.specs.Prelude.{◌≡◌, ◌≤◌, ◌++◌, ◌+◌, ℕ, List, length, Ok};
+ghost use Rattle.aml_path.specs.declared.segment.Seg.{Seg};
 ghost use Rattle.aml_objects.specs.Objects.{Objects};
 ghost use Rattle.aml_objects.specs.Copies.{copied};
 ghost use Rattle.aml_objects.specs.declared.value.Value.{Value};
+ghost use Rattle.aml_objects.specs.declared.value.Slot.TheVariants.{Local};
+ghost use Rattle.aml_meaning.specs.declared.store_target.StoreTarget.TheVariants as targets;
+ghost use Rattle.aml_meaning.specs.declared.store_target.Stored.TheVariants as store;
+ghost use Rattle.aml_meaning.specs.State.{State};
+ghost use Rattle.aml_meaning.specs.Stores.{stored, copied_to};
 ghost use Rattle.aml_laws.specs.Copied.{IsCopy};
 ghost use Rattle.aml_laws.specs.Copyable.{IsCopyable};
+ghost use Rattle.aml_laws.specs.StoredCopies.{NameHoldsCopy, LocalHoldsCopy};
 
 /// A copy holds the same integers, bytes and references as its source, element by element, and shares no object with
 /// it: each string, buffer and package of the copy, however deep, is an object that was not there before, and all that
@@ -26,4 +33,16 @@ pub fn what_is_within_the_limits_is_copied()
     ensures { (objects : Objects) (count : ℕ) (v : Value) → IsCopyable objects 64 count v →
         length objects + count ≤ 262144 → (u : Value) × ((made : Objects) ×
         ((copied v objects ≡ (Ok u, objects ++ made)) × (length made ≡ count))) }
+{}
+
+/// What CopyObject leaves in a name that held a value, and what Store and CopyObject leave in a local, is a copy of the value,
+/// as `a_copy_is_the_same_apart_from_its_source` says; of the local nothing else of the world changes but the objects that the
+/// copy has. A store that keeps the very object of its source is refused by this.
+pub fn what_is_stored_is_a_copy<S>()
+    ensures named { (before after : State S) (path : List Seg) (v : Value) →
+        copied_to (targets.Name path) v before ≡ (Ok store.Done, after) → NameHoldsCopy before after path v }
+    ensures local { (before after : State S) (i : ℕ) (v : Value) →
+        stored (targets.Slot (Local i)) v before ≡ (Ok store.Done, after) → LocalHoldsCopy before after i v }
+    ensures local_copied { (before after : State S) (i : ℕ) (v : Value) →
+        copied_to (targets.Slot (Local i)) v before ≡ (Ok store.Done, after) → LocalHoldsCopy before after i v }
 {}

@@ -27,6 +27,7 @@ mod pci_functions;
 mod profiles;
 mod reading;
 mod references;
+mod region_terms;
 mod regions;
 mod searches;
 mod slots;
@@ -46,8 +47,13 @@ pub use buffer_fields::{
     a_buffer_field_is_read_as_it_was_written, a_buffer_field_within_its_buffer_is_accessed,
     a_write_of_a_buffer_field_leaves_other_bits,
 };
-pub use calls::calls_leave_nothing;
-pub use copies::{a_copy_is_the_same_apart_from_its_source, what_is_within_the_limits_is_copied};
+pub use calls::{
+    a_call_begins_with_its_arguments, a_call_gives_what_its_body_returns, calls_leave_nothing,
+};
+pub use copies::{
+    a_copy_is_the_same_apart_from_its_source, what_is_stored_is_a_copy,
+    what_is_within_the_limits_is_copied,
+};
 pub use declarations::refused_names_change_nothing;
 pub use events::{
     a_wait_takes_a_signal, signals_are_counted_one_by_one, signals_outlive_an_answer,
@@ -84,7 +90,8 @@ pub use passing::{
     what_may_be_passed_over_is_told_by_its_number,
 };
 pub use pci_functions::{
-    a_pci_address_is_told_by_its_objects, a_region_of_pci_config_belongs_to_the_nearest_device,
+    a_name_that_holds_an_integer_tells_it, a_pci_address_is_told_by_its_objects,
+    a_region_of_pci_config_belongs_to_the_nearest_device,
     bridges_above_a_function_are_asked_from_the_outermost_on,
     each_bridge_is_asked_on_the_bus_that_the_one_above_told,
     segment_groups_and_buses_are_the_nearest,
@@ -94,6 +101,10 @@ pub use reading::terms_of_bytes_hold_bytes;
 pub use references::{
     a_reference_refers_to_its_target, a_reference_to_a_name_finds_its_declaration,
     a_reference_to_a_slot_reads_that_slot,
+};
+pub use region_terms::{
+    a_region_is_declared_as_its_term_says, field_flags_say_the_access_and_the_update_rule,
+    fields_are_declared_in_what_their_names_find,
 };
 pub use regions::registers_are_reached_within_regions;
 pub use searches::{a_searched_name_finds_the_nearest, any_other_name_stands_at_one_path};
@@ -115,6 +126,6 @@ pub use trees::{
 pub use updates::ones_and_zeros_read_nothing;
 pub use values::{
     an_integer_is_read_back_from_its_string, binary_coded_decimal_has_the_decimal_digits,
-    conversions_answer, joined_resources_have_the_items_of_both,
+    comparisons_answer_by_the_order, conversions_answer, joined_resources_have_the_items_of_both,
     values_of_one_type_are_in_a_total_order,
 };

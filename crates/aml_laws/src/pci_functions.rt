@@ -9,13 +9,19 @@ ghost use Rattle.aml_path.specs.declared.segment.Seg.{Seg};
 ghost use Rattle.aml_meaning.specs.declared.pci_functions.Sought.TheVariants.{Parent};
 ghost use Rattle.aml_meaning.specs.declared.profile.Profile.TheVariants.{Core, Wide};
 ghost use Rattle.aml_meaning.specs.State.{State};
+ghost use Rattle.aml_meaning.specs.FieldCalls.{called_at};
+ghost use Rattle.aml_meaning.specs.Meaning.{meaning};
+ghost use Rattle.aml_objects.specs.declared.entry.Entry.{Entry};
+ghost use Rattle.aml_objects.specs.declared.entry.NamedObject.TheVariants.{Data};
+ghost use Rattle.aml_objects.specs.declared.value.Value.TheVariants.{Integer};
+ghost use Rattle.std.specs.FinMap.{get};
 ghost use Rattle.aml_meaning.specs.PciFunctions.{adr, segment_group, base_bus, nearest, pci_function};
 ghost use Rattle.aml_namespace.specs.Namespace.{Map};
 ghost use Rattle.aml_meaning.specs.Run.{Run};
 ghost use Rattle.aml_meaning.specs.Fields.{bus_behind_all, pci_address};
 ghost use Rattle.aml_meaning.specs.Bridges.{bridges_to};
 ghost use Rattle.aml_laws.specs.PciScopes.{StandsIn, IsFunctionAt, IsBridgeAt, IsNearestSuch, NoneSuch};
-ghost use Rattle.aml_laws.specs.BusesFound.{BusesFound, TellAddresses, TellsPart};
+ghost use Rattle.aml_laws.specs.BusesFound.{BusesFound, TellsNumber, TellAddresses, TellsPart};
 ghost use Rattle.aml_laws.specs.PciScopes.{IsAskedBridge, IsAmong, GrowFrom};
 
 /// A region of PCI_Config belongs to the nearest Device with an `_ADR`, of the scope that the region stands in and
@@ -46,6 +52,15 @@ pub fn segment_groups_and_buses_are_the_nearest<S>()
         NoneSuch (StandsIn w.names.map name) scope (length scope) → nearest (Parent name) scope w ≡ (Ok None, w) }
 {}
 
+/// A name that holds an integer tells it where the address of a function is asked for: it takes no step and no access, and
+/// changes nothing. So what the next laws ask of `_SEG`, `_BBN` and `_ADR` holds of names. An object that is asked for at
+/// another path, or that costs a step, is refused by this.
+pub fn a_name_that_holds_an_integer_tells_it<S>()
+    ensures { (accesses : Accesses S) (path : List Seg) (entry : Entry) (n : ℕ) →
+        entry.object ≡ Data (Integer n) → (depth : ℕ) → depth < 32 → (w : State S) (steps : ℕ) →
+        get w.names.map path ≡ Some entry → TellsNumber (called_at accesses (meaning accesses) depth) w steps path n }
+{}
+
 /// The bridges that are asked for the bus behind them, in the wide profile, are those above the function, each once and
 /// from the outermost on: the Devices with an `_ADR` and without a `_HID` from which on down to the function no scope
 /// has a `_BBN`. A list that has another device, that leaves one out, or that begins with the innermost is refused by
@@ -67,7 +82,7 @@ pub fn bridges_above_a_function_are_asked_from_the_outermost_on()
 pub fn each_bridge_is_asked_on_the_bus_that_the_one_above_told<S>()
     ensures { (accesses : Accesses S) (seg : ℕ) → seg < 65536 → (call : List Seg → Run S ℕ) (w : State S)
         (steps bus end : ℕ) (bridges : List (List Seg)) (addresses : List (ℕ × ℕ)) (after : S) →
-        TellAddresses call bridges addresses → BusesFound accesses seg bus addresses w.space end after →
+        TellAddresses call w steps bridges addresses → BusesFound accesses seg bus addresses w.space end after →
         bus_behind_all accesses call seg bus bridges (w, steps) ≡ (Ok end, (record w { space = after }, steps)) }
 {}
 
@@ -79,9 +94,10 @@ pub fn each_bridge_is_asked_on_the_bus_that_the_one_above_told<S>()
 pub fn a_pci_address_is_told_by_its_objects<S>()
     ensures { (accesses : Accesses S) (seg : ℕ) → seg < 65536 → (call : List Seg → Run S ℕ) (w : State S)
         (steps bus end dev func : ℕ) (scope path : List Seg) (addresses : List (ℕ × ℕ)) (after : S) →
-        pci_function scope w ≡ (Ok path, w) → TellsPart call w segment_group path seg →
-        TellsPart call w base_bus path bus → TellAddresses call (bridges_to w.names.map path) addresses →
+        pci_function scope w ≡ (Ok path, w) → TellsPart call w steps segment_group path seg →
+        TellsPart call w steps base_bus path bus →
+        TellAddresses call w steps (bridges_to w.names.map path) addresses →
         BusesFound accesses seg bus addresses w.space end after → end < 256 → dev < 32 → func < 8 →
-        ((s : State S × ℕ) → call (path ++ adr ∷ []) s ≡ (Ok (dev * 65536 + func), s)) →
+        TellsNumber call w steps (path ++ adr ∷ []) (dev * 65536 + func) →
         pci_address accesses call scope (w, steps) ≡ (Ok (Pci seg end dev func), (record w { space = after }, steps)) }
 {}

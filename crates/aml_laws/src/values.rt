@@ -1,8 +1,10 @@
 //! Conversions, comparisons and what two values are joined to.
-ghost use Rattle.std.specs.Prelude.{◌≡◌, ◌⊎◌, ◌<◌, ◌-◌, ◌*◌, ◌^◌, ◌++◌, ◌∷◌, [], ℕ, List, length, nat_lt, true, Ok};
+ghost use Rattle.std.specs.Prelude.{◌≡◌, ◌⊎◌, ◌<◌, ◌-◌, ◌*◌, ◌^◌, ◌++◌, ◌∷◌, [], ℕ, List, length, nat_lt, true, Ok, Err};
 ghost use Rattle.std.specs.List.{list_all};
 ghost use Rattle.std.specs.Int.Digits.{digits_of};
+ghost use Rattle.std.specs.declared.cmp.Ordering.{Ordering};
 ghost use Rattle.std.specs.declared.cmp.Ordering.TheVariants.{Less};
+ghost use Rattle.ar_space.specs.declared.refusal.Refusal.{Refusal};
 ghost use Rattle.ar_space.specs.declared.integer_width.IntegerWidth.{IntegerWidth};
 ghost use Rattle.acpi_resources.specs.Items.{items_of};
 ghost use Rattle.aml_objects.specs.Contents.{Integer, String, Buffer};
@@ -11,6 +13,13 @@ ghost use Rattle.aml_convert.specs.Conversions.{to_integer_of, to_text_of, expli
 ghost use Rattle.aml_convert.specs.Strings.{decimal_string_of};
 ghost use Rattle.aml_convert.specs.Decimals.{coded_decimal, decoded_decimal};
 ghost use Rattle.aml_convert.specs.Concatenation.{resources_joined};
+ghost use Rattle.aml_convert.specs.declared.logic.Comparison.{Comparison};
+ghost use Rattle.aml_objects.specs.declared.value.Value.{Value};
+ghost use Rattle.aml_objects.specs.declared.value.Value.TheVariants as value;
+ghost use Rattle.aml_meaning.specs.Operations.{compared_in};
+ghost use Rattle.aml_meaning.specs.State.{State};
+ghost use Rattle.aml_objects.specs.Contents.{content_in};
+ghost use Rattle.aml_laws.specs.Comparisons.{AsksFor};
 ghost use Rattle.aml_laws.specs.Digits.{is_upper_digit};
 ghost use Rattle.aml_laws.specs.Ordered.{IsTotal};
 ghost use Rattle.aml_laws.specs.ResourceLists.{before_end_tag, end_tag, HasEndTag};
@@ -44,6 +53,20 @@ pub fn values_of_one_type_are_in_a_total_order()
         compared width (Buffer (front ++ a ∷ s)) (Buffer (front ++ b ∷ t)) ≡ Ok Less }
     ensures shorter_buffer { (width : IntegerWidth) (front : List ℕ) (a : ℕ) (s : List ℕ) →
         compared width (Buffer front) (Buffer (front ++ a ∷ s)) ≡ Ok Less }
+{}
+
+/// LEqual, LGreater and LLess are True, which has all bits of the width set, exactly where the order of their two values is
+/// the one that they ask for, and else False, which is 0; where the values have no order the comparison is refused so. It
+/// changes nothing. A comparison that asks for another order, and a True that is 1, are refused by this.
+pub fn comparisons_answer_by_the_order<S>()
+    ensures asked { (w : State S) (c : Comparison) (a b : Value) (o : Ordering) →
+        compared w.width (content_in w.objects a) (content_in w.objects b) ≡ Ok o → AsksFor c o →
+        compared_in c a b w ≡ (Ok (value.Integer (2 ^ bits_of w.width - 1)), w) }
+    ensures not_asked { (w : State S) (c : Comparison) (a b : Value) (o : Ordering) →
+        compared w.width (content_in w.objects a) (content_in w.objects b) ≡ Ok o → (AsksFor c o → ⊥) →
+        compared_in c a b w ≡ (Ok (value.Integer 0), w) }
+    ensures refused { (w : State S) (c : Comparison) (a b : Value) (e : Refusal) →
+        compared w.width (content_in w.objects a) (content_in w.objects b) ≡ Err e → compared_in c a b w ≡ (Err e, w) }
 {}
 
 /// The hexadecimal digits of a number in binary coded decimal are the decimal digits of the number, so that ToBCD and

@@ -1,5 +1,5 @@
 -- Evaluations and reports reach a register space by accesses, of which no more are made than may be.
-use Rattle.std.specs.Prelude.{◌≡◌, ◌⊎◌, ◌≤◌, ◌-◌, ℕ, zero, suc, List, Bool, Option, Some, None, Result, Ok, Err, refl}
+use Rattle.std.specs.Prelude.{◌≡◌, ◌-◌, ℕ, zero, suc, List, Bool, Some, Result, Err, refl}
 use Rattle.std.proofs.Common.{arith, inl, inr, ap, sym, subst, ◌∙◌}
 use Rattle.ar_space.specs.declared.refusal.SpaceFault.{SpaceFault}
 use Rattle.ar_space.specs.declared.refusal.SpaceFault.TheVariants.{Device}
@@ -27,7 +27,7 @@ use Rattle.machine_laws.proofs.ReportsCarried.{Carried, report_carried}
 -- ---- reports reach the space by accesses: beside themselves, over the same space
 
 module _ {S : Type 0} (accesses : Accesses S) (from : S) where
-  unfoldable reaching : SideBySide accesses accesses
+  unfoldable pub reaching : SideBySide accesses accesses
   reaching = record {
     InStep = λ s t. (s ≡ t) × Reached accesses from s;
     Parted = λ s t. ⊥;

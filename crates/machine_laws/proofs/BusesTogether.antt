@@ -1,46 +1,23 @@
 -- The buses of routing tables, of machines side by side.
-use Rattle.std.specs.Prelude.{◌≡◌, ℕ, List, [], ◌∷◌, Option, Some, None, refl}
+use Rattle.std.specs.Prelude.{◌≡◌, ℕ, List, refl}
 use Rattle.std.proofs.Common.{subst}
 use Rattle.ar_space.specs.Accesses.{Accesses}
 use Rattle.aml_path.specs.declared.segment.Seg.{Seg}
-use Rattle.aml_meaning.specs.Fields.{part_in, inherited, bus_behind, bus_behind_all}
-use Rattle.aml_meaning.specs.PciFunctions.{nearest}
-use Rattle.aml_meaning.specs.declared.pci_functions.Sought.{Sought}
 use Rattle.aml_meaning.specs.Calling.{ending, with_steps}
-use Rattle.aml_laws.proofs.BridgesTogether.{behind_asked_together, secondary_bus_together}
+use Rattle.aml_laws.proofs.BridgesTogether.{behind_asked_together}
+use Rattle.aml_laws.proofs.FieldsTogether.{nearest_together, inherited_together, bus_behind_all_together}
 use Rattle.aml_laws.proofs.Levels.{in_body}
 use Rattle.aml_laws.proofs.MeaningTogether.{meaning_parts}
 use Rattle.aml_laws.proofs.OperandsTogether.{called_at_together}
-use Rattle.aml_laws.proofs.Together.{Sides, Together, plain, give_together, settle_together, then_together}
-use Rattle.aml_laws.proofs.WorldsTogether.{lift_together, runs, space_together, worlds, ending_together, with_steps_together}
+use Rattle.aml_laws.proofs.Together.{Sides, Together, plain, settle_together, then_together}
+use Rattle.aml_laws.proofs.WorldsTogether.{lift_together, runs, worlds, ending_together, with_steps_together}
 use Rattle.acpi_machine.specs.Buses.{bridges_down_to, address_part, bus_of_table, bus_answered, bus_found}
 use Rattle.machine_laws.proofs.MachineShapes.{machines}
 use Rattle.machine_laws.proofs.MachinesTogether.{on_world_together, unless_spent_together}
 
 module _ {S T : Type 0} {accesses : Accesses S} {accesses2 : Accesses T} {side : Sides accesses accesses2} where
-  nearest_together : (x : Sought) (q : List Seg) → Together side worlds (nearest x q) (nearest x q)
-  unfolding nearest
-  nearest_together x q = plain (λ w. refl) (λ w. refl) (λ w t. refl)
-
   part_together : (q : List Seg) → Together side runs (address_part accesses q) (address_part accesses2 q)
   part_together q = in_body side 1 refl (called_at_together meaning_parts 1 q)
-
-  part_in_together : (s : Seg) (o : Option (List Seg)) → Together side runs (part_in accesses (address_part accesses) s o) (part_in accesses2 (address_part accesses2) s o)
-  part_in_together s None = give_together _
-  part_in_together s (Some q) = part_together _
-
-  inherited_together : (s : Seg) (q : List Seg) → Together side runs (inherited accesses (address_part accesses) s q) (inherited accesses2 (address_part accesses2) s q)
-  unfolding inherited
-  inherited_together s q = then_together (lift_together (nearest_together _ q)) (λ o. part_in_together s o)
-
-  bus_behind_together : (seg bus : ℕ) (q : List Seg) → Together side runs (bus_behind accesses (address_part accesses) seg bus q) (bus_behind accesses2 (address_part accesses2) seg bus q)
-  unfolding bus_behind
-  bus_behind_together seg bus q = then_together (part_together _) (λ address. lift_together (space_together (secondary_bus_together seg bus address)))
-
-  bus_behind_all_together : (seg bus : ℕ) (qs : List (List Seg)) → Together side runs (bus_behind_all accesses (address_part accesses) seg bus qs) (bus_behind_all accesses2 (address_part accesses2) seg bus qs)
-  unfolding bus_behind_all
-  bus_behind_all_together seg bus [] = give_together _
-  bus_behind_all_together seg bus (q ∷ qs) = then_together (bus_behind_together seg bus q) (λ behind. bus_behind_all_together seg behind qs)
 
   bridges_down_together : (q : List Seg) → Together side worlds (bridges_down_to q) (bridges_down_to q)
   unfolding bridges_down_to
@@ -50,8 +27,8 @@ module _ {S T : Type 0} {accesses : Accesses S} {accesses2 : Accesses T} {side :
   unfolding bus_of_table
   bus_of_table_together device =
       then_together (lift_together (nearest_together _ device)) (λ bridge. then_together (lift_together (behind_asked_together bridge)) (λ reached.
-      then_together (lift_together (bridges_down_together device)) (λ bridges. then_together (inherited_together _ device) (λ segment.
-      then_together (inherited_together _ device) (λ bus. then_together (bus_behind_all_together segment bus bridges) (λ behind. settle_together _))))))
+      then_together (lift_together (bridges_down_together device)) (λ bridges. then_together (inherited_together part_together _ device) (λ segment.
+      then_together (inherited_together part_together _ device) (λ bus. then_together (bus_behind_all_together part_together segment bus bridges) (λ behind. settle_together _))))))
 
 -- same: the right one has as many steps
 module _ {S T : Type 0} {accesses : Accesses S} {accesses2 : Accesses T} {side : Sides accesses accesses2} (same : (n : ℕ) → side.more n ≡ n) where

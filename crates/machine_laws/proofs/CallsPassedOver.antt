@@ -13,12 +13,10 @@ use Rattle.ar_tables.specs.declared.mode.Mode.{Mode}
 use Rattle.aml_path.specs.declared.segment.Seg.{Seg}
 use Rattle.aml_path.specs.Characters.{is_segment}
 use Rattle.aml_path.proofs.Segments.{seg_is}
-use Rattle.aml_meaning.specs.declared.profile.Profile.{Profile}
 use Rattle.aml_meaning.specs.declared.profile.Profile.TheVariants as profiles
 use Rattle.aml_meaning.specs.Given.{Given}
 use Rattle.aml_meaning.specs.Given as given
 use Rattle.aml_meaning.specs.Calling.{answered}
-use Rattle.aml_meaning.specs.State.{State}
 use Rattle.aml_meaning.specs.PassedOver.{is_passable}
 use Rattle.aml_meaning.specs.Passing.{is_wide, with_passed}
 use Rattle.aml_laws.specs.Becomes.{same, answer}
@@ -28,11 +26,11 @@ use Rattle.acpi_machine.specs.FixedPaths.{at_root, below_root}
 use Rattle.acpi_machine.specs.MachineStates.{MachineState}
 use Rattle.machine_laws.proofs.CallsTogether.{Called, refused_by, refused_is, done_profile}
 
-root_is : (name : List ℕ) (valid : is_segment name ≡ true) → at_root name ≡ Ok (record { bytes = name; valid = valid } ∷ [])
+pub root_is : (name : List ℕ) (valid : is_segment name ≡ true) → at_root name ≡ Ok (record { bytes = name; valid = valid } ∷ [])
 unfolding at_root outcomes.◌>>=◌
 root_is name valid = rw (seg_is name valid) refl
 
-below_is : (parent name : List ℕ) (above : is_segment parent ≡ true) (valid : is_segment name ≡ true) → below_root parent name ≡ Ok (record { bytes = parent; valid = above } ∷ record { bytes = name; valid = valid } ∷ [])
+pub below_is : (parent name : List ℕ) (above : is_segment parent ≡ true) (valid : is_segment name ≡ true) → below_root parent name ≡ Ok (record { bytes = parent; valid = above } ∷ record { bytes = name; valid = valid } ∷ [])
 unfolding below_root outcomes.◌>>=◌
 below_is parent name above valid = rw (seg_is parent above, seg_is name valid) refl
 

@@ -1,5 +1,5 @@
 -- Calls of initializing side by side, which the wide profile may pass over.
-use Rattle.std.specs.Prelude.{◌≡◌, ◌⊎◌, ℕ, List, Bool, true, false, Ok, Err, refl, if◌then◌else◌}
+use Rattle.std.specs.Prelude.{◌≡◌, List, Bool, true, false, Ok, Err, refl, if◌then◌else◌}
 use Rattle.std.proofs.Common.{inl, inr, sym, subst, ap, ◌∙◌}
 use Rattle.ar_space.specs.declared.refusal.Refusal.{Refusal}
 use Rattle.ar_space.specs.Accesses.{Accesses}
@@ -13,7 +13,7 @@ use Rattle.aml_meaning.specs.PassedOver.{is_passable}
 use Rattle.aml_meaning.specs.Passing.{is_wide, with_passed, passed_over}
 use Rattle.acpi_machine.specs.Calls.{on_world, refused_call, call_done, call_passing}
 use Rattle.acpi_machine.specs.MachineStates.{MachineState}
-use Rattle.aml_laws.proofs.Together.{Sides, SideBySide, Passes, MayPass, Together, Comes, IsEnded, alike}
+use Rattle.aml_laws.proofs.Together.{Sides, MayPass, Together, Comes, IsEnded, alike}
 use Rattle.aml_laws.proofs.Levels.{level}
 use Rattle.machine_laws.proofs.MachineShapes.{machine_beside, machines}
 

@@ -3,12 +3,20 @@
 -- answer alike, and in two profiles. `x_unnoted`: noting the accesses of x changes nothing. `x_widened`, `x_widens`: x comes to the same
 -- in the wide profile, or leaves something out in the core one.
 pub mod AccessesBounded
+pub mod BusesReached
 pub mod CallsPassedOver
 pub mod CallsTogether
 pub mod CleanLinks
+pub mod FaultsOfBuses
 pub mod FaultsOfCalls
 pub mod FaultsOfLinks
 pub mod FaultsOfLoading
+pub mod InitialCalls
+pub mod KernelBuses
+pub mod KernelLinesTold
+pub mod KernelOffers
+pub mod KernelRuns
+pub mod KernelTriggers
 pub mod LinesWidened
 pub mod LinksTogether
 pub mod MachineFaults
@@ -20,11 +28,14 @@ pub mod MachinesTogether
 pub mod BusesTogether
 pub mod MachinesWidened
 pub mod NumbersTold
+pub mod OneOfList
 pub mod OthersTogether
 pub mod FoundTogether
 pub mod ProfilesAsked
 pub mod ReportsCarried
 pub mod ReportsTold
 pub mod ReportsWidened
+pub mod RunsEvaluate
+pub mod RunsFound
 pub mod TellingWidened
 pub mod SettingsTogether

@@ -1,5 +1,4 @@
 -- A machine over another register space.
-use Rattle.std.specs.Prelude.{ℕ}
 use Rattle.aml_meaning.specs.declared.profile.Profile.{Profile}
 use Rattle.acpi_machine.specs.MachineStates.{MachineState}
 use Rattle.aml_laws.proofs.Together.{Shape}

@@ -1,5 +1,5 @@
 -- What the calls of a machine make of its world evaluations make of it, and notes of calls that are passed over.
-use Rattle.std.specs.Prelude.{◌≡◌, ℕ, List, [], ◌∷◌, Bool, true, false, Option, codes, Ok, Err, refl, if◌then◌else◌}
+use Rattle.std.specs.Prelude.{◌≡◌, ℕ, List, [], ◌∷◌, Bool, true, false, Ok, Err, refl, if◌then◌else◌}
 use Rattle.std.specs.FinMap.{contains_key}
 use Rattle.std.proofs.Common.{sym, subst}
 use Rattle.ar_space.specs.declared.integer_width.IntegerWidth.{IntegerWidth}
@@ -15,7 +15,7 @@ use Rattle.aml_path.specs.declared.segment.Seg.{Seg}
 use Rattle.aml_meaning.specs.declared.profile.Profile.{Profile}
 use Rattle.aml_meaning.specs.declared.profile.Profile.TheVariants as profiles
 use Rattle.aml_meaning.specs.Given.{Given}
-use Rattle.aml_meaning.specs.PassedOver.{PassedOver, is_passable}
+use Rattle.aml_meaning.specs.PassedOver.{is_passable}
 use Rattle.aml_meaning.specs.Passing.{is_wide}
 use Rattle.aml_meaning.specs.Predefined.{fresh_as, predefined}
 use Rattle.aml_meaning.specs.State.{State}
@@ -32,7 +32,7 @@ wide_profile profiles.Core is = absurd (cc is)
 wide_profile profiles.Wide is = refl
 
 module _ {S : Type 0} (accesses : Accesses S) where
-  behind : (u w v : State S) → Becomes accesses u w → Becomes accesses w v → Becomes accesses u v
+  pub behind : (u w v : State S) → Becomes accesses u w → Becomes accesses w v → Becomes accesses u v
   behind u w v h same = h
   behind u w v h (term x t steps i) = term x t steps (behind u w x h i)
   behind u w v h (list x scope depth ts steps i) = list x scope depth ts steps (behind u w x h i)

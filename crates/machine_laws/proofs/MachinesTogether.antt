@@ -8,7 +8,6 @@ use Rattle.ar_space.specs.Change.{Change, give, go_on, ◌>>=◌}
 use Rattle.ar_tables.specs.declared.mode.Mode.{Mode}
 use Rattle.ar_tables.specs.declared.tables.Tables.{Tables}
 use Rattle.aml_path.specs.declared.segment.Seg.{Seg}
-use Rattle.aml_meaning.specs.declared.profile.Profile.{Profile}
 use Rattle.aml_meaning.specs.Given as given
 use Rattle.aml_meaning.specs.State.{State}
 use Rattle.acpi_machine.specs.MachineStates.{MachineState}

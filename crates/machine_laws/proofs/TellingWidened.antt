@@ -1,9 +1,9 @@
 -- What is told to a kernel in the core profile, and in the wide one.
-use Rattle.std.specs.Prelude.{◌≡◌, ℕ, List, [], ◌∷◌, ◌++◌, Bool, true, false, Option, Some, None, Ok, Err, Contains, refl}
+use Rattle.std.specs.Prelude.{◌≡◌, ℕ, List, [], ◌∷◌, Bool, true, false, Option, Some, None, Ok, Err, Contains, refl}
 use Rattle.std.proofs.Common.{◌∙◌, sym, subst, ap, arith}
 use Rattle.ar_space.specs.Accesses.{Accesses}
 use Rattle.ar_space.specs.Outcome.{Outcome}
-use Rattle.ar_space.specs.Change.{Change, give, go_on, ◌>>=◌}
+use Rattle.ar_space.specs.Change.{give, go_on, ◌>>=◌}
 use Rattle.ar_tables.specs.Fadts.{sci_interrupt}
 use Rattle.aml_path.specs.declared.segment.Seg.{Seg}
 use Rattle.aml_laws.specs.Widened.{IsLeftOut}
@@ -11,7 +11,7 @@ use Rattle.acpi_machine.specs.Buses.{bus_found}
 use Rattle.acpi_machine.specs.MachineStates.{MachineState}
 use Rattle.acpi_machine.specs.declared.buses.PciBus.{PciBus}
 use Rattle.acpi_links.specs.Devices.{devices}
-use Rattle.acpi_configure.specs.ForKernels.{devices_with_tables, bus_told, bus_asked, buses_asked, lines_told, kernel_told, told_if, IsToldBehind, IsReportFor}
+use Rattle.acpi_configure.specs.ForKernels.{devices_with_tables, bus_told, bus_asked, buses_asked, lines_told, kernel_told, told_if, IsReportFor}
 use Rattle.acpi_configure.specs.Options.{RunOptions}
 use Rattle.acpi_configure.specs.Settling.{attempted}
 use Rattle.acpi_configure.specs.Triggers.{triggers_of}

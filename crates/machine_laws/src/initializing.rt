@@ -1,4 +1,4 @@
-//! Initializing in the wide profile: calls that are passed over (ACPI 6.5, 5.8.1 and 6.5.1).
+//! Initializing: which control methods are called, and which calls the wide profile passes over (ACPI 6.5, 5.8.1 and 6.5.1).
 ghost use Rattle.std.specs.Prelude.{◌≡◌, List, true, false, Ok, Err};
 ghost use Rattle.std.specs.FinMap.{contains_key};
 ghost use Rattle.ar_space.specs.Accesses.{Accesses};
@@ -10,6 +10,9 @@ ghost use Rattle.aml_meaning.specs.PassedOver.{is_passable};
 ghost use Rattle.aml_meaning.specs.declared.profile.Profile.TheVariants.{Core, Wide};
 ghost use Rattle.acpi_machine.specs.MachineStates.{MachineState};
 ghost use Rattle.acpi_machine.specs.Calls.{object_answered, called_where_it_stands, initialized};
+ghost use Rattle.ar_space.specs.declared.refusal.Refusal.TheVariants.{Machine};
+ghost use Rattle.ar_space.specs.declared.refusal.MachineFault.TheVariants.{Spent};
+ghost use Rattle.machine_laws.specs.Initializing.{CalledInTurn, initializing_calls};
 ghost use Rattle.machine_laws.specs.PassedCalls.{with_passed_call};
 
 /// In the wide profile a call of initializing that is refused by what may be passed over is noted with the path of what
@@ -31,4 +34,18 @@ pub fn calls_of_initializing_are_passed_over<S>()
         called_where_it_stands accesses p arguments m ≡ (Err e, after) }
     ensures initializing { (accesses : Accesses S) (mode : Mode) (m : MachineState S) (e : Refusal) →
         m.world.profile ≡ Wide → (initialized accesses mode m).0 ≡ Err e → is_passable e ≡ false }
+{}
+
+/// Initializing calls `\_INI`, `\_SB_._INI` and `\_PIC`, in this order and nothing else, the last one with 0 where the 8259
+/// controllers are used and with 1 where I/O APICs are. One that doesn't stand isn't called, and changes nothing. Each is
+/// called in the world that the one before it left. Where one is refused, initializing is refused so, and nothing later is
+/// called, unless the wide profile passes the refusal over: that is noted, and the next one is called. The machine's mode
+/// is the one that is told, however the calls end; a spent machine stays as it is. A method that is called twice, that is
+/// left out, that gets another number or that is called though an earlier one was refused is refused by this.
+pub fn initializing_calls_three_methods_in_turn<S>()
+    ensures calls { (accesses : Accesses S) (mode : Mode) (m : MachineState S) → m.spent ≡ false →
+        CalledInTurn accesses (initializing_calls mode) (record m { mode = mode }) (initialized accesses mode m).0
+        (initialized accesses mode m).1 }
+    ensures spent { (accesses : Accesses S) (mode : Mode) (m : MachineState S) → m.spent ≡ true →
+        initialized accesses mode m ≡ (Err (Machine Spent), m) }
 {}

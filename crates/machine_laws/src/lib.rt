@@ -4,6 +4,7 @@
 mod bounds;
 mod faults;
 mod initializing;
+mod kernel_lines;
 mod notes;
 mod profiles;
 mod reports;
@@ -14,7 +15,15 @@ pub use bounds::{
     no_more_accesses_are_made_than_the_bound,
 };
 pub use faults::{machine_faults_are_reached_by_accesses, routing_faults_are_reached_by_accesses};
-pub use initializing::calls_of_initializing_are_passed_over;
+pub use initializing::{
+    calls_of_initializing_are_passed_over, initializing_calls_three_methods_in_turn,
+};
+pub use kernel_lines::{
+    a_run_for_a_kernel_is_one_without_its_lines, each_routing_table_has_one_line_bus,
+    each_source_has_one_line_trigger, interrupts_are_triggered_as_their_overrides_say,
+    links_are_triggered_as_they_offer, the_bus_of_a_routing_table_is_told_by_its_objects,
+    the_device_of_each_pin_has_one_line_bus,
+};
 pub use notes::{
     machine_faults_are_answers_of_the_last_access, noting_changes_no_call,
     routing_faults_are_answers_of_the_last_access,
@@ -30,5 +39,6 @@ pub use reports::{
     the_lines_of_a_report_tell_of_their_accesses,
 };
 pub use worlds::{
-    a_machine_makes_of_its_world_what_evaluations_do, the_first_that_a_machine_passes_over_are_kept,
+    a_machine_makes_of_its_world_what_evaluations_do, a_run_changes_its_machine_by_evaluations,
+    the_first_that_a_machine_passes_over_are_kept,
 };

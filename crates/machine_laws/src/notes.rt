@@ -10,6 +10,7 @@ ghost use Rattle.aml_laws.specs.Noted.{WithNotes, noted, without_notes, TellsNot
 ghost use Rattle.acpi_resources.specs.Records.{InterruptOffer};
 ghost use Rattle.acpi_machine.specs.MachineStates.{MachineState};
 ghost use Rattle.acpi_machine.specs.Loading.{loaded_tables};
+ghost use Rattle.acpi_machine.specs.Buses.{bus_found};
 ghost use Rattle.acpi_machine.specs.Calls.{evaluated_object, initialized};
 ghost use Rattle.acpi_prt.specs.RoutingTables.{routing_table};
 ghost use Rattle.acpi_links.specs.Resources.{possible_resources, current_resources};
@@ -68,8 +69,8 @@ pub fn machine_faults_are_answers_of_the_last_access<S>()
 {}
 
 /// The same of a routing table, of what a link device may be set to, of what it is set to, of setting it, and of all
-/// that is gathered of a machine before its links are set.
-#[tactic(auto, using(crate::proofs::MachineNotes::notes_of_routing_table, crate::proofs::MachineNotes::notes_of_possible, crate::proofs::MachineNotes::notes_of_current, crate::proofs::MachineNotes::notes_of_setting, crate::proofs::MachineNotes::notes_of_gathering))]
+/// that is gathered of a machine before its links are set; and of the bus of a routing table, which a kernel asks for.
+#[tactic(auto, using(crate::proofs::MachineNotes::notes_of_routing_table, crate::proofs::MachineNotes::notes_of_possible, crate::proofs::MachineNotes::notes_of_current, crate::proofs::MachineNotes::notes_of_setting, crate::proofs::MachineNotes::notes_of_gathering, crate::proofs::FaultsOfBuses::notes_of_bus))]
 pub fn routing_faults_are_answers_of_the_last_access<S>()
     ensures routing_table { (accesses : Accesses S) (device : List Seg) (s : MachineState (WithNotes S)) →
         TellsNotes (routing_table (noted accesses) device s).0 s.world.space
@@ -87,4 +88,7 @@ pub fn routing_faults_are_answers_of_the_last_access<S>()
     ensures gathering { (accesses : Accesses S) (avoid : List ℕ) (s : MachineState (WithNotes S)) →
         TellsNotes (gathered (noted accesses) avoid s).0 s.world.space
         (gathered (noted accesses) avoid s).1.world.space }
+    ensures bus { (accesses : Accesses S) (device : List Seg) (s : MachineState (WithNotes S)) →
+        TellsNotes (bus_found (noted accesses) device s).0 s.world.space
+        (bus_found (noted accesses) device s).1.world.space }
 {}

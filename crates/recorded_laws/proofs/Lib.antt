@@ -1,6 +1,5 @@
 mod PlainReports
 mod TellingTogether
-mod BusesExplained
 mod BusesTold
 mod Parting
 mod Running

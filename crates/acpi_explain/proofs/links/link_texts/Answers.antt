@@ -4,7 +4,6 @@ use Rattle.acpi_explain.proofs.links.link_texts.Goals as goal
 pub returns : goal.returns
 returns g c = record {
   set = c.set_links.new.machine;
-  after = c.read_links.new.machine;
   sets = c.in_ok-text.text.items;
   reads = c.in_ok-reads.reads.items;
   are_set = c.in_ok-text.ensures;
