@@ -131,8 +131,9 @@ uint32_t acpiroute_eval(const uint8_t *options, size_t options_length, const uin
 /*
  * Tells why a machine text is refused: it makes the run of `acpiroute_route`, or, where the first of the options is "eval", as in
  * "eval \\_SB_.LNKA._PRS", that of `acpiroute_eval`, and the text says what ended it: the refusal, what was done then, the access of
- * a register that failed, and what to do. With "--registers" the text has the lines that the machine text lacks. The status is 0
- * where the text tells it, and 1 where the machine text itself is refused.
+ * a register that failed, and what to do; of a run that isn't refused, the links that are not set as they were to be, each with the
+ * same lines below it. With "--registers" the text has the lines that the machine text lacks. The status is 0 where the text tells it,
+ * and 1 where the machine text itself is refused.
  */
 uint32_t acpiroute_why(const uint8_t *options, size_t options_length, const uint8_t *machine, size_t machine_length,
                        uint8_t *text, size_t text_capacity, uint8_t *line, size_t line_capacity,

@@ -268,7 +268,7 @@ fn choice_texts<S: Space>(
 /// a dry run none has. `evaluation` is what the machine was loaded with: its steps and its profile stand in the lines.
 ///
 /// ```
-/// let mut machine = load_tables(alloc, tables, LastAccess::new(space), evaluation.steps, osi)?;
+/// // a machine that was loaded over a `LastAccess`
 /// machine.initialize(alloc, Mode::Apic)?;
 /// let lines = explain_links(alloc, &mut machine, &options, evaluation)?;
 /// ```

@@ -13,7 +13,7 @@ use Rattle.acpi_machine.specs.Calls.{initialized, evaluated_object}
 use Rattle.acpi_machine.specs.MachineStates.{MachineState, machine_of}
 use Rattle.acpi_configure.specs.Options.{RunOptions}
 use Rattle.route_report.specs.Reports.{RoutingReport}
-use Rattle.acpi_explain.specs.Ends.{IsRouteEnd}
+use Rattle.acpi_explain.specs.Ends.{IsRouteEnd, IsEvalEnd}
 use Rattle.acpi_explain.specs.declared.end.End.TheVariants as ended
 use Rattle.acpi_explain.specs.declared.told.Phase.{Phase}
 use Rattle.ar_tables.specs.declared.tables.Tables.{Tables}
@@ -47,6 +47,12 @@ module _ {S : Type 0} (accesses : Accesses S) (mode : Mode) where
       → (ready : MachineState S) × ((initialized accesses mode m ≡ (Ok tt, ready)) × ((value : A) × (f ready ≡ (Ok value, after)))) → started accesses mode (λ s. dropped (f s)) m ≡ (Ok tt, after)
   unfolding ◌>>=◌ go_on
   answered m after f h = rw h.1.0 (ap dropped h.1.1.1)
+
+  -- an evaluation has no report
+  pub evaluation_done : (path : List Seg) (arguments : List Given) (m after : MachineState S) (report : Option RoutingReport) → IsEvalEnd accesses mode path arguments m after (ended.Done report)
+      → (ready : MachineState S) × ((initialized accesses mode m ≡ (Ok tt, ready)) × ((value : Given) × (evaluated_object accesses path arguments ready ≡ (Ok value, after))))
+  evaluation_done path arguments m after (Some report) h = absurd h
+  evaluation_done path arguments m after None h = h
 
   pub unnamed : (m after : MachineState S) (x : Refusal) → Does (Ok tt) after (initialized accesses mode) m → started accesses mode (λ s. (Err x, s)) m ≡ (Err x, after)
   unfolding ◌>>=◌ go_on

@@ -10,6 +10,7 @@ use Rattle.aml_grammar.specs.declared.kinds.OperandKind.{OperandKind}
 use Rattle.aml_grammar.specs.declared.kinds.OperandKind.TheVariants as kinds
 use Rattle.aml_grammar.specs.declared.kinds.Row.{Row}
 use Rattle.aml_grammar.specs.declared.context.Earlier.{Earlier}
+use Rattle.aml_grammar.specs.Grammar.{scope_of}
 use Rattle.aml_grammar.specs.declared.arities.Arity.{Arity}
 use Rattle.aml_grammar.specs.Arities.{found, or_path, arity_of}
 use Rattle.aml_grammar.specs.DeclaredNames.{begins_outside}
@@ -17,10 +18,17 @@ use Rattle.aml_grammar.specs.Opcodes.{number_of}
 use Rattle.aml_grammar.specs.Table.{row_of}
 use Rattle.aml_grammar.specs.Tree.{Tree, term, Part, name, number, inner, list, Parts, no_parts, part, Trees, no_trees, tree}
 use Rattle.aml_grammar.specs.Shape.{trees_of}
-use Rattle.aml_grammar.specs.Grammar.{max_depth, scope_of, nothing_earlier}
 use Rattle.aml_scan.specs.Spelling.{Place, list_item, term_arg, data_object, package_element, super_name, field_element, Around, inside_loop, operand_kinds, may_have_else}
 
 -- ---- what is declared
+
+-- so many levels deep terms may be
+abbrev pub most_levels : ℕ
+most_levels = 64
+
+-- no operand is before
+abbrev pub nothing_before : Earlier
+nothing_before = record { path = None; count = 0 }
 
 -- a declaration counts for what follows, but not in a body
 abbrev pub declaring : Bool → List Seg → ℕ → Bool → List Arity → List Arity
@@ -52,7 +60,7 @@ unfoldable mutual
   -- So many levels are left for a term in a scope and a place, where these arities are known before it and those after it.
   pub Stands : ℕ → List Seg → Around → Place → Tree → List Arity → List Arity → Type 0
   Stands levels scope around place (term (codes.Opcode o) ps) known after =
-      (row : Row) × (row_of (number_of o) ≡ Some row) × (below : ℕ) × (levels ≡ cost row.1 place + below) × StandOperands below scope around (may_have_else o) (operand_kinds row.3) ps nothing_earlier known after
+      (row : Row) × (row_of (number_of o) ≡ Some row) × (below : ℕ) × (levels ≡ cost row.1 place + below) × StandOperands below scope around (may_have_else o) (operand_kinds row.3) ps nothing_before known after
   -- a name has as many arguments as it takes
   Stands levels scope around place (term codes.MethodInvocation (part (name n) (part (list ts) no_parts))) known after =
       (path : List Seg) × (resolved n scope ≡ Ok path) × (count_of ts ≡ arity_of known scope n path) × (below : ℕ) × (levels ≡ suc below) × StandAll below scope around term_arg ts known after
@@ -101,4 +109,4 @@ unfoldable mutual
 
 -- the trees of a whole list, of a table or of a body, may stand in a scope
 abbrev pub MayStand : List Seg → Bool → List Tree → List Arity → List Arity → Type 0
-MayStand scope body ts known after = StandAll max_depth scope (record { body = body; in_loop = false }) list_item (trees_of ts) known after
+MayStand scope body ts known after = StandAll most_levels scope (record { body = body; in_loop = false }) list_item (trees_of ts) known after

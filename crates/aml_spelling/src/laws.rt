@@ -20,9 +20,9 @@ ghost use Rattle.aml_spelling.specs.Faults.{AtPart, AtLength, AtResolved, AtDecl
 ghost use Rattle.aml_spelling.specs.Reach.{Stops, reach, Placed};
 ghost use Rattle.aml_spelling.specs.Stands.{MayStand};
 
-/// A list or a table is read as trees exactly if its bytes are a spelling of them and they may stand there: names
-/// resolve in their scopes, each name has as many arguments as it takes, with what is declared before it, and terms
-/// are at most 64 levels deep. The arities after a table are those that its trees declare.
+/// A list or a table is read as trees exactly if its bytes are a spelling of them and they may stand there: names that
+/// are called or declared, or that Scope, Alias or External gives, resolve in their scopes, each name that is called has
+/// as many arguments as it takes, with what is declared before it, and terms are at most 64 levels deep. The arities after a table are those that its trees declare.
 pub fn read_exactly_if_spelled()
     ensures list { (bs : List ℕ) (scope : List Seg) (body : Bool) (known : List Arity) (ts : List Tree) →
         Reads bs scope body known ts ↔ (IsSpelled body ts bs × (after : List Arity) ×

@@ -19,3 +19,5 @@ pub mod RunsWidened
 pub mod TextsWidened
 pub mod Bounding
 pub mod Watching
+mod SameMachine
+mod SameRun

@@ -1,5 +1,5 @@
 -- Runs over a space that keeps its last access, beside runs over the space below it.
-use Rattle.std.specs.Prelude.{◌≡◌, ℕ, List, Ok, Err, map, refl}
+use Rattle.std.specs.Prelude.{◌≡◌, ℕ, Bool, List, Ok, Err, refl}
 use Rattle.std.proofs.Common.{inl, inr, sym, subst, ap, ◌∙◌}
 use Rattle.ar_space.specs.Accesses.{Accesses}
 use Rattle.ar_space.specs.Change.{go_on, ◌>>=◌}
@@ -22,6 +22,11 @@ use Rattle.aml_laws.proofs.WorldsTogether.{world_over, worlds}
 use Rattle.machine_laws.proofs.MachineShapes.{machine_over, machines}
 use Rattle.machine_laws.proofs.MachinesTogether.{loaded_tables_together, initialized_together, evaluated_object_together}
 use Rattle.machine_laws.proofs.FoundTogether.{found_by_together}
+use Rattle.machine_laws.proofs.SettingsTogether.{settled_unless_together}
+use Rattle.acpi_links.specs.Links.{PresentLink}
+use Rattle.acpi_configure.specs.Settling.{settled_unless}
+use Rattle.recorded_laws.specs.Unwatched.{machine_below}
+use Rattle.recorded_laws.proofs.Parting.{Settled}
 
 module _ {S : Type 0} (accesses : Accesses S) where
   -- they never part
@@ -89,3 +94,20 @@ module _ {S : Type 0} (accesses : Accesses S) (q : Asking) (osi : List (List ℕ
       tables_same t before (loaded_over (watched accesses) q t osi before).0 (loaded_over (watched accesses) q t osi before).1
       (goes_from (watching accesses) worlds (loaded_over (watched accesses) q t osi before) (loaded_over accesses q t osi before.inner) ((one_profile (watching accesses) 0 (loaded_tables_together (alike (watching accesses)) (λ n. refl) t q.evaluation.steps osi)).goes (fresh_as q.evaluation.profile t.width osi before) before.inner refl))
   watched_run (Err e) before = (refl, refl)
+
+-- ---- links that are set and read
+
+module _ {S : Type 0} (accesses : Accesses S) (dry : Bool) (links : List PresentLink) (choice : List ℕ) where
+  abbrev SameMachine : Settled × MachineState (Watch S) → Settled × MachineState S → Type 0
+  SameMachine one other = (one.0 ≡ other.0) × (machine_below one.1 ≡ other.1)
+
+  settled_same : (p : Settled × MachineState (Watch S)) (q : Settled × MachineState S) → Goes (watching accesses) machines p q → SameMachine p q
+  unfolding watching
+  settled_same p q (inl parted) = absurd parted
+  settled_same p q (inr (u, same, j)) = (sym (ap (λ x. x.0) same), ap (λ t. machine_over p.1 t) j ∙ sym (ap (λ x. x.1) same))
+
+  pub watched_settings : (m : MachineState (Watch S)) → SameMachine (settled_unless (watched accesses) dry links choice m) (settled_unless accesses dry links choice (machine_below m))
+  unfolding watching
+  watched_settings m =
+      settled_same (settled_unless (watched accesses) dry links choice m) (settled_unless accesses dry links choice (machine_below m))
+      (goes_from (watching accesses) machines (settled_unless (watched accesses) dry links choice m) (settled_unless accesses dry links choice (machine_below m)) ((settled_unless_together {side = watching accesses} dry links choice).goes m m.world.space.inner refl))

@@ -3,3 +3,4 @@ pub mod Grown
 pub mod RunNotes
 pub mod StreamsTold
 pub mod Widened
+pub mod Unwatched
