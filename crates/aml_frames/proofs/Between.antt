@@ -1,9 +1,9 @@
 -- Places between two offsets, and the walks that stay between them.
-use Rattle.std.specs.Prelude.{◌≡◌, ℕ, ◌+◌, ◌-◌, ◌≤◌, zero, suc, List, [], ◌∷◌, length, take, drop, Bool, false, Option, refl}
+use Rattle.std.specs.Prelude.{◌≡◌, ℕ, ◌+◌, ◌-◌, ◌≤◌, ◌<◌, zero, suc, List, [], ◌∷◌, length, take, drop, min, slice_index_or, Bool, false, Option, refl}
 use Rattle.std.proofs.Common.{◌∙◌, sym, ap, subst, arith, length-drop}
 use Rattle.std.proofs.lemmas.List.{drop-drop, drop-take, take_min, take_rest, length-take}
 use Rattle.aml_grammar.specs.declared.kinds.Row.{Row}
-use Rattle.aml_marked.specs.Marked.{Place, Below, past, over, name_length, count_at, a_term, a_target, a_size, turns_of, with_row, maybe_else}
+use Rattle.aml_marked.specs.Marked.{Place, Below, past, over, first, name_length, count_at, a_term, a_target, a_size, turns_of, with_row, maybe_else}
 use Rattle.aml_marked.specs.Moving.{MovesOn}
 use Rattle.aml_marked.proofs.Onward.{moves_over, moves_on_term, moves_on_row, moves_on_target, moves_on_turns, moves_on_else, moves_on_size}
 use Rattle.aml_frames.specs.Places.{Site, Stands, place_between, end_of, at_place, terms, behind_term}
@@ -51,6 +51,43 @@ stands_taken bs p n h = subst (λ (r : List ℕ). take (length (take n r)) (drop
 pub whole_place : (c : Site) (n : ℕ) → n ≡ length c.bytes → at_place c (place_between c.bytes 0 n) ≡ at_place c (record { at = 0; rest = c.bytes })
 whole_place c n e = rw e (ap (λ (r : List ℕ). at_place c (record { at = 0; rest = r })) (take_rest c.bytes 0))
 
+-- ---- the first byte between two offsets, and so many bytes on, or to the end
+
+first_taken : (n : ℕ) (xs : List ℕ) → 0 < n → first (take n xs) ≡ first xs
+first_taken zero xs some = absurd (omega (arith, some))
+first_taken (suc n) [] some = refl
+first_taken (suc n) (x ∷ xs) some = refl
+
+first_dropped : (at : ℕ) (bs : List ℕ) → first (drop at bs) ≡ slice_index_or bs at 0
+first_dropped zero [] = refl
+first_dropped zero (b ∷ bs) = refl
+first_dropped (suc at) [] = refl
+first_dropped (suc at) (b ∷ bs) = first_dropped at bs
+
+none_taken : (n : ℕ) (xs : List ℕ) → n ≡ 0 → first (take n xs) ≡ 0
+none_taken zero xs e = refl
+none_taken (suc n) xs e = absurd (cc e)
+
+pub first_there : (bs : List ℕ) (at end : ℕ) → at < end → slice_index_or bs at 0 ≡ first (take (end - at) (drop at bs))
+first_there bs at end few = sym (first_taken (end - at) (drop at bs) (omega (arith, few)) ∙ first_dropped at bs)
+
+pub first_missing : (bs : List ℕ) (at end : ℕ) → end ≤ at → 0 ≡ first (take (end - at) (drop at bs))
+first_missing bs at end few = sym (none_taken (end - at) (drop at bs) (omega (arith, few)))
+
+taken_on : (bs : List ℕ) (at width k : ℕ) → k ≤ width → take (width - k) (drop (at + k) bs) ≡ drop k (take width (drop at bs))
+taken_on bs at width k few =
+    let all : k + (width - k) ≡ width = omega (arith, few) in
+    ap (take (width - k)) (sym (drop-drop k at bs)) ∙ sym (drop-take k (width - k) (drop at bs)) ∙ ap (λ j. drop k (take j (drop at bs))) all
+
+pub over_between : (bs : List ℕ) (at end n k : ℕ) → k ≡ min n (min end (length bs) - at) → place_between bs (at + k) end ≡ over n (place_between bs at end)
+over_between bs at end n k e =
+    let left : length (take (end - at) (drop at bs)) ≡ min (end - at) (length bs - at) = length-take (end - at) (drop at bs) ∙ ap (min (end - at)) (length-drop at bs) in
+    let few : k ≤ end - at = omega (arith, e) in
+    let same : k ≡ min n (length (take (end - at) (drop at bs))) = omega (arith, e, left) in
+    let rest : end - (at + k) ≡ end - at - k = omega arith in
+    let on = ap (λ j. take j (drop (at + k) bs)) rest ∙ taken_on bs at (end - at) k few in
+    ap (λ (r : List ℕ). record { at = at + k; rest = r }) on ∙ ap (λ j. past j (place_between bs at end)) same
+
 -- ---- walks that only go on
 
 pub moved_over : (c : Site) (at end n : ℕ) (p q : Place) → Stands c.bytes c.place → p ≡ c.place → q ≡ over n p → at ≡ q.at → end ≡ end_of q → at_place c (place_between c.bytes at end) ≡ at_place c (over n c.place)
@@ -93,4 +130,4 @@ behind_else_is bs at end o p q below h i j e f =
 pub term_taken : (count : ℕ → ℕ) (levels : ℕ) (element : Bool) (row : Option Row) (at end : ℕ) (bs : List ℕ) (o p q : Place) → Stands bs o → p ≡ o → MovesOn p q → at ≡ q.at → end ≡ end_of q → a_term count levels element p ≡ with_row (a_term count (levels - 1)) row q → a_term count levels element o ≡ with_row (a_term count (levels - 1)) row (place_between bs at end)
 term_taken count levels element row at end bs o p q h i m e f t = ap (a_term count levels element) (sym i) ∙ t ∙ ap (with_row (a_term count (levels - 1)) row) (sym (rw (e, f) (place_again bs q (stands_on bs o q h (rw (← i) m)))))
 
-pub ruleset moving = (stands_between, moved, moved_over, moved_name, moved_row, moved_term, moved_target, moved_turns, moved_else, opened, behind_package, behind_else_is, term_taken)
+pub ruleset moving = (first_there, first_missing, over_between, stands_between, moved, moved_over, moved_name, moved_row, moved_term, moved_target, moved_turns, moved_else, opened, behind_package, behind_else_is, term_taken)

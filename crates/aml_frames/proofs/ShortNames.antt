@@ -45,6 +45,7 @@ use Rattle.aml_meaning.specs.Fields.{field_value, field_stored}
 use Rattle.aml_meaning.specs.Stores.{stored}
 use Rattle.aml_meaning.specs.StoreTargets.{held_at, name_read, target_read}
 use Rattle.aml_meaning.specs.OperatorTerms.{counted_by}
+use Rattle.aml_meaning.specs.Mutexes.{acquired_at, given_back_at}
 use Rattle.aml_meaning.specs.TargetTerms.{target_named, part_target}
 use Rattle.aml_meaning.specs.FieldCalls.{asked, answer_within, called_at, stored_to}
 use Rattle.aml_meaning.specs.Invocations.{use_found}
@@ -58,7 +59,7 @@ use Rattle.aml_meaning.proofs.Uses.{found_is, used}
 use Rattle.aml_frames.specs.declared.uses.TargetUse.TheVariants as uses
 use Rattle.aml_frames.specs.Places.{Site, at_place, terms, behind_term}
 use Rattle.aml_frames.specs.Follow.{term_run}
-use Rattle.aml_frames.specs.Uses.{super, behind_target as behind_super_of, target_run, stored_at, counted_back}
+use Rattle.aml_frames.specs.Uses.{super, behind_target as behind_super_of, target_ends, target_run, stored_at, counted_back}
 use Rattle.aml_frames.specs.ShortNames.{IsSegmentAt, FindsAt, node_value, Reads, Puts}
 
 -- ---- a segment that stands next is a name
@@ -247,6 +248,10 @@ short_super below p s h = rw h.starts (ap (λ n. (name n, over (name_length p.re
 pub behind_target : {S : Type 0} {w : State S} {number : ℕ} (x c : Site) (levels : ℕ) → x ≡ at_place c (over 4 c.place) → FindsAt w c.scope c.place number → x ≡ behind_super_of (super levels) c
 behind_target x c levels e h = e ∙ ap (at_place c) (sym (ap (λ (x : Part × Place). x.1) (short_super (terms c levels) c.place h.segment h.stands)))
 
+-- a timeout stands behind the mutex of Acquire
+pub behind_acquired : {S : Type 0} {w : State S} {number : ℕ} (x y c : Site) (levels : ℕ) → y ≡ at_place c (over 4 c.place) → x ≡ at_place y (over 2 y.place) → FindsAt w c.scope c.place number → x ≡ target_ends (super levels) uses.Acquire c
+behind_acquired x y c levels e i h = i ∙ ap (λ (z : Site). at_place z (over 2 z.place)) (behind_target y c levels e h)
+
 module _ {S : Type 0} (ev : Task → Run S Flow) (scope : List Seg) (depth : ℕ) (below : Below) (p : Place) where
   named_target : {w : State S} (steps : ℕ) (s : Seg) (z : Part) (f : List Seg × Entry) → z ≡ name (segment_name s) → found w.names.map scope (segment_name s) ≡ Ok f → Does (Ok (targets.Name f.0)) (w, steps) (part_target ev scope depth z) (w, steps)
   unfolding part_target target_named path_found lift give ◌>>=◌ go_on
@@ -263,6 +268,12 @@ module _ {S : Type 0} (accesses : Accesses S) (ev : Task → Run S Flow) (c : Si
   pub put_refused : (v : Value) (x y : Refusal) → Puts accesses number v (Err x) w1 w → y ≡ x → Does (Err y) (w1, steps) (target_run accesses ev (super levels) (uses.Store v) c) (w, steps)
   unfolding stored_at
   put_refused v x y puts e = does_ok (part_target ev c.scope c.depth (a_super_name (terms c levels) c.place).0) _ (target_at_name ev c.scope c.depth (terms c levels) c.place steps h) (does_err {B = Flow} {r = Err y} (stored_to accesses ev c.depth (targets.Name h.node.0) v) _ (puts.is ev c.depth h.node steps h.is) (refl, e))
+
+  pub acquired_at_name : ((f : List Seg × Entry) → numbered number w.names.map ≡ Some f → Does (Ok tt) w1 (acquired_at (targets.Name f.0)) w) → Does (Ok (flow.Value (value.Integer 0))) (w1, steps) (target_run accesses ev (super levels) uses.Acquire c) (w, steps)
+  acquired_at_name i = does_ok (part_target ev c.scope c.depth (a_super_name (terms c levels) c.place).0) _ (target_at_name ev c.scope c.depth (terms c levels) c.place steps h) (lift_ok steps (acquired_at (targets.Name h.node.0)) _ (i h.node h.is) does_give)
+
+  pub released_at_name : ((f : List Seg × Entry) → numbered number w.names.map ≡ Some f → Does (Ok tt) w1 (given_back_at (targets.Name f.0)) w) → Does (Ok flow.Next) (w1, steps) (target_run accesses ev (super levels) uses.Release c) (w, steps)
+  released_at_name i = does_ok (part_target ev c.scope c.depth (a_super_name (terms c levels) c.place).0) _ (target_at_name ev c.scope c.depth (terms c levels) c.place steps h) (lift_ok steps (given_back_at (targets.Name h.node.0)) _ (i h.node h.is) does_give)
 
 module _ {S : Type 0} (accesses : Accesses S) (number : ℕ) (w w1 : State S) where
   pub puts_integer : (n : ℕ) → ((f : List Seg × Entry) → numbered number w.names.map ≡ Some f → Does (Ok store.Done) w1 (stored (targets.Name f.0) (value.Integer n)) w) → Puts accesses number (value.Integer n) (Ok tt) w1 w
@@ -315,3 +326,5 @@ counted_at_name accesses ev c levels k number w steps x n h is counts puts =
 pub ruleset short_values = (value_at_name, behind_value)
 
 pub ruleset short_targets = (behind_target, put_at_name, put_refused, counted_at_name)
+
+pub ruleset short_mutexes = (behind_target, behind_acquired, acquired_at_name, released_at_name)

@@ -5,16 +5,12 @@ use Rattle.ar_space.specs.Accesses.{Accesses}
 use Rattle.ar_space.specs.Outcome.{Outcome}
 use Rattle.ar_space.specs.Change.{Change, Does, give, settle, go_on, ◌>>=◌}
 use Rattle.aml_marked.specs.Marked.{first, over}
-use Rattle.aml_scan.specs.RowsAt.{row_at}
-use Rattle.aml_scan.specs.declared.row_places.RowPlace.{RowPlace}
 use Rattle.aml_objects.specs.declared.value.Value.{Value}
 use Rattle.aml_objects.specs.declared.value.Value.TheVariants as value
 use Rattle.aml_meaning.specs.declared.flow.Flow.{Flow}
 use Rattle.aml_meaning.specs.declared.flow.Flow.TheVariants as flow
 use Rattle.aml_meaning.specs.declared.store_target.StoreTarget.TheVariants as targets
-use Rattle.aml_meaning.specs.declared.term_kind.OperatorKind.{OperatorKind}
 use Rattle.aml_meaning.specs.declared.term_kind.OperatorKind.TheVariants as operators
-use Rattle.aml_meaning.specs.declared.term_kind.TermKind.TheVariants as kinds
 use Rattle.aml_meaning.specs.declared.term_kind.TwoOperands.{TwoOperands}
 use Rattle.aml_meaning.specs.declared.term_kind.Test.{Test}
 use Rattle.aml_meaning.specs.State.{State}
@@ -33,38 +29,36 @@ use Rattle.aml_frames.specs.declared.uses.SecondOperand.{SecondOperand}
 use Rattle.aml_frames.specs.declared.uses.TargetUse.TheVariants as uses
 use Rattle.aml_frames.specs.Places.{Site, at_place, terms, behind_term}
 use Rattle.aml_frames.specs.Uses.{optional, behind_target, target_run, used, stored_at, dyadic_by, dyadic_done, monadic_done}
-use Rattle.aml_frames.specs.Follow.{term_run, operator_run, behind_operator_at, behind_coded, next_run, resumed, Leads}
+use Rattle.aml_frames.specs.Follow.{term_run, operator_run, behind_operator_at, next_run, resumed, Leads}
 use Rattle.aml_frames.proofs.Knowing.{taken_known, leads_on}
-use Rattle.aml_frames.proofs.Stepping.{leads_value, leads_settled, stepping, coding}
-use Rattle.aml_frames.specs.Operands.{row_kind}
-use Rattle.aml_frames.proofs.RuleShapes.{behind_operator_is}
+use Rattle.aml_frames.proofs.Stepping.{leads_value, leads_settled}
 use Rattle.aml_frames.proofs.Targeting.{leads_nowhere, ends_nowhere}
-use Rattle.aml_frames.proofs.Using.{leads_two, leads_test, leads_not, beginning_terms}
+use Rattle.aml_frames.proofs.Using.{leads_two, leads_test, leads_not}
 
 module _ {S : Type 0} (ac : Accesses S) where
   -- two operands that are there, and what is done with them
-  second_known : (d e f : Site) (s1 s2 : State S × ℕ) (r : Outcome Next) (k : Dyadic) (levels x y : ℕ)
+  second_known : (d e f : Site) (s1 s2 s3 : State S × ℕ) (r : Outcome Next) (k : Dyadic) (levels x y : ℕ)
       → Does (Ok (flow.Value (value.Integer y))) s2 (term_run ac (meaning ac) d levels) s1 → e ≡ behind_term d levels
-      → Leads ac (meaning ac) r f s2 (dyadic_by ac (meaning ac) k levels (value.Integer x) (value.Integer y) e) s2
-      → Leads ac (meaning ac) r f s2 (resumed ac (meaning ac) (frames.First k levels) d (flow.Value (value.Integer x))) s1
-  second_known d e f s1 s2 r k levels x y h at l =
+      → Leads ac (meaning ac) r f s3 (dyadic_by ac (meaning ac) k levels (value.Integer x) (value.Integer y) e) s2
+      → Leads ac (meaning ac) r f s3 (resumed ac (meaning ac) (frames.First k levels) d (flow.Value (value.Integer x))) s1
+  second_known d e f s1 s2 s3 r k levels x y h at l =
       let o : SecondOperand = record { kind = k; levels = levels; first = value.Integer x } in
       let after = leads_settled (value.Integer y) (λ u. dyadic_done ac (meaning ac) o u e) l in
       leads_settled (value.Integer x) _ (leads_on (next.Term levels (frames.Second o)) d _ (taken_known d levels y (frames.Second o) h at after) (leads_value {c = d} {s = s1} levels (frames.Second o) (λ u. dyadic_done ac (meaning ac) o u (behind_term d levels)) refl))
 
-  first_known : (c d e f : Site) (s s1 s2 : State S × ℕ) (r : Outcome Next) (k : Dyadic) (levels x y : ℕ)
+  pub first_known : (c d e f : Site) (s s1 s2 s3 : State S × ℕ) (r : Outcome Next) (k : Dyadic) (levels x y : ℕ)
       → Does (Ok (flow.Value (value.Integer x))) s1 (term_run ac (meaning ac) c levels) s → d ≡ behind_term c levels
       → Does (Ok (flow.Value (value.Integer y))) s2 (term_run ac (meaning ac) d levels) s1 → e ≡ behind_term d levels
-      → Leads ac (meaning ac) r f s2 (dyadic_by ac (meaning ac) k levels (value.Integer x) (value.Integer y) e) s2
-      → Leads ac (meaning ac) r f s2 (next_run ac (meaning ac) (next.Term levels (frames.First k levels)) c) s
-  first_known c d e f s s1 s2 r k levels x y g there h at l = taken_known c levels x (frames.First k levels) g there (second_known d e f s1 s2 r k levels x y h at l)
+      → Leads ac (meaning ac) r f s3 (dyadic_by ac (meaning ac) k levels (value.Integer x) (value.Integer y) e) s2
+      → Leads ac (meaning ac) r f s3 (next_run ac (meaning ac) (next.Term levels (frames.First k levels)) c) s
+  first_known c d e f s s1 s2 s3 r k levels x y g there h at l = taken_known c levels x (frames.First k levels) g there (second_known d e f s1 s2 s3 r k levels x y h at l)
 
 -- what a rule over the world alone gives is handed on
 lifted : {S A : Type 0} {ac : Accesses S} {f : Site} {s : State S × ℕ} {r : Outcome Next} (a : A) (m : Change (State S) A) (k : A → Run S Flow) → Does (Ok a) s.0 m s.0 → Leads ac (meaning ac) r f s (k a) s → Leads ac (meaning ac) r f s (lift m >>= k) s
 unfolding lift ◌>>=◌ go_on
 lifted a m k h l = record { is = λ ne. rw (h.is tt) (l.is ne) }
 
-abbrev leaves : ℕ → Outcome Next
+abbrev pub leaves : ℕ → Outcome Next
 leaves n = Ok (next.Flow (flow.Value (value.Integer n)))
 
 module _ {S : Type 0} {ac : Accesses S} where
@@ -83,7 +77,7 @@ module _ {S : Type 0} {ac : Accesses S} where
       → Leads ac (meaning ac) (leaves n) f s2 (operator_run ac (meaning ac) (operators.Two k) c levels) s
   two_leads {f = f} {s = s} {s1 = s1} {s2 = s2} c d e k levels x y n g there h at null is =
       leads_on (next.Term levels (frames.First (dyadic.Two k) levels)) c _
-      (first_known ac c d e f s s1 s2 (leaves n) (dyadic.Two k) levels x y g there h at (lifted (value.Integer n) _ _ is (leads_nowhere e levels (uses.Store (value.Integer n)) null (stored_nowhere _ n))))
+      (first_known ac c d e f s s1 s2 s2 (leaves n) (dyadic.Two k) levels x y g there h at (lifted (value.Integer n) _ _ is (leads_nowhere e levels (uses.Store (value.Integer n)) null (stored_nowhere _ n))))
       (leads_two levels k)
 
   pub test_leads : {f : Site} {s s1 s2 : State S × ℕ} (c d e : Site) (k : Test) (levels x y n : ℕ)
@@ -93,7 +87,7 @@ module _ {S : Type 0} {ac : Accesses S} where
       → Leads ac (meaning ac) (leaves n) f s2 (operator_run ac (meaning ac) (operators.Test k) c levels) s
   test_leads {f = f} {s = s} {s1 = s1} {s2 = s2} c d e k levels x y n g there h at is =
       leads_on (next.Term levels (frames.First (dyadic.Test k) levels)) c _
-      (first_known ac c d e f s s1 s2 (leaves n) (dyadic.Test k) levels x y g there h at (lifted (value.Integer n) _ _ is (left n)))
+      (first_known ac c d e f s s1 s2 s2 (leaves n) (dyadic.Test k) levels x y g there h at (lifted (value.Integer n) _ _ is (left n)))
       (leads_test levels k)
 
   pub not_leads : {f : Site} {s s1 : State S × ℕ} (c d : Site) (levels x n : ℕ)
@@ -116,11 +110,6 @@ module _ {S : Type 0} {ac : Accesses S} where
 pub behind_known : (c d e x : Site) (k : TwoOperands) (levels : ℕ) → d ≡ behind_term c levels → e ≡ behind_term d levels → first e.place.rest ≡ 0 → x ≡ at_place e (over 1 e.place) → x ≡ behind_operator_at (operators.Two k) c levels
 behind_known c d e x k levels at there null h = ends_nowhere e levels (uses.Store (value.Integer 0)) x null h ∙ ap (behind_target (optional levels)) (there ∙ ap (λ y. behind_term y levels) at)
 
-pub behind_by_row : (x c : Site) (levels : ℕ) (k : OperatorKind) (o : RowPlace) → row_kind (row_at o) ≡ kinds.Operator k → x ≡ behind_operator_at k c levels → x ≡ behind_coded o c levels
-behind_by_row x c levels k o h l = l ∙ ap (at_place c) (sym (behind_operator_is (terms c levels) k o c.place h))
-
 pub ruleset integers = (two_leads, test_leads, not_leads, behind_known)
-
-pub ruleset operations = (beginning_terms, coding, behind_by_row)
 
 pub ruleset giving = (done_leads)

@@ -68,7 +68,7 @@ not_true : (x : Bool) → not x ≡ true → x ≡ false
 not_true true e = absurd (cc e)
 not_true false e = refl
 
-alone : (x y : Bool) (r : Option Row) → unless x y r ≢ None → (x ≡ false) × ((y ≡ false) × (unless x y r ≡ r))
+pub alone : (x y : Bool) (r : Option Row) → unless x y r ≢ None → (x ≡ false) × ((y ≡ false) × (unless x y r ≡ r))
 alone true y r e = absurd (e refl)
 alone false true r e = absurd (e refl)
 alone false false r e = (refl, (refl, refl))
@@ -85,7 +85,7 @@ number_some : (r : Option Row) → is_number r ≡ true → r ≢ None
 number_some None e h = absurd (cc e)
 number_some (Some row) e h = absurd (cc h)
 
-alone_term : (count : ℕ → ℕ) (levels : ℕ) (p : Place) → 0 < levels → row_alone (first p.rest) ≢ None → a_term count levels false p ≡ with_row (a_term count (levels - 1)) (row_alone (first p.rest)) (over 1 p)
+pub alone_term : (count : ℕ → ℕ) (levels : ℕ) (p : Place) → 0 < levels → row_alone (first p.rest) ≢ None → a_term count levels false p ≡ with_row (a_term count (levels - 1)) (row_alone (first p.rest)) (over 1 p)
 alone_term count levels p lt some =
     let x = alone (first p.rest == 0x5B) (starts_name (first p.rest)) (row_of (first p.rest)) some in
     some_levels count levels false p lt ∙ coded_in (a_term count (levels - 1)) count false p x.0 x.1.0 ∙ ap (λ r. with_row (a_term count (levels - 1)) r (over 1 p)) (sym x.1.1)

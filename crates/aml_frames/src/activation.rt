@@ -60,6 +60,21 @@ pub(crate) fn between(bytes: &[u8], at: usize, end: usize) -> &[u8]
     &bytes[first..last]
 }
 
+/// The first of the bytes between two offsets; zero where there are none.
+#[inline(always)]
+#[tactic(auto, using(crate::proofs::Between::moving))]
+fn first_between(bytes: &[u8], at: usize, end: usize) -> u8
+    ensures { result ≡ first (take (end - at) (drop at bytes.now)) }
+{
+    if at >= end {
+        return 0;
+    }
+    match bytes.get(at) {
+        None => 0,
+        Some(byte) => *byte,
+    }
+}
+
 impl Activation {
     /// A list of bytes with its marks, at its first byte. `node` is where the scope is looked for first.
     #[tactic(auto, using(crate::proofs::Between::whole_place))]
@@ -288,7 +303,7 @@ impl Activation {
     pub fn first(&self) -> u8
         ensures { result ≡ first self.now.place.rest }
     {
-        self.cursor().first()
+        first_between(self.bytes.as_slice(), self.position.at, self.position.end)
     }
 
     /// Whether this byte stands next.
@@ -305,10 +320,8 @@ impl Activation {
     pub fn over(&mut self, count: usize)
         ensures { self.new ≡ at_place self.old (over count self.old.place) }
     {
-        let mut cursor = self.cursor();
-        cursor.over(count);
-        let position = position_of(&cursor);
-        self.go_to(position);
+        let end = self.position.end.min(self.bytes.as_slice().len());
+        self.position.at += count.min(end.saturating_sub(self.position.at));
     }
 
     /// Goes over the name that stands next.

@@ -8,14 +8,16 @@ ghost use Rattle.aml_frames.specs.declared.frames.Frame.TheVariants as frames;
 ghost use Rattle.aml_frames.specs.declared.frames.Next.TheVariants as next;
 ghost use Rattle.aml_frames.specs.Follow.{operator_run, behind_operator_at, resumed, ends, next_run, next_ends, Leads};
 ghost use Rattle.aml_frames.specs.Follow.{EndsAt};
-ghost use Rattle.aml_frames.specs.Uses.{held_given, monadic_done, monadic_ends, dyadic_done, dyadic_ends};
-ghost use Rattle.aml_frames.specs.Weights.{most, weight, next_weight};
+ghost use Rattle.aml_frames.specs.declared.uses.TargetUse.TheVariants as uses;
+ghost use Rattle.aml_frames.specs.Uses.{super, target_ends, target_run, held_given, monadic_done, monadic_ends, dyadic_done, dyadic_ends};
+ghost use Rattle.aml_frames.specs.Weights.{most, weight, next_weight, target_weight};
 
 use crate::accesses::begin_read;
 use crate::activation::Activation;
 use crate::frames::{Frame, Next, leave};
 use crate::known::known_integer;
 use crate::references::{begin_conditional, begin_inquiry};
+use crate::short_names::acquire_at_name;
 use crate::targets::begin_target;
 use crate::uses::{Dyadic, Inquiry, Monadic, Reading, SecondOperand, Target, TargetUse};
 use aml_meaning::{Flow, Held, OperatorKind, Running, reference_in};
@@ -55,11 +57,37 @@ pub fn begin_operator<S: Space>(
         OperatorKind::Count(count) => begin_target(alloc, run, act, name, TargetUse::Count(count)),
         OperatorKind::SizeOf => begin_inquiry(alloc, run, act, levels, Inquiry::SizeOf),
         OperatorKind::ObjectType => begin_inquiry(alloc, run, act, levels, Inquiry::ObjectType),
-        OperatorKind::Acquire => begin_target(alloc, run, act, name, TargetUse::Acquire),
+        OperatorKind::Acquire => begin_acquire(alloc, run, act, levels),
         OperatorKind::RefOf => begin_target(alloc, run, act, name, TargetUse::RefOf),
         OperatorKind::CondRefOf => begin_conditional(alloc, run, act, levels),
         OperatorKind::DerefOf => begin_monadic(alloc, run, act, Monadic::DerefOf, levels),
     }
+}
+
+/// Acquire: a mutex that a name of one segment names is acquired at once.
+#[tactic(auto, using(crate::proofs::Knowing::knowing))]
+fn begin_acquire<S: Space>(
+    alloc: Global,
+    run: &mut Running<S>,
+    act: &mut Activation,
+    levels: u8,
+) -> Result<Next, Refusal>
+    ensures spent { run.new.1 ≤ run.old.1 }
+    ensures few { IfOk result (λ n. next_weight n ≤ target_weight uses.Acquire) }
+    ensures means { Leads S.accesses (meaning S.accesses) result act.new run.new
+        (target_run S.accesses (meaning S.accesses) (super levels) uses.Acquire act.old) run.old }
+    ensures ends { EndsAt result act.new (target_ends (super levels) uses.Acquire act.old) }
+{
+    if acquire_at_name(run, act, levels) {
+        return Ok(Next::Flow(Flow::Value(Value::Integer(0))));
+    }
+    begin_target(
+        alloc,
+        run,
+        act,
+        Target::super_name(levels),
+        TargetUse::Acquire,
+    )
 }
 
 /// An operator with one operand: an integer that is there already is used at once.

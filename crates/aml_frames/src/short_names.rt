@@ -13,7 +13,7 @@ ghost use Rattle.aml_frames.specs.declared.uses.TargetUse.TheVariants as uses;
 ghost use Rattle.aml_frames.specs.Follow.{term_run};
 ghost use Rattle.aml_frames.specs.Places.{behind_term};
 ghost use Rattle.aml_frames.specs.ShortNames.{IsSegmentAt, FindsAt, Reads, Puts};
-ghost use Rattle.aml_frames.specs.Uses.{super, behind_target, target_run};
+ghost use Rattle.aml_frames.specs.Uses.{super, behind_target, target_ends, target_run};
 
 use crate::activation::Activation;
 use aml_meaning::{Count, Running, WorldState};
@@ -23,6 +23,9 @@ use ar_space::{Refusal, Space};
 
 /// How many bytes a name of one segment takes.
 const SEGMENT_LENGTH: usize = 4;
+
+/// How many bytes the timeout of Acquire takes.
+const TIMEOUT_LENGTH: usize = 2;
 
 /// The segment of the name that begins here, where it is one segment without a prefix.
 fn one_segment(act: &Activation) -> Option<Seg>
@@ -202,4 +205,55 @@ pub(crate) fn count_at_name<S: Space>(
     }
     act.over(SEGMENT_LENGTH);
     Some(number)
+}
+
+/// Acquires the mutex that the name of one segment names which stands next, and goes over the timeout behind it. Where
+/// it names none, or one that is acquired as often as can be counted, it answers no, and nothing changes.
+#[tactic(auto, using(crate::proofs::ShortNames::short_mutexes))]
+pub(crate) fn acquire_at_name<S: Space>(
+    run: &mut Running<S>,
+    act: &mut Activation,
+    levels: u8,
+) -> bool
+    ensures done { result ≡ true → Does (Ok (flows.Value (values.Integer 0))) run.new
+        (target_run S.accesses (meaning S.accesses) (super levels) uses.Acquire act.old) run.old }
+    ensures spent { run.new.1 ≤ run.old.1 }
+    ensures behind { result ≡ true → act.new ≡ target_ends (super levels) uses.Acquire act.old }
+    ensures none { result ≡ false → run.new ≡ run.old }
+    ensures stays { result ≡ false → act.new ≡ act.old }
+{
+    let Some(id) = node_at(&run.world, act) else {
+        return false;
+    };
+    if !run.world.acquire_node(id) {
+        return false;
+    }
+    act.over(SEGMENT_LENGTH);
+    act.over(TIMEOUT_LENGTH);
+    true
+}
+
+/// Releases the mutex that the name of one segment names which stands next. Where it names none, or one that nobody
+/// has acquired, it answers no, and nothing changes.
+#[tactic(auto, using(crate::proofs::ShortNames::short_mutexes))]
+pub(crate) fn release_at_name<S: Space>(
+    run: &mut Running<S>,
+    act: &mut Activation,
+    levels: u8,
+) -> bool
+    ensures done { result ≡ true → Does (Ok flows.Next) run.new
+        (target_run S.accesses (meaning S.accesses) (super levels) uses.Release act.old) run.old }
+    ensures spent { run.new.1 ≤ run.old.1 }
+    ensures behind { result ≡ true → act.new ≡ target_ends (super levels) uses.Release act.old }
+    ensures none { result ≡ false → run.new ≡ run.old }
+    ensures stays { result ≡ false → act.new ≡ act.old }
+{
+    let Some(id) = node_at(&run.world, act) else {
+        return false;
+    };
+    if !run.world.release_node(id) {
+        return false;
+    }
+    act.over(SEGMENT_LENGTH);
+    true
 }

@@ -10,15 +10,14 @@ ghost use Rattle.aml_meaning.specs.declared.term_kind.OperatorKind.TheVariants a
 ghost use Rattle.aml_meaning.specs.declared.term_kind.TwoOperands.TheVariants as two;
 ghost use Rattle.aml_meaning.specs.Meaning.{meaning};
 ghost use Rattle.aml_frames.specs.declared.frames.Next.TheVariants as next;
-ghost use Rattle.aml_frames.specs.Follow.{term_run, begun_run, coded_run, operator_run, behind_coded};
-ghost use Rattle.aml_frames.specs.Follow.{behind_operator_at, Leads};
+ghost use Rattle.aml_frames.specs.Follow.{term_run, operator_run, behind_operator_at, Leads};
 ghost use Rattle.aml_frames.specs.Places.{at_place, behind_term};
 
 use crate::activation::Activation;
-use crate::short_terms::{short_integer, take_step};
+use crate::short_operators::take_operator;
+use crate::short_terms::short_integer;
 use aml_convert::BinaryOperator;
-use aml_meaning::{OperatorKind, Running, TermKind, Test, TwoOperands, kind_of};
-use aml_terms::RowPlace;
+use aml_meaning::{OperatorKind, Running, Test, TwoOperands};
 use ar_space::Space;
 
 /// The integer that an operator gives which stands next, where its operands are there already and it has no target.
@@ -32,6 +31,7 @@ pub(crate) fn operation_integer<S: Space>(
     ensures integer { IfSome result (λ n. Does (Ok (flows.Value (values.Integer n))) run.new
         (term_run S.accesses (meaning S.accesses) act.old levels) run.old) }
     ensures behind { IfSome result (λ n. act.new ≡ behind_term act.old levels) }
+    ensures kept { run.new.0 ≡ run.old.0 }
     ensures paid { IfSome result (λ n. run.new.1 < run.old.1) }
     ensures none { result ≡ None → run.new ≡ run.old }
     ensures stays { result ≡ None → act.new ≡ act.old }
@@ -50,7 +50,7 @@ pub(crate) fn operation_integer<S: Space>(
 
 /// The same, but that steps may be taken and evaluation may have gone on where it doesn't answer.
 #[inline(always)]
-#[tactic(auto, using(crate::proofs::ShortOperations::operations), unfolding(aml_meaning::specs::Evaluation::rule))]
+#[tactic(auto, using(crate::proofs::ShortOperators::begun))]
 fn operation<S: Space>(run: &mut Running<S>, act: &mut Activation, levels: u8) -> Option<u64>
     ensures integer { IfSome result (λ n. Leads S.accesses (meaning S.accesses)
         (Ok (next.Flow (flows.Value (values.Integer n)))) act.new run.new
@@ -60,59 +60,12 @@ fn operation<S: Space>(run: &mut Running<S>, act: &mut Activation, levels: u8) -
     ensures kept { run.new.0 ≡ run.old.0 }
     ensures moves { act.new ≡ at_place act.old act.new.place }
 {
-    if !take_step(run) {
-        return None;
-    }
-    match paid_operation(run, act, levels) {
-        Some(number) => Some(number),
-        None => None,
-    }
-}
-
-/// The same of a term whose step is paid.
-#[inline(always)]
-#[tactic(auto, using(crate::proofs::ShortOperations::operations))]
-fn paid_operation<S: Space>(run: &mut Running<S>, act: &mut Activation, levels: u8) -> Option<u64>
-    ensures integer { IfSome result (λ n. Leads S.accesses (meaning S.accesses)
-        (Ok (next.Flow (flows.Value (values.Integer n)))) act.new run.new
-        (begun_run S.accesses (meaning S.accesses) act.old levels) run.old) }
-    ensures behind { IfSome result (λ n. act.new ≡ behind_term act.old levels) }
-    ensures spent { run.new.1 ≤ run.old.1 }
-    ensures kept { run.new.0 ≡ run.old.0 }
-    ensures moves { act.new ≡ at_place act.old act.new.place }
-{
-    let Some(place) = act.take_opcode(levels) else {
+    let Some(kind) = take_operator(run, act, levels) else {
         return None;
     };
-    match coded_operation(run, act, levels - 1, place) {
+    match operator_integer(run, act, levels - 1, kind) {
         Some(number) => Some(number),
         None => None,
-    }
-}
-
-/// The same of a term whose opcode was read, by the place of its row.
-#[inline(always)]
-#[tactic(auto, using(crate::proofs::ShortOperations::operations))]
-fn coded_operation<S: Space>(
-    run: &mut Running<S>,
-    act: &mut Activation,
-    levels: u8,
-    place: RowPlace,
-) -> Option<u64>
-    ensures integer { IfSome result (λ n. Leads S.accesses (meaning S.accesses)
-        (Ok (next.Flow (flows.Value (values.Integer n)))) act.new run.new
-        (coded_run S.accesses (meaning S.accesses) place act.old levels) run.old) }
-    ensures behind { IfSome result (λ n. act.new ≡ behind_coded place act.old levels) }
-    ensures spent { run.new.1 ≤ run.old.1 }
-    ensures kept { run.new.0 ≡ run.old.0 }
-    ensures moves { act.new ≡ at_place act.old act.new.place }
-{
-    match kind_of(place.row().0) {
-        TermKind::Operator(kind) => match operator_integer(run, act, levels, kind) {
-            Some(number) => Some(number),
-            None => None,
-        },
-        _ => None,
     }
 }
 

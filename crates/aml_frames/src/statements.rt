@@ -12,13 +12,16 @@ ghost use Rattle.aml_frames.specs.declared.frames.Next.TheVariants as next;
 ghost use Rattle.aml_frames.specs.Places.{at_place, terms};
 ghost use Rattle.aml_frames.specs.Follow.{behind_else, statement_run, branch_at, behind_statement_at, next_run};
 ghost use Rattle.aml_frames.specs.Follow.{next_ends, Leads, EndsAt};
-ghost use Rattle.aml_frames.specs.Weights.{most, next_weight};
+ghost use Rattle.aml_frames.specs.declared.uses.TargetUse.TheVariants as uses;
+ghost use Rattle.aml_frames.specs.Uses.{super, target_ends, target_run};
+ghost use Rattle.aml_frames.specs.Weights.{most, next_weight, target_weight};
 
 use crate::activation::Activation;
 use crate::frames::{Frame, Loop, Next, leave};
 use crate::known::known_integer;
 use crate::position::Position;
 use crate::resuming::begin_predicate;
+use crate::short_names::release_at_name;
 use crate::targets::begin_target;
 use crate::uses::{Target, TargetUse};
 use aml_convert::is_true;
@@ -52,15 +55,7 @@ pub fn begin_statement<S: Space>(
         StatementKind::Continue => leave(Flow::Continue),
         StatementKind::Noop => leave(Flow::Next),
         StatementKind::Return => begin_return(run, act, levels),
-        StatementKind::Release => {
-            begin_target(
-                alloc,
-                run,
-                act,
-                Target::super_name(levels),
-                TargetUse::Release,
-            )
-        }
+        StatementKind::Release => begin_release(alloc, run, act, levels),
         StatementKind::Notify => {
             begin_target(
                 alloc,
@@ -73,6 +68,32 @@ pub fn begin_statement<S: Space>(
         StatementKind::Pause => begin_pause(run, act, levels),
         StatementKind::Fatal => begin_fatal(run, act, levels),
     }
+}
+
+/// Release: a mutex that a name of one segment names is released at once.
+#[tactic(auto, using(crate::proofs::Knowing::knowing))]
+fn begin_release<S: Space>(
+    alloc: Global,
+    run: &mut Running<S>,
+    act: &mut Activation,
+    levels: u8,
+) -> Result<Next, Refusal>
+    ensures spent { run.new.1 ≤ run.old.1 }
+    ensures few { IfOk result (λ n. next_weight n ≤ target_weight uses.Release) }
+    ensures means { Leads S.accesses (meaning S.accesses) result act.new run.new
+        (target_run S.accesses (meaning S.accesses) (super levels) uses.Release act.old) run.old }
+    ensures ends { EndsAt result act.new (target_ends (super levels) uses.Release act.old) }
+{
+    if release_at_name(run, act, levels) {
+        return Ok(Next::Flow(Flow::Next));
+    }
+    begin_target(
+        alloc,
+        run,
+        act,
+        Target::super_name(levels),
+        TargetUse::Release,
+    )
 }
 
 /// Return: its argument is evaluated, or it is there already.
