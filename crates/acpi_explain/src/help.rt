@@ -324,8 +324,8 @@ fn core_help(number: u8) -> Help
     }
 }
 
-/// What to do where a run in the wide profile was refused by a number for which it has more to say than the core one, or
-/// for which the core one's help advises that profile.
+/// What to do where a run in the wide profile was refused by a number for which it has more to say than the core one,
+/// or for which the core one's help advises that profile.
 fn wide_help(number: u8) -> Option<&'static str> {
     match number {
         60 => Some("look at the control method: it declares a name that stands already"),

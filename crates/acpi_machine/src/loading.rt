@@ -48,8 +48,8 @@ pub fn load_tables<S: Space>(
     load_tables_as(alloc, Profile::Core, tables, space, steps, osi)
 }
 
-/// As `load_tables`, with the AML evaluated in this profile, which `Machine::profile` shows and nothing changes. It also
-/// decides about exclusive offers and about a `_HID` that is a control method.
+/// As `load_tables`, with the AML evaluated in this profile, which `Machine::profile` shows and nothing changes. It
+/// also decides about exclusive offers and about a `_HID` that is a control method.
 pub fn load_tables_as<S: Space>(
     alloc: Global,
     profile: Profile,
@@ -78,8 +78,8 @@ pub fn load_tables_as<S: Space>(
     }
 }
 
-/// As `load_tables_as`. Where a table is refused it also gives what `Machine::trace` would tell of it, and what was passed
-/// over before.
+/// As `load_tables_as`. Where a table is refused it also gives what `Machine::trace` would tell of it, and what was
+/// passed over before.
 pub fn load_tables_traced<S: Space>(
     alloc: Global,
     profile: Profile,

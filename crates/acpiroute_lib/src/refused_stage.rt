@@ -139,8 +139,8 @@ fn object_of<S: Space + Drop>(
     }
 }
 
-/// The routing table or the object of a link that is refused, where the machine is to be routed and these interrupts are
-/// avoided.
+/// The routing table or the object of a link that is refused, where the machine is to be routed and these interrupts
+/// are avoided.
 fn object_stage<S: Space + Drop>(
     alloc: Global,
     asking: &Asking,

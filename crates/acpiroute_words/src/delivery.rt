@@ -70,8 +70,8 @@ fn line_behind(alloc: Global, passed: &[u8], refusal: &Refusal) -> Result<Vec<u8
     Ok(lines)
 }
 
-/// Delivers an answer, and what was passed over, in its lines; or the line of a refusal behind these and nothing else. The
-/// lines are made whole before their first byte goes out; where memory runs out for them, the line is that of
+/// Delivers an answer, and what was passed over, in its lines; or the line of a refusal behind these and nothing
+/// else. The lines are made whole before their first byte goes out; where memory runs out for them, the line is that of
 /// `OutOfMemory`.
 pub fn deliver_outcome<W: Sink, E: Sink>(
     alloc: Global,

@@ -13,8 +13,8 @@ pub struct Evaluation {
     pub profile: Profile,
     /// The budget of steps for each table and each evaluation, from 1 to 1,000,000,000.
     pub steps: u64,
-    /// How many accesses of registers are made in all, each further one being refused as `Device`; all of them where this
-    /// is none.
+    /// How many accesses of registers are made in all, each further one being refused as `Device`; all of them where
+    /// this is none.
     pub accesses: Option<u64>,
 }
 

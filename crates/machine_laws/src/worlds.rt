@@ -59,9 +59,9 @@ pub fn the_first_that_a_machine_passes_over_are_kept<S>()
 
 /// What a routing table, what a link device may be set to, what it is set to, setting it, all that is gathered and a
 /// report of a machine make of it: evaluations change its world, one after another, and its tables, its mode, the steps
-/// of an evaluation and whether it is spent stay. So the laws of evaluations speak of whole runs, but for the buses that
-/// a kernel asks for. A call that keeps a mode of its own, or tells of other tables than those of the machine, is refused
-/// by this.
+/// of an evaluation and whether it is spent stay. So the laws of evaluations speak of whole runs, but for the buses
+/// that a kernel asks for. A call that keeps a mode of its own, or tells of other tables than those of the machine,
+/// is refused by this.
 pub fn a_run_changes_its_machine_by_evaluations<S>()
     ensures routing_table { (accesses : Accesses S) (device : List Seg) (m : MachineState S) →
         OnlyEvaluated accesses m (routing_table accesses device m).1 }
