@@ -8,7 +8,6 @@ import os
 import re
 import shutil
 
-from try_edits import module_of
 
 HEAD = re.compile(r"^( *)(?:pub(?:\([a-z]+\))? )?(?:const )?fn (\w+)")
 BLOCK = re.compile(r"(?:pub(?:\([a-z]+\))? )?(?:impl|trait)\b")
