@@ -80,7 +80,7 @@ module _ {S : Type 0} where
     pub read : (body_terms p body w).0 ≡ Ok terms
     pub opens : opened (frame_arguments arguments) w ≡ (Ok n, after)
 
-  begins : (depth : ℕ) (p : List Seg) (body : List ℕ) (arguments : List Value) (w after : State S) (n : ℕ) → body_frame depth p body arguments w ≡ (Ok n, after) → Begins depth p body arguments w after n
+  pub begins : (depth : ℕ) (p : List Seg) (body : List ℕ) (arguments : List Value) (w after : State S) (n : ℕ) → body_frame depth p body arguments w ≡ (Ok n, after) → Begins depth p body arguments w after n
   unfolding body_frame body_terms
   begins depth p body arguments w after n e =
       let one = steps (settle (shallow depth)) _ w n after e in
