@@ -14,6 +14,7 @@ use crate::activation::Activation;
 use crate::addresses::PciAccess;
 use crate::boxed::Boxed;
 use crate::frames::{Call, Callee, Frame, Next};
+use crate::known::known_integer;
 use crate::position::MethodPath;
 use crate::tracing::told_path;
 use aml_meaning::{Flow, Running};
@@ -39,11 +40,18 @@ pub fn begin_call<S: Space>(
         (arguments_left S.accesses (meaning S.accesses) call call.done.items act.old) run.old }
     ensures ends { EndsAt result act.new (behind_arguments call act.old) }
 {
-    if call.get().left == 0 {
-        return begin_callee(alloc, run, act, call.into_inner());
+    let mut call = call;
+    'arguments: while call.get().left > 0 {
+        let levels = call.get().levels;
+        match known_integer(run, act, levels)? {
+            None => return Ok(Next::Term(levels, Frame::Argument(one_fewer(call)))),
+            Some(number) => {
+                call.inside.left -= 1;
+                call.inside.done.push(Value::Integer(number))?;
+            }
+        }
     }
-    let levels = call.get().levels;
-    Ok(Next::Term(levels, Frame::Argument(one_fewer(call))))
+    begin_callee(alloc, run, act, call.into_inner())
 }
 
 /// The same call, of which one argument fewer is left.

@@ -3,6 +3,7 @@ ghost use Rattle.std.specs.Prelude.{◌≡◌, ◌≤◌, ◌<◌, ◌+◌, Ok, 
 ghost use Rattle.ar_space.specs.Outcome.{NotMemory};
 ghost use Rattle.aml_meaning.specs.Meaning.{meaning};
 ghost use Rattle.aml_frames.specs.declared.frames.Frame.TheVariants as frames;
+ghost use Rattle.aml_frames.specs.declared.frames.Loop.{Loop};
 ghost use Rattle.aml_frames.specs.declared.frames.Next.TheVariants as next;
 ghost use Rattle.aml_frames.specs.Follow.{at_position, turn_left, resumed, ends, next_run, next_ends, Leads, EndsAt};
 ghost use Rattle.aml_frames.specs.Weights.{weight, next_weight, charged};
@@ -106,6 +107,7 @@ fn resume_predicate<S: Space>(
 #[tactic(auto, using(crate::proofs::Stepping::looping))]
 fn next_turn<S: Space>(run: &Running<S>, act: &mut Activation, turn: Loop, holds: bool) -> Next
     ensures falls { next_weight result < 6 }
+    ensures same { (again : Loop) → result ≡ next.Turn again → again ≡ turn }
     ensures means { Leads S.accesses (meaning S.accesses) (Ok result) act.new run.now
         (turn_left S.accesses (meaning S.accesses) turn act.old holds) run.now }
     ensures ends { next_ends result act.new ≡ at_position act.old turn.outer }
@@ -129,6 +131,7 @@ pub(crate) fn begin_predicate<S: Space>(
     ensures spent { run.new.1 ≤ run.old.1 }
     ensures few { IfOk result (λ n. next_weight n < 6) }
     ensures falls { IfOk result (λ n. charged run.new.1 + next_weight n < charged run.old.1 + 4) }
+    ensures same { IfOk result (λ n. (again : Loop) → n ≡ next.Turn again → again ≡ turn) }
     ensures memory { NotMemory result }
     ensures means { Leads S.accesses (meaning S.accesses) result act.new run.new
         (next_run S.accesses (meaning S.accesses) (next.Term turn.levels (frames.Predicate turn)) act.old) run.old }
@@ -142,13 +145,14 @@ pub(crate) fn begin_predicate<S: Space>(
 
 /// A turn of a While is done.
 #[tactic(auto, using(crate::proofs::Stepping::looping, crate::proofs::Knowing::going_on))]
-fn resume_turn<S: Space>(
+pub(crate) fn resume_turn<S: Space>(
     run: &mut Running<S>,
     act: &mut Activation,
     turn: Loop,
     flow: Flow,
 ) -> Result<Next, Refusal>
     ensures spent { run.new.1 ≤ run.old.1 }
+    ensures same { IfOk result (λ n. (again : Loop) → n ≡ next.Turn again → again ≡ turn) }
     ensures falls { IfOk result (λ n. charged run.new.1 + next_weight n < charged run.old.1 + 4) }
     ensures memory { NotMemory result }
     ensures means { Leads S.accesses (meaning S.accesses) result act.new run.new
