@@ -33,3 +33,4 @@ pub mod UnitSteps
 pub mod Unwinding
 pub mod WideSteps
 pub mod Turns
+mod Arguments

@@ -22,6 +22,8 @@ use Rattle.aml_frames.specs.Follow.{ends, turn_items, resumed, next_run, next_en
 use Rattle.aml_frames.specs.Weights.{next_weight, charged}
 use Rattle.aml_frames.specs.Stack.{TurnWaits, then_all, machine, Goes, stack_weight, control_weight}
 use Rattle.aml_frames.proofs.Machine.{weight_on, goes_frame, goes_leads, goes_leads_err, goes_turn}
+use Rattle.aml_frames.proofs.PassedItems.{never_refused, never_memory}
+use Rattle.aml_frames.proofs.Weighing.{charged_less}
 
 -- ---- the entry on the top
 
@@ -74,11 +76,16 @@ module _ {S : Type 0} {ac : Accesses S} where
 weighs : (xs ys : List Entry) (l : Loop) → TurnWaits l xs → ys ≡ take (length xs - 1) xs → stack_weight xs ≡ stack_weight ys + 1
 weighs xs ys l waits popped = ap stack_weight (last_there (entry.Frame (frames.Turn l)) xs waits) ∙ weight_on (take (length xs - 1) xs) (entry.Frame (frames.Turn l)) ∙ ap (λ zs. stack_weight zs + 1) (sym popped)
 
-pub falls_again : (a b x w : ℕ) → a + 5 < b + 4 → a + (x + 4) < b + (x + 4)
-falls_again a b x w h = omega (arith, h)
+pub falls_again : (a b x : ℕ) → a + 5 < b + 4 → a + (x + 4) < b + (x + 4)
+falls_again a b x h = omega (arith, h)
 
 pub falls_left : (r : Outcome Control) (a b m z w : ℕ) (xs ys : List Entry) (l : Loop) → TurnWaits l xs → ys ≡ take (length xs - 1) xs → charged m + w < charged b + 4 → IfOk r (λ c. charged a + (z + control_weight c) ≤ charged m + (stack_weight ys + w)) → IfOk r (λ c. charged a + (z + control_weight c) < charged b + (stack_weight xs + 4))
 falls_left (Ok c) a b m z w xs ys l waits popped h i = let e = weighs xs ys l waits popped in omega (arith, e, h, i)
 falls_left (Err x) a b m z w xs ys l waits popped h i = tt
 
-pub ruleset turning = (turn_again, turn_done, turn_refused, falls_again, falls_left)
+-- a predicate that is refused
+pub refused_left : (r : Outcome Control) (a b : ℕ) (xs ys : List Entry) (l : Loop) → TurnWaits l xs → ys ≡ take (length xs - 1) xs → a ≤ b → IfErr r (λ z. is_passable z ≡ true → charged a + (stack_weight ys + 1) < charged b + (stack_weight xs + 4))
+refused_left (Ok c) a b xs ys l waits popped h = tt
+refused_left (Err z) a b xs ys l waits popped h = λ _. let p = charged_less a b h in let q = weighs xs ys l waits popped in omega (arith, p, q)
+
+pub ruleset turning = (turn_again, turn_done, turn_refused, falls_again, falls_left, refused_left, never_refused, never_memory)

@@ -26,8 +26,9 @@ use std::alloc::Global;
 /// How many control methods may be called one inside another.
 const MAX_DEPTH: usize = 32;
 
-/// A call whose arguments that are left stand next: the first of them is evaluated, or the call is made.
-#[tactic(auto, using(crate::proofs::Stepping::calls))]
+/// A call whose arguments that are left stand next: those that are integers which are there already are taken at once.
+/// The first other one is evaluated, or the call is made.
+#[tactic(auto, using(crate::proofs::Stepping::calls, crate::proofs::Arguments::arguing))]
 pub fn begin_call<S: Space>(
     alloc: Global,
     run: &mut Running<S>,
@@ -43,12 +44,11 @@ pub fn begin_call<S: Space>(
     let mut call = call;
     'arguments: while call.get().left > 0 {
         let levels = call.get().levels;
-        match known_integer(run, act, levels)? {
-            None => return Ok(Next::Term(levels, Frame::Argument(one_fewer(call)))),
-            Some(number) => {
-                call.inside.left -= 1;
-                call.inside.done.push(Value::Integer(number))?;
-            }
+        let known = known_integer(run, act, levels)?;
+        call = one_fewer(call);
+        match known {
+            None => return Ok(Next::Term(levels, Frame::Argument(call))),
+            Some(number) => call.inside.done.push(Value::Integer(number))?,
         }
     }
     begin_callee(alloc, run, act, call.into_inner())

@@ -57,11 +57,13 @@ pub(crate) fn step_items<S: Space>(
     if passes_over(run, &stack.act) {
         return wait_for_list_item(alloc, stack, behind);
     }
-    if let Some(number) = item_integer(run, &mut stack.act, items.levels) {
-        return next_item(run, stack, behind, Flow::Value(Value::Integer(number)));
+    match item_integer(run, &mut stack.act, items.levels) {
+        Some(number) => next_item(run, stack, behind, Flow::Value(Value::Integer(number))),
+        None => {
+            let next = begin_term(alloc, run, &mut stack.act, items.levels)?;
+            follow_item(run, stack, behind, next)
+        }
     }
-    let next = begin_term(alloc, run, &mut stack.act, items.levels)?;
-    follow_item(run, stack, behind, next)
 }
 
 /// What an item leaves to do is put on the stack, above the items behind it; where it leaves nothing, the list goes on.

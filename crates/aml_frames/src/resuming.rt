@@ -252,20 +252,14 @@ pub fn resume<S: Space>(
         Frame::Fatal => resume_fatal(run, act, flow),
         Frame::Argument(call) => resume_argument(alloc, run, act, call, flow),
         Frame::Buffer(outer) => resume_buffer(alloc, run, act, outer, flow),
-        Frame::VarPackage(levels, outer) => {
-            resume_var_package(alloc, run, act, levels, outer, flow)
-        }
+        Frame::VarPackage(levels, end) => resume_var_package(alloc, run, act, levels, end, flow),
         Frame::Element(filling) => resume_element(run, act, filling, flow),
         Frame::Operand(kind, levels) => resume_operand(alloc, run, act, kind, levels, flow),
         Frame::First(kind, levels) => resume_first(alloc, run, act, kind, levels, flow),
         Frame::Second(operator) => resume_second(alloc, run, act, operator, flow),
-        Frame::Third(levels, source, start) => {
-            resume_third(alloc, run, act, levels, (source, start), flow)
-        }
+        Frame::Third(levels, value, at) => resume_third(alloc, run, act, levels, (value, at), flow),
         Frame::Give(value) => leave(Flow::Value(value)),
-        Frame::Quotient(levels, quotient) => {
-            resume_quotient(alloc, run, act, levels, quotient, flow)
-        }
+        Frame::Quotient(levels, value) => resume_quotient(alloc, run, act, levels, value, flow),
         Frame::Found => resume_found(run, act, flow),
         Frame::IndexTarget(target_use) => resume_index_target(alloc, run, act, target_use, flow),
         Frame::DerefTarget(target_use) => resume_dereferenced(alloc, run, act, target_use, flow),
@@ -276,9 +270,7 @@ pub fn resume<S: Space>(
         Frame::UnitMerged(writes, number) => write_merged(alloc, run, act, writes, number),
         Frame::UnitWritten(writes) => next_write(alloc, run, act, writes.into_inner()),
         Frame::BankRead(units, unit) => read_selected(alloc, run, act, units, unit),
-        Frame::BankWrite(writes, offset, number) => {
-            write_selected(alloc, run, act, writes, offset, number)
-        }
+        Frame::BankWrite(unit, at, number) => write_selected(alloc, run, act, unit, at, number),
         Frame::Named(name) => resume_named(alloc, run, act, name, flow),
         Frame::Declaration(part) => resume_declaration(alloc, run, act, part, flow),
         Frame::Scope(scope, node) => resume_scope(run, act, scope, node, flow),

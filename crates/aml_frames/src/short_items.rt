@@ -134,11 +134,7 @@ fn two_to_slot<S: Space>(
 
 /// The integer of an operand that is there already, or that an operator without a target gives.
 #[inline(always)]
-fn operand_integer<S: Space>(
-    run: &mut Running<S>,
-    act: &mut Activation,
-    levels: u8,
-) -> Option<u64>
+fn operand_integer<S: Space>(run: &mut Running<S>, act: &mut Activation, levels: u8) -> Option<u64>
     ensures integer { IfSome result (λ n. Does (Ok (flows.Value (values.Integer n))) run.new
         (term_run S.accesses (meaning S.accesses) act.old levels) run.old) }
     ensures behind { IfSome result (λ n. act.new ≡ behind_term act.old levels) }
