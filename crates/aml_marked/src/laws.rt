@@ -4,18 +4,25 @@ ghost use Rattle.aml_path.specs.declared.segment.Seg.{Seg};
 ghost use Rattle.aml_grammar.specs.declared.arities.Arity.{Arity};
 ghost use Rattle.aml_grammar.specs.State.{State};
 ghost use Rattle.aml_grammar.specs.Tree.{Tree};
-ghost use Rattle.aml_grammar.specs.Grammar.{term_list, by_arities};
+ghost use Rattle.aml_grammar.specs.Grammar.{term_list, term_list_within, by_arities};
 ghost use Rattle.aml_marked.specs.Marked.{Ascending, Place, a_term, trees_by};
 ghost use Rattle.aml_marked.specs.Moving.{MovesOn};
 
 /// Where a list of terms reads as trees, its bytes and the marks that reading leaves give the same trees again, in no
-/// scope and with nothing known; and the marks stand in the order of their offsets, no two at one.
+/// scope and with nothing known; and the marks stand in the order of their offsets, no two at one. So they do where a
+/// setting allows fewer levels.
 pub fn marks_give_the_trees_again()
     ensures list { (bs : List ℕ) (scope : List Seg) (body : Bool) (known : List Arity) (ts : List Tree) (s : State) →
         term_list by_arities bs scope body known ≡ (Ok ts, s) → trees_by s.marks bs ≡ ts }
     ensures ascending { (bs : List ℕ) (scope : List Seg) (body : Bool) (known : List Arity)
         (ts : List Tree) (s : State) →
         term_list by_arities bs scope body known ≡ (Ok ts, s) → Ascending s.marks }
+    ensures list_within { (levels : ℕ) (bs : List ℕ) (scope : List Seg) (body : Bool) (known : List Arity)
+        (ts : List Tree) (s : State) →
+        term_list_within levels by_arities bs scope body known ≡ (Ok ts, s) → trees_by s.marks bs ≡ ts }
+    ensures ascending_within { (levels : ℕ) (bs : List ℕ) (scope : List Seg) (body : Bool) (known : List Arity)
+        (ts : List Tree) (s : State) →
+        term_list_within levels by_arities bs scope body known ≡ (Ok ts, s) → Ascending s.marks }
 {}
 
 /// What stands behind a term is what is left of the same bytes, so many bytes further on. A term takes at least one
