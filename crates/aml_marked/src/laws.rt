@@ -1,10 +1,13 @@
 //! What holds of every list of bytes: each law is the contract of a function that does nothing.
-ghost use Rattle.std.specs.Prelude.{◌≡◌, ◌<◌, ℕ, List, Bool, Ok, length};
+ghost use Rattle.std.specs.Prelude.{◌≡◌, ◌⊎◌, ◌<◌, ◌≤◌, ℕ, List, Bool, Ok, Err, length};
+ghost use Rattle.ar_space.specs.declared.refusal.Refusal.TheVariants.{Evaluation};
+ghost use Rattle.ar_space.specs.declared.refusal.EvaluationFault.TheVariants.{DepthSetting};
 ghost use Rattle.aml_path.specs.declared.segment.Seg.{Seg};
 ghost use Rattle.aml_grammar.specs.declared.arities.Arity.{Arity};
 ghost use Rattle.aml_grammar.specs.State.{State};
 ghost use Rattle.aml_grammar.specs.Tree.{Tree};
 ghost use Rattle.aml_grammar.specs.Grammar.{term_list, term_list_within, by_arities};
+ghost use Rattle.aml_grammar.specs.Grammar.{reading, reading_within, table_reading, table_reading_within};
 ghost use Rattle.aml_marked.specs.Marked.{Ascending, Place, a_term, trees_by};
 ghost use Rattle.aml_marked.specs.Moving.{MovesOn};
 
@@ -32,4 +35,20 @@ pub fn terms_only_move_on()
         MovesOn p (a_term count levels element p).1 }
     ensures byte { (count : ℕ → ℕ) (levels : ℕ) (element : Bool) (p : Place) → 0 < levels → 0 < length p.rest →
         p.at < (a_term count levels element p).1.at }
+{}
+
+/// Where a setting allows fewer levels, a list and a table read as they read within more, or they are refused as
+/// `DepthSetting`; 64 levels are no setting. So fewer levels change no tree and no other refusal.
+pub fn fewer_levels_only_refuse()
+    ensures list { (levels more : ℕ) → levels ≤ more → (bs : List ℕ) (scope : List Seg) (body : Bool)
+        (known : List Arity) →
+        (reading_within levels bs scope body known ≡ reading_within more bs scope body known)
+        ⊎ (reading_within levels bs scope body known ≡ Err (Evaluation DepthSetting)) }
+    ensures table { (levels more : ℕ) → levels ≤ more → (bs : List ℕ) (known : List Arity) →
+        (table_reading_within levels bs known ≡ table_reading_within more bs known)
+        ⊎ (table_reading_within levels bs known ≡ Err (Evaluation DepthSetting)) }
+    ensures whole_list { (levels : ℕ) (bs : List ℕ) (scope : List Seg) (body : Bool) (known : List Arity) →
+        64 ≤ levels → reading_within levels bs scope body known ≡ reading bs scope body known }
+    ensures whole_table { (levels : ℕ) (bs : List ℕ) (known : List Arity) → 64 ≤ levels →
+        table_reading_within levels bs known ≡ table_reading bs known }
 {}
