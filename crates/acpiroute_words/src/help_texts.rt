@@ -23,6 +23,7 @@ stand before it.
   110 to 123  the interrupts can't be routed
   130         a report can't be read
   140 to 143  the input can't be read, or the output can't be written
+  144         calls or terms are nested deeper than --calls or --levels allow
 Behind the number stands where or what: 'at N' an offset, 'op XXXX' an opcode, 'tag N' a descriptor, 'line N' a \
 line, or a path. 'acpiroute why' tells the table or object, the register and what to do; docs/REFUSALS.md says what \
 each number means.";
@@ -31,7 +32,8 @@ pub(crate) const ROUTE: &str = "\
 The machine text is read from the standard input: acpiroute route < machine.txt
 
 --steps bounds the terms that an evaluation begins, and --accesses the accesses of registers in the whole run: one \
-term may make many.
+term may make many. --calls and --levels bound how deep control methods call one another, and how deep terms nest: \
+what goes deeper is refused by number 144.
 
 The numbers of --avoid are separated by commas, without blanks: --avoid 3,4,7. Any other text is told by the line \
 'bad --avoid'. With the 8259 controllers, --mode pic, devices of the ISA bus may use interrupts that links offer, \
