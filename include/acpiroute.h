@@ -40,7 +40,8 @@
  * Nothing is kept between two calls, and there is no global state: any number of threads may make calls at once, each over its
  * own buffers. Everything that is handed in stays the caller's. A call reads no file, prints nothing, and touches no register.
  *
- * Give a call 128 KiB of stack: at most 91 KiB were measured. It takes as much memory as the tables ask for. The option `--steps`
+ * Give a call 128 KiB of stack: at most 91 KiB were measured; with fewer levels of terms than 64 it needs less (`levels` of the settings,
+ * or the option `--levels`). It takes as much memory as the tables ask for. The option `--steps`
  * bounds how many terms an evaluation begins, and neither time nor memory; the option `--accesses` bounds the accesses of registers.
  */
 #ifndef ACPIROUTE_H
@@ -209,6 +210,10 @@ struct acpiroute_settings {
     uint8_t dry;
     /* 1 where the report is to have the lines for a kernel, as with the option `--kernel`, and else 0. */
     uint8_t kernel;
+    /* How many control methods may be called one inside another, as with the option `--calls`: 1 to 32, and 0 for 32. */
+    uint8_t calls;
+    /* How many terms may be one inside another, as with the option `--levels`: 1 to 64, and 0 for 64. */
+    uint8_t levels;
 };
 
 /*

@@ -35,7 +35,8 @@ fn put_named(alloc: Global, text: &mut Vec<u8>, words: &[u8], path: &Path) -> Re
 
 /// That the object at a path is read again.
 fn put_again(alloc: Global, text: &mut Vec<u8>, path: &Path) -> Result<(), AllocError>
-    ensures { OnOk result (text.new.items ≡ text.old.items ++ (codes "reading " ++ (text_of path.now ++ codes " again"))) }
+    ensures { OnOk result
+        (text.new.items ≡ text.old.items ++ (codes "reading " ++ (text_of path.now ++ codes " again"))) }
 {
     text.extend_from_slice(b"reading ")?;
     put_path(alloc, text, path)?;

@@ -15,7 +15,7 @@ pub struct Help {
 }
 
 /// All refusals, in the order of their numbers.
-const ROWS: [Help; 58] = [
+const ROWS: [Help; 59] = [
     Help {
         number: 1,
         name: "NoRegister",
@@ -306,6 +306,11 @@ const ROWS: [Help; 58] = [
         name: "TextTooLong",
         help: "give the tables alone, in place of a dump of the memory",
     },
+    Help {
+        number: 144,
+        name: "DepthSetting",
+        help: "raise --calls or --levels: control methods call one another, or terms nest, deeper than these allow",
+    },
 ];
 
 /// What is said of the refusal with a number in the core profile; of a number that is none, nothing.
@@ -324,8 +329,8 @@ fn core_help(number: u8) -> Help
     }
 }
 
-/// What to do where a run in the wide profile was refused by a number for which it has more to say than the core one, or
-/// for which the core one's help advises that profile.
+/// What to do where a run in the wide profile was refused by a number for which it has more to say than the core one,
+/// or for which the core one's help advises that profile.
 fn wide_help(number: u8) -> Option<&'static str> {
     match number {
         60 => Some("look at the control method: it declares a name that stands already"),

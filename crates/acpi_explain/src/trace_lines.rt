@@ -170,8 +170,8 @@ fn no_trace(alloc: Global) -> TraceText
 }
 
 /// The lines of a trace, where this was done and so many steps might be taken. Where what was found is put together no
-/// evaluation is refused, so the trace may be that of an earlier one, whose refusal was told elsewhere. A trace that was
-/// cut, since memory ran out, is told as that.
+/// evaluation is refused, so the trace may be that of an earlier one, whose refusal was told elsewhere. A trace that
+/// was cut, since memory ran out, is told as that.
 pub(crate) fn trace_text(
     alloc: Global,
     trace: &Trace,

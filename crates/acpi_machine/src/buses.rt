@@ -7,7 +7,8 @@ ghost use Rattle.aml_meaning.specs.Calling.{ending, with_steps};
 ghost use Rattle.aml_meaning.specs.Fields.{bus_behind, bus_behind_all, inherited};
 ghost use Rattle.aml_meaning.specs.PciFunctions.{or_behind, behind_asked};
 ghost use Rattle.acpi_machine.specs.Stops.{Made};
-ghost use Rattle.acpi_machine.specs.Buses.{prt, is_itself, bridges_down_to, bus_numbered, address_part, bus_of_table, bus_answered, bus_found};
+ghost use Rattle.acpi_machine.specs.Buses.{prt, is_itself, bridges_down_to, bus_numbered};
+ghost use Rattle.acpi_machine.specs.Buses.{address_part, bus_of_table, bus_answered, bus_found};
 
 use crate::calls::SPENT;
 use crate::machine::Machine;

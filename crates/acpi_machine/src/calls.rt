@@ -13,7 +13,8 @@ ghost use Rattle.acpi_machine.specs.FixedPaths.{at_root, below_root};
 ghost use Rattle.acpi_machine.specs.Noticing.{noticed, ran_out};
 ghost use Rattle.acpi_machine.specs.Stops.{Made};
 ghost use Rattle.acpi_machine.specs.Calls.{object_answered, evaluated_object, object_called, called_where_it_stands};
-ghost use Rattle.acpi_machine.specs.Calls.{refused_call, call_passing, initial_calls, started, initialized, texts_kept, few_texts_kept, osi_set};
+ghost use Rattle.acpi_machine.specs.Calls.{refused_call, call_passing, initial_calls, started};
+ghost use Rattle.acpi_machine.specs.Calls.{initialized, texts_kept, few_texts_kept, osi_set};
 
 use crate::loading::few_texts;
 use crate::machine::Machine;

@@ -1,11 +1,11 @@
 -- Why a run ends with status 1.
-use Rattle.std.specs.Prelude.{◌≡◌, ◌⊎◌, ℕ, Bool, true, false, List, [], Option, Some, Err}
+use Rattle.std.specs.Prelude.{◌≡◌, ◌≢◌, ◌⊎◌, ℕ, Bool, true, false, List, [], Option, Some, Err}
 use Rattle.ar_space.specs.declared.refusal.Refusal.{Refusal}
 use Rattle.ar_space.specs.declared.refusal.Refusal.TheVariants.{Input, OutOfMemory}
 use Rattle.ar_space.specs.declared.refusal.InputFault.TheVariants.{ReadFault, WriteFault}
 use Rattle.acpiroute_words.specs.declared.request.Request.{Request}
 use Rattle.acpiroute_words.specs.declared.request.Asked.TheVariants.{For}
-use Rattle.acpiroute_words.specs.CommandLine.{asked_of}
+use Rattle.acpiroute_words.specs.CommandLine.{asked_of, faults_of}
 use Rattle.acpiroute_words.specs.Deliveries.{refusal_told}
 use Rattle.acpiroute_words.specs.Held.{Held, Takes}
 use Rattle.acpiroute_words.specs.Input.{input_of, IsInput}
@@ -24,10 +24,11 @@ IsCause words read_failed true input r = r ≡ Input WriteFault
 IsCause words true false input r = r ≡ Input ReadFault
 IsCause words false false input r = (r ≡ OutOfMemory) ⊎ IsOwnRefusal words input r
 
--- the lines before that of a refusal: none where a write failed, else those of what the command of the words passes over
+-- the lines before that of a refusal: those of what the command of the words passes over; none where the words are at fault, whose help
+-- alone can fail to be written
 abbrev pub IsPassed : List (List ℕ) → Bool → Bool → List ℕ → List ℕ → Type 0
-IsPassed words read_failed true input passed = passed ≡ []
-IsPassed words read_failed false input passed = (q : Request) × (asked_of words ≡ Some (For q)) × (passed ≡ told_passed q read_failed input)
+IsPassed words read_failed write_failed input passed =
+    ((q : Request) × (asked_of words ≡ Some (For q)) × (passed ≡ told_passed q read_failed input)) ⊎ ((write_failed ≡ true) × (faults_of words ≢ []) × (passed ≡ []))
 
 -- a run tells a refusal for such a cause, by its line on the errors, the last there
 pub record TellsCause (words : List (List ℕ)) (left : Option (List ℕ)) (read_failed write_failed : Bool) (errors errors2 : Held) : Type 0 where

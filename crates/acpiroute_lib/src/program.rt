@@ -135,12 +135,12 @@ fn decline<W: Sink, E: Sink>(writer: &mut W, errors: &mut E) -> u8
 /// setting a link was refused, which the report tells, 4 where `check` says no. A faulty command line is found before
 /// any input is read, and `--help` is written to the output with 0.
 ///
-/// `route`, `eval` and `names` write a line to the errors for each refusal that loading and initializing passed over, of
-/// which the first 64 are kept: `passed R P`, with what the line of a refusal has behind its number, and the path of the
-/// scope, or of what was called. Where there were more, `passed N more` follows.
+/// `route`, `eval` and `names` write a line to the errors for each refusal that loading and initializing passed over,
+/// of which the first 64 are kept: `passed R P`, with what the line of a refusal has behind its number, and the path
+/// of the scope, or of what was called. Where there were more, `passed N more` follows.
 ///
-/// A refusal writes nothing to the output and a last line to the errors: `refused R` with its number, and behind it ` at
-/// N`, an offset, for a fault of AML's terms, ` op XXXX` for a term that isn't evaluated, ` tag N` for a descriptor
+/// A refusal writes nothing to the output and a last line to the errors: `refused R` with its number, and behind it `
+/// at N`, an offset, for a fault of AML's terms, ` op XXXX` for a term that isn't evaluated, ` tag N` for a descriptor
 /// that isn't taken, ` line N` for a line of a report or of a machine text, ` P` for the path of a link that offers
 /// nothing or whose whole offer is avoided. An input of more than 16,777,216 bytes is refused as 143, any error of
 /// the reader as 141, and any error of the output's writer as 142; what had gone out then stays. An error of the

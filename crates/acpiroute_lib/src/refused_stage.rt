@@ -52,7 +52,7 @@ fn table_stage<S: Space + Drop>(
     let evaluation = asking.evaluation;
     let found = refused_table(
         alloc,
-        evaluation.profile,
+        evaluation.settings,
         tables,
         space,
         evaluation.steps,
@@ -98,7 +98,7 @@ fn call_stage<S: Space + Drop>(
     let evaluation = asking.evaluation;
     match load_tables_as(
         alloc,
-        evaluation.profile,
+        evaluation.settings,
         tables,
         space,
         evaluation.steps,
@@ -139,8 +139,8 @@ fn object_of<S: Space + Drop>(
     }
 }
 
-/// The routing table or the object of a link that is refused, where the machine is to be routed and these interrupts are
-/// avoided.
+/// The routing table or the object of a link that is refused, where the machine is to be routed and these interrupts
+/// are avoided.
 fn object_stage<S: Space + Drop>(
     alloc: Global,
     asking: &Asking,
@@ -156,7 +156,7 @@ fn object_stage<S: Space + Drop>(
     let evaluation = asking.evaluation;
     match load_tables_as(
         alloc,
-        evaluation.profile,
+        evaluation.settings,
         tables,
         space,
         evaluation.steps,

@@ -2,10 +2,13 @@
 ghost use Rattle.std.specs.Prelude.{◌≡◌, IfOk, IfErr, Some, map, option_map, false, codes};
 ghost use Rattle.clap.specs.Words.{app_of, new_app, rows_of, rule_of, found_of, subcommand_rows_of, FailsBy};
 ghost use Rattle.clap.specs.declared.builder.command.Command.TheViews.{out-Command as fields_of};
-ghost use Rattle.acpiroute_words.specs.CommandLine.{app, bare_app, first_route_app, second_route_app, route_app};
-ghost use Rattle.acpiroute_words.specs.CommandLine.{names_app, first_eval_app, eval_app, check_app, mode_rule, steps_rule};
+ghost use Rattle.acpiroute_words.specs.CommandLine.{app, bare_app, first_route_app, second_route_app};
+ghost use Rattle.acpiroute_words.specs.CommandLine.{third_route_app, route_app, nesting_by, settings_by};
+ghost use Rattle.acpiroute_words.specs.CommandLine.{first_names_app, names_app, first_eval_app, second_eval_app};
+ghost use Rattle.acpiroute_words.specs.CommandLine.{eval_app, check_app, mode_rule, steps_rule, calls_rule, levels_rule};
 ghost use Rattle.acpiroute_words.specs.CommandLine.{profile_rule, accesses_rule, dry_rule, avoid_rule};
 ghost use Rattle.acpiroute_words.specs.CommandLine.{spare_rule, spread_rule, path_rule, arguments_rule, evaluation_by, evaluation_of};
+ghost use Rattle.acpiroute_words.specs.CommandLine.{settings_of};
 ghost use Rattle.acpiroute_words.specs.CommandLine.{kernel_rule, flags_of};
 ghost use Rattle.acpiroute_words.specs.CommandLine.{route_with, route_by, route_of, names_of, eval_of, eval_with};
 ghost use Rattle.acpiroute_words.specs.CommandLine.{parsed_command, parsed_subcommand, clap_faults, command_of};
@@ -17,11 +20,11 @@ use crate::help_texts;
 use crate::interrupts::Interrupts;
 use crate::request::{Asked, Evaluation, Flags, Request};
 use crate::values::{
-    accesses_named, arguments_named, interrupts_named, is_true, mode_named, profile_named,
-    steps_named,
+    accesses_named, arguments_named, calls_named, interrupts_named, is_true, levels_named,
+    mode_named, profile_named, steps_named,
 };
 use crate::why_words::{why_command, why_of};
-use aml_meaning::Profile;
+use aml_meaning::{EvaluationSettings, Nesting, Profile};
 use ar_space::PathText;
 use clap::{Arg, ArgAction, ArgMatches, Command, Error};
 use route_report::Mode;
@@ -53,6 +56,25 @@ pub(crate) fn profile_arg<'a>(alloc: Global) -> Arg<'a>
         .long("profile")
         .value_name("PROFILE")
         .help("How much of AML is evaluated: core or wide, by default core")
+}
+
+pub(crate) fn calls_arg<'a>(alloc: Global) -> Arg<'a>
+    ensures rule { rule_of result ≡ calls_rule }
+    ensures local { result.global ≡ false }
+{
+    Arg::new(alloc, "calls").long("calls").value_name("N").help(
+        "How many control methods may be called one inside another, from 1 to 32, by default 32",
+    )
+}
+
+pub(crate) fn levels_arg<'a>(alloc: Global) -> Arg<'a>
+    ensures rule { rule_of result ≡ levels_rule }
+    ensures local { result.global ≡ false }
+{
+    Arg::new(alloc, "levels")
+        .long("levels")
+        .value_name("N")
+        .help("How many terms may be one inside another, from 1 to 64, by default 64")
 }
 
 pub(crate) fn accesses_arg<'a>(alloc: Global) -> Arg<'a>
@@ -176,8 +198,9 @@ fn second_route_command<'a>(alloc: Global) -> Result<Command<'a>, AllocError>
         .arg(kernel_arg(alloc))
 }
 
-pub(crate) fn route_command<'a>(alloc: Global) -> Result<Command<'a>, AllocError>
-    ensures app { IfOk result (λ c. app_of c ≡ route_app) }
+/// `route`, without the options that say how deep calls and terms may be.
+fn third_route_command<'a>(alloc: Global) -> Result<Command<'a>, AllocError>
+    ensures app { IfOk result (λ c. app_of c ≡ third_route_app) }
     ensures local { IfOk result (λ c. (fields_of c).has_globals ≡ false) }
 {
     second_route_command(alloc)?
@@ -185,8 +208,18 @@ pub(crate) fn route_command<'a>(alloc: Global) -> Result<Command<'a>, AllocError
         .arg(accesses_arg(alloc))
 }
 
-pub(crate) fn names_command<'a>(alloc: Global) -> Result<Command<'a>, AllocError>
-    ensures app { IfOk result (λ c. app_of c ≡ names_app) }
+pub(crate) fn route_command<'a>(alloc: Global) -> Result<Command<'a>, AllocError>
+    ensures app { IfOk result (λ c. app_of c ≡ route_app) }
+    ensures local { IfOk result (λ c. (fields_of c).has_globals ≡ false) }
+{
+    third_route_command(alloc)?
+        .arg(calls_arg(alloc))?
+        .arg(levels_arg(alloc))
+}
+
+/// `names`, without the options that say how deep calls and terms may be.
+fn first_names_command<'a>(alloc: Global) -> Result<Command<'a>, AllocError>
+    ensures app { IfOk result (λ c. app_of c ≡ first_names_app) }
     ensures local { IfOk result (λ c. (fields_of c).has_globals ≡ false) }
 {
     Command::new(alloc, "names")
@@ -195,6 +228,15 @@ pub(crate) fn names_command<'a>(alloc: Global) -> Result<Command<'a>, AllocError
         .arg(steps_arg(alloc))?
         .arg(profile_arg(alloc))?
         .arg(accesses_arg(alloc))
+}
+
+pub(crate) fn names_command<'a>(alloc: Global) -> Result<Command<'a>, AllocError>
+    ensures app { IfOk result (λ c. app_of c ≡ names_app) }
+    ensures local { IfOk result (λ c. (fields_of c).has_globals ≡ false) }
+{
+    first_names_command(alloc)?
+        .arg(calls_arg(alloc))?
+        .arg(levels_arg(alloc))
 }
 
 /// `eval`, without its options.
@@ -209,7 +251,7 @@ fn bare_eval_command<'a>(alloc: Global) -> Command<'a>
         .after_help(help_texts::EVAL)
 }
 
-/// `eval`, without its path and its arguments.
+/// `eval`, without its path, its arguments, and the options that say how deep calls and terms may be.
 fn first_eval_command<'a>(alloc: Global) -> Result<Command<'a>, AllocError>
     ensures app { IfOk result (λ c. app_of c ≡ first_eval_app) }
     ensures local { IfOk result (λ c. (fields_of c).has_globals ≡ false) }
@@ -221,11 +263,21 @@ fn first_eval_command<'a>(alloc: Global) -> Result<Command<'a>, AllocError>
         .arg(accesses_arg(alloc))
 }
 
+/// `eval`, without its path and its arguments.
+fn second_eval_command<'a>(alloc: Global) -> Result<Command<'a>, AllocError>
+    ensures app { IfOk result (λ c. app_of c ≡ second_eval_app) }
+    ensures local { IfOk result (λ c. (fields_of c).has_globals ≡ false) }
+{
+    first_eval_command(alloc)?
+        .arg(calls_arg(alloc))?
+        .arg(levels_arg(alloc))
+}
+
 pub(crate) fn eval_command<'a>(alloc: Global) -> Result<Command<'a>, AllocError>
     ensures app { IfOk result (λ c. app_of c ≡ eval_app) }
     ensures local { IfOk result (λ c. (fields_of c).has_globals ≡ false) }
 {
-    first_eval_command(alloc)?
+    second_eval_command(alloc)?
         .arg(path_arg(alloc))?
         .arg(arguments_arg(alloc))
 }
@@ -271,23 +323,54 @@ fn matches<'a>(alloc: Global, words: &'a [&'a str]) -> Result<ArgMatches<'a>, Er
     command(alloc)?.try_get_matches_from(words)
 }
 
-/// How AML is evaluated, where its profile, its steps and a bound of accesses are said.
+/// How deep calls and terms may be, where both are said.
+#[tactic(auto, unfolding(crate::specs::CommandLine::nesting_by))]
+fn nesting_by(calls: Option<usize>, levels: Option<usize>) -> Option<Nesting>
+    ensures { result ≡ nesting_by calls levels }
+{
+    let calls = calls?;
+    let levels = levels?;
+    Some(Nesting { calls, levels })
+}
+
+/// What AML is evaluated with, where its profile is said, and how deep.
+#[tactic(auto, unfolding(crate::specs::CommandLine::settings_by))]
+fn settings_by(profile: Option<Profile>, nesting: Option<Nesting>) -> Option<EvaluationSettings>
+    ensures { result ≡ settings_by profile nesting }
+{
+    let profile = profile?;
+    let nesting = nesting?;
+    Some(EvaluationSettings { profile, nesting })
+}
+
+/// How AML is evaluated, where its settings, its steps and a bound of accesses are said.
 #[tactic(auto, unfolding(crate::specs::CommandLine::evaluation_by))]
 fn evaluation_by(
-    profile: Option<Profile>,
+    settings: Option<EvaluationSettings>,
     steps: Option<u64>,
     accesses: Option<Option<u64>>,
 ) -> Option<Evaluation>
-    ensures { result ≡ evaluation_by profile steps accesses }
+    ensures { result ≡ evaluation_by settings steps accesses }
 {
-    let profile = profile?;
+    let settings = settings?;
     let steps = steps?;
     let accesses = accesses?;
     Some(Evaluation {
-        profile,
+        settings,
         steps,
         accesses,
     })
+}
+
+/// What the options say that AML is evaluated with.
+#[tactic(auto, using(crate::proofs::Getters::first_text))]
+fn settings_of(matches: &ArgMatches<'_>) -> Option<EvaluationSettings>
+    ensures { result ≡ settings_of (rows_of (found_of matches.now)) }
+{
+    let profile = profile_named(matches.get_str("profile"));
+    let calls = calls_named(matches.get_str("calls"));
+    let levels = levels_named(matches.get_str("levels"));
+    settings_by(profile, nesting_by(calls, levels))
 }
 
 /// How the options say that AML is evaluated.
@@ -295,10 +378,9 @@ fn evaluation_by(
 fn evaluation_of(matches: &ArgMatches<'_>) -> Option<Evaluation>
     ensures { result ≡ evaluation_of (rows_of (found_of matches.now)) }
 {
-    let profile = profile_named(matches.get_str("profile"));
     let steps = steps_named(matches.get_str("steps"));
     let accesses = accesses_named(matches.get_str("accesses"));
-    evaluation_by(profile, steps, accesses)
+    evaluation_by(settings_of(matches), steps, accesses)
 }
 
 /// What the options of `route` say.

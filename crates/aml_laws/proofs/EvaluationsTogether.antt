@@ -5,7 +5,7 @@ use Rattle.ar_space.specs.Outcome.{Outcome}
 use Rattle.aml_path.specs.declared.segment.Seg.{Seg}
 use Rattle.aml_grammar.specs.declared.arities.Arity.{Arity}
 use Rattle.aml_grammar.specs.Tree.{Tree, Trees}
-use Rattle.aml_grammar.specs.Grammar.{table_reading}
+use Rattle.aml_grammar.specs.Grammar.{table_reading_within}
 use Rattle.aml_objects.specs.declared.value.Value.{Value}
 use Rattle.aml_objects.specs.declared.entry.NamedObject.{NamedObject}
 use Rattle.aml_meaning.specs.declared.invocation.Invocation.{Invocation}
@@ -38,7 +38,7 @@ module _ {S T : Type 0} {accesses : Accesses S} {accesses2 : Accesses T} {side :
 
   table_terms_together : (bytes : List ℕ) → Together side worlds (table_terms bytes) (table_terms bytes)
   unfolding table_terms
-  table_terms_together bytes = plain (λ w. terms_kept_space (table_reading bytes w.arities) w) (λ w. terms_kept_space (table_reading bytes w.arities) w) (λ w t. terms_kept_over side.raise (table_reading bytes w.arities) w t)
+  table_terms_together bytes = plain (λ w. terms_kept_space (table_reading_within w.nesting.levels bytes w.arities) w) (λ w. terms_kept_space (table_reading_within w.nesting.levels bytes w.arities) w) (λ w t. terms_kept_over side.raise (table_reading_within w.nesting.levels bytes w.arities) w t)
 
 module _ {S T : Type 0} {accesses : Accesses S} {accesses2 : Accesses T} (side : Sides accesses accesses2) where
   at_root_together : (ts : Trees) → Together (level side 0) runs (at_root accesses ts) (at_root accesses2 ts)

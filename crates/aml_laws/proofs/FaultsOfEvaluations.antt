@@ -5,7 +5,7 @@ use Rattle.ar_space.specs.Change.{Change}
 use Rattle.ar_space.specs.Outcome.{Outcome, seen}
 use Rattle.aml_path.specs.Paths.{Name, resolved}
 use Rattle.aml_path.specs.declared.segment.Seg.{Seg}
-use Rattle.aml_grammar.specs.Grammar.{table_reading}
+use Rattle.aml_grammar.specs.Grammar.{table_reading_within}
 use Rattle.aml_grammar.specs.Tree.{Tree, Trees}
 use Rattle.aml_grammar.specs.declared.arities.Arity.{Arity}
 use Rattle.aml_objects.specs.declared.object.Element.TheVariants as element
@@ -30,7 +30,7 @@ use Rattle.aml_meaning.specs.declared.name_use.NameUse.{NameUse}
 use Rattle.aml_laws.proofs.CleanNames.{found_clean}
 use Rattle.aml_laws.proofs.CleanObjects.{buffer_at_clean, elements_at_clean, make_buffer_clean, make_package_clean, make_string_clean, string_at_clean}
 use Rattle.aml_laws.proofs.CleanOutcomes.{Clean, seen_clean}
-use Rattle.aml_laws.proofs.CleanReading.{table_reading_clean}
+use Rattle.aml_laws.proofs.CleanReading.{table_reading_within_clean}
 use Rattle.aml_laws.proofs.CleanValues.{resolved_clean}
 use Rattle.aml_laws.proofs.CleanWorlds.{use_of_clean}
 use Rattle.aml_laws.proofs.FaultsOfCalls.{called_at_explains, field_read_explains, in_turn_explains, method_value_explains}
@@ -61,7 +61,7 @@ module _ {S : Type 0} {accesses : Accesses S} where
 
   table_terms_explains : (bytes : List ℕ) → EvaluationExplains accesses (table_terms bytes)
   unfolding table_terms
-  table_terms_explains bytes = record { explained = λ w. (terms_kept_explains (table_reading bytes w.arities) (table_reading_clean bytes w.arities)).explained w; spent = λ w. (terms_kept_explains (table_reading bytes w.arities) (table_reading_clean bytes w.arities)).spent w }
+  table_terms_explains bytes = record { explained = λ w. (terms_kept_explains (table_reading_within w.nesting.levels bytes w.arities) (table_reading_within_clean w.nesting.levels bytes w.arities)).explained w; spent = λ w. (terms_kept_explains (table_reading_within w.nesting.levels bytes w.arities) (table_reading_within_clean w.nesting.levels bytes w.arities)).spent w }
 
   -- ---- arguments
 

@@ -140,7 +140,7 @@ module _ {S T : Type 0} {accesses : Accesses S} {accesses2 : Accesses T} (side :
   wide_over : (s : State S × ℕ) (u : T) → s.0.profile ≡ profiles.Wide → over side.raise side.more s u ≡ over (λ p. p) (λ n. n) s u
   wide_over s u is =
       ap (λ n. (world_over side.raise s.0 u, n)) (same_steps s.1)
-      ∙ ap (λ p. (record { names = s.0.names; arities = s.0.arities; objects = s.0.objects; frames = s.0.frames; started = s.0.started; space = u; osi = s.0.osi; width = s.0.width; profile = p; passed = s.0.passed }, s.1)) (wide s.0.profile ∙ sym is)
+      ∙ ap (λ p. (record { names = s.0.names; arities = s.0.arities; objects = s.0.objects; frames = s.0.frames; started = s.0.started; space = u; osi = s.0.osi; width = s.0.width; profile = p; nesting = s.0.nesting; passed = s.0.passed }, s.1)) (wide s.0.profile ∙ sym is)
 
   -- both are wide
   both_comes : (p : Outcome Flow × (State S × ℕ)) (q : Outcome Flow × (State T × ℕ)) → p.1.0.profile ≡ profiles.Wide → Comes (alike side.beside) runs p q → Comes (level side depth) runs p q

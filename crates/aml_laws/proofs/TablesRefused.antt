@@ -8,7 +8,7 @@ use Rattle.ar_space.specs.Accesses.{Accesses}
 use Rattle.ar_space.specs.Change.{Change, give, go_on, ◌>>=◌}
 use Rattle.ar_space.specs.Outcome.{Outcome}
 use Rattle.aml_grammar.specs.declared.arities.Arity.{Arity}
-use Rattle.aml_grammar.specs.Grammar.{table_reading}
+use Rattle.aml_grammar.specs.Grammar.{table_reading_within}
 use Rattle.aml_grammar.specs.Tree.{Tree, Trees}
 use Rattle.aml_objects.specs.declared.value.Value.{Value}
 use Rattle.aml_objects.specs.declared.value.Value.TheVariants as value
@@ -20,7 +20,7 @@ use Rattle.aml_meaning.specs.Slots.{opened}
 use Rattle.aml_meaning.specs.State.{State}
 use Rattle.aml_meaning.specs.Tasks.{in_turn}
 use Rattle.aml_laws.proofs.ListsGoOn.{list_ends_for_good}
-use Rattle.aml_laws.proofs.ReadingRefusals.{table_reading_reads}
+use Rattle.aml_laws.proofs.ReadingRefusals.{table_reading_within_reads}
 use Rattle.aml_laws.proofs.TermRefusals.{Reads, not_passable}
 
 abbrev ForGood : {A : Type 0} → Outcome A → Type 0
@@ -57,7 +57,7 @@ module _ {S : Type 0} (accesses : Accesses S) where
 
   run_ends : (steps : ℕ) (bytes : List ℕ) → EndsForGood (table_run accesses steps bytes)
   unfolding table_run table_terms with_steps ◌>>=◌
-  run_ends steps bytes w wide = terms_by (table_reading bytes w.arities) w _ wide (table_reading_reads bytes w.arities) (λ ts. frame_ends (replicate 7 value.Uninitialized) _ (λ v wide. root_ends ts (v, steps) wide))
+  run_ends steps bytes w wide = terms_by (table_reading_within w.nesting.levels bytes w.arities) w _ wide (table_reading_within_reads w.nesting.levels bytes w.arities) (λ ts. frame_ends (replicate 7 value.Uninitialized) _ (λ v wide. root_ends ts (v, steps) wide))
 
   pub table_ends_for_good : (bytes : List ℕ) (steps : ℕ) (w : State S) → w.profile ≡ profiles.Wide → (e : Refusal) → (loaded accesses bytes steps w).0 ≡ Err e → is_passable e ≡ false
   unfolding loaded ending

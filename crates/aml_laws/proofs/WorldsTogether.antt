@@ -24,7 +24,7 @@ use Rattle.aml_laws.proofs.Together.{Sides, Shape, Together, Comes, IsEnded, spa
 
 -- a world over another space, in another profile
 abbrev pub world_over : {S T : Type 0} → (Profile → Profile) → State S → T → State T
-world_over raise w t = record { names = w.names; arities = w.arities; objects = w.objects; frames = w.frames; started = w.started; space = t; osi = w.osi; width = w.width; profile = raise w.profile; passed = w.passed }
+world_over raise w t = record { names = w.names; arities = w.arities; objects = w.objects; frames = w.frames; started = w.started; space = t; osi = w.osi; width = w.width; profile = raise w.profile; nesting = w.nesting; passed = w.passed }
 
 abbrev pub worlds : {S T : Type 0} → Shape S T (State S) (State T)
 worlds = record { left = λ w. w.space; right = λ w. w.space; over = λ raise more w t. world_over raise w t }

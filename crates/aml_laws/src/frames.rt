@@ -3,7 +3,7 @@ ghost use Rattle.std.specs.Prelude.{◌≡◌, ◌++◌, ◌∷◌, [], ℕ, Lis
 ghost use Rattle.ar_space.specs.Accesses.{Accesses};
 ghost use Rattle.ar_space.specs.declared.integer_width.IntegerWidth.{IntegerWidth};
 ghost use Rattle.aml_objects.specs.declared.value.Value.{Value};
-ghost use Rattle.aml_meaning.specs.declared.profile.Profile.{Profile};
+ghost use Rattle.aml_meaning.specs.declared.settings.EvaluationSettings.{EvaluationSettings};
 ghost use Rattle.aml_meaning.specs.State.{State};
 ghost use Rattle.aml_meaning.specs.Slots.{opened};
 ghost use Rattle.aml_meaning.specs.Predefined.{fresh_as, predefined};
@@ -25,8 +25,8 @@ pub fn frames_are_balanced<S>()
 pub fn frame_numbers_are_given_once<S>()
     ensures kept { (accesses : Accesses S) (w v : State S) → Becomes accesses w v →
         RiseTo w.started (numbers_of w.frames) → RiseTo v.started (numbers_of v.frames) }
-    ensures always { (accesses : Accesses S) (profile : Profile) (width : IntegerWidth) (osi : List (List ℕ))
-        (space : S) (w : State S) → Becomes accesses (predefined (fresh_as profile width osi space)).1 w →
+    ensures always { (accesses : Accesses S) (settings : EvaluationSettings) (width : IntegerWidth) (osi : List (List ℕ))
+        (space : S) (w : State S) → Becomes accesses (predefined (fresh_as settings width osi space)).1 w →
         RiseTo w.started (numbers_of w.frames) }
     ensures opened { (arguments : List Value) (w : State S) (number : ℕ) → RiseTo w.started (numbers_of w.frames) →
         (opened arguments w).0 ≡ Ok number →

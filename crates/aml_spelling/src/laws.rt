@@ -21,8 +21,9 @@ ghost use Rattle.aml_spelling.specs.Reach.{Stops, reach, Placed};
 ghost use Rattle.aml_spelling.specs.Stands.{MayStand};
 
 /// A list or a table is read as trees exactly if its bytes are a spelling of them and they may stand there: names that
-/// are called or declared, or that Scope, Alias or External gives, resolve in their scopes, each name that is called has
-/// as many arguments as it takes, with what is declared before it, and terms are at most 64 levels deep. The arities after a table are those that its trees declare.
+/// are called or declared, or that Scope, Alias or External gives, resolve in their scopes, each name that is called
+/// has as many arguments as it takes, with what is declared before it, and terms are at most 64 levels deep. The
+/// arities after a table are those that its trees declare.
 pub fn read_exactly_if_spelled()
     ensures list { (bs : List ℕ) (scope : List Seg) (body : Bool) (known : List Arity) (ts : List Tree) →
         Reads bs scope body known ts ↔ (IsSpelled body ts bs × (after : List Arity) ×
@@ -79,8 +80,9 @@ pub fn parts_are_refused_exactly_if_faulty()
 {}
 
 /// The name of a scope, the source of an alias, the name of an External, or a name that a term declares is refused with
-/// a number and an offset exactly if it has this fault: it is no name, it leads above the root, or, where it is declared, it has no segment or may not be declared in a body. Of a
-/// name that has several of these faults only the first one counts, in the order of the numbers 20, 21 and 34.
+/// a number and an offset exactly if it has this fault: it is no name, it leads above the root, or, where it is
+/// declared, it has no segment or may not be declared in a body. Of a name that has several of these faults only the
+/// first one counts, in the order of the numbers 20, 21 and 34.
 pub fn names_are_refused_exactly_if_faulty()
     ensures place { (s : State) (spot : Spot) (earlier : Earlier) (r : Refusal) → s.at ≡ spot.at → s.rest ≡ spot.rest →
         ((scope_name spot.scope earlier s).0 ≡ Err r) ↔ AtResolved spot r }

@@ -124,7 +124,7 @@ module _ {S T : Type 0} {accesses : Accesses S} {accesses2 : Accesses T} (side :
   -- both are wide
   wide_over : (s : MachineState S) (t : T) → s.world.profile ≡ profiles.Wide → machine_beside side.raise s t ≡ machine_beside (λ p. p) s t
   wide_over s t is =
-      ap (λ p. record { world = record { names = s.world.names; arities = s.world.arities; objects = s.world.objects; frames = s.world.frames; started = s.world.started; space = t; osi = s.world.osi; width = s.world.width; profile = p; passed = s.world.passed }; tables = s.tables; mode = s.mode; steps = s.steps; spent = s.spent })
+      ap (λ p. record { world = record { names = s.world.names; arities = s.world.arities; objects = s.world.objects; frames = s.world.frames; started = s.world.started; space = t; osi = s.world.osi; width = s.world.width; profile = p; nesting = s.world.nesting; passed = s.world.passed }; tables = s.tables; mode = s.mode; steps = s.steps; spent = s.spent })
       (wide s.world.profile ∙ sym is)
 
   none : (r : Outcome (Unit {0})) → IsEnded (λ e. ⊥) r → ⊥

@@ -26,7 +26,8 @@ ghost use Rattle.acpi_links.specs.Gatherings.{gathered};
 pub fn machine_faults_are_reached_by_accesses<S>()
     ensures tables { (accesses : Accesses S) (fault : SpaceFault) (t : Tables) (steps : ℕ)
         (osi : List (List ℕ)) (w : State S) →
-        (loaded_tables accesses t steps osi w).0 ≡ Err (Space fault) → LastFaults accesses fault w.space (loaded_tables accesses t steps osi w).1.space }
+        (loaded_tables accesses t steps osi w).0 ≡ Err (Space fault) →
+        LastFaults accesses fault w.space (loaded_tables accesses t steps osi w).1.space }
     ensures initialization { (accesses : Accesses S) (fault : SpaceFault) (mode : Mode) (s : MachineState S) →
         (initialized accesses mode s).0 ≡ Err (Space fault) → LastFaults accesses fault s.world.space
         (initialized accesses mode s).1.world.space }
@@ -51,7 +52,8 @@ pub fn routing_faults_are_reached_by_accesses<S>()
         LastFaults accesses fault s.world.space (current_resources accesses link s).1.world.space }
     ensures setting { (accesses : Accesses S) (fault : SpaceFault) (link : List Seg) (offer : InterruptOffer) (n : ℕ)
         (s : MachineState S) →
-        (resources_set accesses link offer n s).0 ≡ Err (Space fault) → LastFaults accesses fault s.world.space (resources_set accesses link offer n s).1.world.space }
+        (resources_set accesses link offer n s).0 ≡ Err (Space fault) →
+        LastFaults accesses fault s.world.space (resources_set accesses link offer n s).1.world.space }
     ensures gathering { (accesses : Accesses S) (fault : SpaceFault) (avoid : List ℕ) (s : MachineState S) →
         (gathered accesses avoid s).0 ≡ Err (Space fault) → LastFaults accesses fault s.world.space
         (gathered accesses avoid s).1.world.space }

@@ -1,4 +1,5 @@
-//! Initializing: which control methods are called, and which calls the wide profile passes over (ACPI 6.5, 5.8.1 and 6.5.1).
+//! Initializing: which control methods are called, and which calls the wide profile passes over (ACPI 6.5, 5.8.1 and
+//! 6.5.1).
 ghost use Rattle.std.specs.Prelude.{◌≡◌, List, true, false, Ok, Err};
 ghost use Rattle.std.specs.FinMap.{contains_key};
 ghost use Rattle.ar_space.specs.Accesses.{Accesses};
@@ -36,12 +37,13 @@ pub fn calls_of_initializing_are_passed_over<S>()
         m.world.profile ≡ Wide → (initialized accesses mode m).0 ≡ Err e → is_passable e ≡ false }
 {}
 
-/// Initializing calls `\_INI`, `\_SB_._INI` and `\_PIC`, in this order and nothing else, the last one with 0 where the 8259
-/// controllers are used and with 1 where I/O APICs are. One that doesn't stand isn't called, and changes nothing. Each is
-/// called in the world that the one before it left. Where one is refused, initializing is refused so, and nothing later is
-/// called, unless the wide profile passes the refusal over: that is noted, and the next one is called. The machine's mode
-/// is the one that is told, however the calls end; a spent machine stays as it is. A method that is called twice, that is
-/// left out, that gets another number or that is called though an earlier one was refused is refused by this.
+/// Initializing calls `\_INI`, `\_SB_._INI` and `\_PIC`, in this order and nothing else, the last one with 0 where
+/// the 8259 controllers are used and with 1 where I/O APICs are. One that doesn't stand isn't called, and changes
+/// nothing. Each is called in the world that the one before it left. Where one is refused, initializing is refused
+/// so, and nothing later is called, unless the wide profile passes the refusal over: that is noted, and the next one
+/// is called. The machine's mode is the one that is told, however the calls end; a spent machine stays as it is. A
+/// method that is called twice, that is left out, that gets another number or that is called though an earlier one
+/// was refused is refused by this.
 pub fn initializing_calls_three_methods_in_turn<S>()
     ensures calls { (accesses : Accesses S) (mode : Mode) (m : MachineState S) → m.spent ≡ false →
         CalledInTurn accesses (initializing_calls mode) (record m { mode = mode }) (initialized accesses mode m).0

@@ -26,7 +26,8 @@ ghost use Rattle.route_report.specs.Readable.{triggers_told, buses_told};
 ghost use Rattle.route_report.specs.Reports.{ReportedLink, RoutingReport};
 ghost use Rattle.aml_laws.specs.Reached.{Reached};
 ghost use Rattle.route_report.specs.Readable.{claim_of_report};
-ghost use Rattle.machine_laws.specs.KernelLines.{HasTrigger, WayHasTrigger, sources_in, Governs, IsOverrideTo, IsOverrideOf};
+ghost use Rattle.machine_laws.specs.KernelLines.{HasTrigger, WayHasTrigger, sources_in};
+ghost use Rattle.machine_laws.specs.KernelLines.{Governs, IsOverrideTo, IsOverrideOf};
 ghost use Rattle.machine_laws.specs.KernelLines.{Follows, IsTriggeredAsOffered, HasTable, HasBus, BusesAsked};
 ghost use Rattle.machine_laws.specs.KernelLines.{with_kernel, SameButForKernel, SameBesideWorld};
 
@@ -69,8 +70,8 @@ pub fn interrupts_are_triggered_as_their_overrides_say<S>()
         Contains (triggers_told report.options) line → line.source ≡ Sci n → Follows flags line }
 {}
 
-/// The interrupt of a link is level-triggered, and of the polarity of its own offer, the one that its `_PRS` gave when it was
-/// asked in the run. Another link's polarity, or an override's, is refused by this.
+/// The interrupt of a link is level-triggered, and of the polarity of its own offer, the one that its `_PRS` gave
+/// when it was asked in the run. Another link's polarity, or an override's, is refused by this.
 pub fn links_are_triggered_as_they_offer<S>()
     ensures { (accesses : Accesses S) (o : RunOptions) (before after : MachineState S) (report : RoutingReport)
         (is : IsReportFor accesses o before after report) → o.kernel ≡ true → (path : List Seg) (line : TriggerLine) →
@@ -106,11 +107,11 @@ pub fn the_device_of_each_pin_has_one_line_bus<S>()
         kind_at is.configured.world.names.map pin.device ≡ Some kind.Device → HasBus report pin.device }
 {}
 
-/// The bus of a routing table is in the segment group that the nearest `_SEG` tells, of the device and those above it, and
-/// is the one that the nearest `_BBN` tells, 0 where there is none, or that the bridges lead to from there, from the
-/// outermost one down to the device itself: each tells its secondary bus on the bus that the one before it told. There are
-/// no other accesses, and nothing else changes but that all mutexes are free. In the core profile neither the device nor
-/// one above it is a bridge. A bus of another device's objects is refused by this.
+/// The bus of a routing table is in the segment group that the nearest `_SEG` tells, of the device and those above
+/// it, and is the one that the nearest `_BBN` tells, 0 where there is none, or that the bridges lead to from there,
+/// from the outermost one down to the device itself: each tells its secondary bus on the bus that the one before it
+/// told. There are no other accesses, and nothing else changes but that all mutexes are free. In the core profile
+/// neither the device nor one above it is a bridge. A bus of another device's objects is refused by this.
 pub fn the_bus_of_a_routing_table_is_told_by_its_objects<S>()
     ensures { (accesses : Accesses S) (device : List Seg) (m : MachineState S) (seg bus end : ℕ)
         (addresses : List (ℕ × ℕ)) (after : S) → m.spent ≡ false →
@@ -146,6 +147,6 @@ pub fn a_run_for_a_kernel_is_one_without_its_lines<S>()
         Reached accesses is.configured.world.space after.world.space }
     ensures lines { (accesses : Accesses S) (o : RunOptions) (before after : MachineState S) (plain : RoutingReport) →
         IsReportFor accesses (with_kernel false o) before after plain →
-        (report : RoutingReport) × (left : MachineState S) × IsReportFor accesses (with_kernel true o) before left report ×
-        SameButForKernel report plain }
+        (report : RoutingReport) × (left : MachineState S) ×
+        IsReportFor accesses (with_kernel true o) before left report × SameButForKernel report plain }
 {}

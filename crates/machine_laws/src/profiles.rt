@@ -52,12 +52,12 @@ pub fn the_wide_profile_calls_as_the_core_one_does<S>()
         call_widened (resources_set accesses link offer n s)) }
 {}
 
-/// The same of the bus that a routing table is for: where the core profile reaches it, so does the wide one, by the same
-/// accesses.
+/// The same of the bus that a routing table is for: where the core profile reaches it, so does the wide one, by the
+/// same accesses.
 #[tactic(auto, using(crate::proofs::MachinesWidened::bus_widened))]
 pub fn the_wide_profile_finds_the_buses_that_the_core_one_does<S>()
-    ensures { (accesses : Accesses S) (device : List Seg) (s : MachineState S) → IsLeftOut (bus_found accesses device s).0 ⊎
-        (bus_found accesses device (machine_widened s) ≡ call_widened (bus_found accesses device s)) }
+    ensures { (accesses : Accesses S) (device : List Seg) (s : MachineState S) →
+        IsLeftOut (bus_found accesses device s).0 ⊎ (bus_found accesses device (machine_widened s) ≡ call_widened (bus_found accesses device s)) }
 {}
 
 /// The same of a routing table, of what a link may be set to, and of all that is gathered before links are set. The
@@ -76,8 +76,8 @@ pub fn the_wide_profile_gathers_what_the_core_one_does<S>()
 {}
 
 /// A report of a machine is one of the same machine in the wide profile, if no line of it tells of what the
-/// profile leaves out, and it leaves the same machine with the same registers: with options, with lines for a kernel, and
-/// without.
+/// profile leaves out, and it leaves the same machine with the same registers: with options, with lines for a kernel,
+/// and without.
 #[tactic(auto, using(crate::proofs::ReportsWidened::report_widened, crate::proofs::ReportsWidened::report_with_options_widened, crate::proofs::TellingWidened::report_for_kernels_widened))]
 pub fn the_wide_profile_reports_what_the_core_one_does<S>()
     ensures report { (accesses : Accesses S) (dry : Bool) (avoid : List ℕ) (before after : MachineState S)

@@ -18,7 +18,7 @@ ghost use Rattle.aml_path.specs.declared.segment.Seg.{Seg};
 ghost use Rattle.aml_meaning.specs.Given.{Given};
 ghost use Rattle.aml_meaning.specs.Predefined.{fresh_as};
 ghost use Rattle.aml_meaning.specs.State.{State};
-ghost use Rattle.aml_meaning.specs.declared.profile.Profile.{Profile};
+ghost use Rattle.aml_meaning.specs.declared.settings.EvaluationSettings.{EvaluationSettings};
 ghost use Rattle.aml_laws.specs.Becomes.{Becomes};
 ghost use Rattle.aml_laws.specs.PassedNotes.{KeepsTheFirst, GoesOn};
 ghost use Rattle.acpi_machine.specs.Calls.{called_where_it_stands, evaluated_object, initialized};
@@ -46,9 +46,9 @@ pub fn a_machine_makes_of_its_world_what_evaluations_do<S>()
 /// it evaluates. What was kept before initializing stays, in its order, and the count never falls.
 #[tactic(auto, using(crate::proofs::MachineWorlds::first_of_loading, crate::proofs::MachineWorlds::first_of_initializing, crate::proofs::MachineWorlds::more_of_initializing, crate::proofs::MachineWorlds::first_of_object))]
 pub fn the_first_that_a_machine_passes_over_are_kept<S>()
-    ensures tables { (accesses : Accesses S) (profile : Profile) (width : IntegerWidth) (osi : List (List ℕ))
+    ensures tables { (accesses : Accesses S) (settings : EvaluationSettings) (width : IntegerWidth) (osi : List (List ℕ))
         (space : S) (t : Tables) (steps : ℕ) →
-        KeepsTheFirst (loaded_tables accesses t steps osi (fresh_as profile width osi space)).1.passed }
+        KeepsTheFirst (loaded_tables accesses t steps osi (fresh_as settings width osi space)).1.passed }
     ensures initialization { (accesses : Accesses S) (mode : Mode) (m : MachineState S) →
         KeepsTheFirst m.world.passed → KeepsTheFirst (initialized accesses mode m).1.world.passed }
     ensures goes_on { (accesses : Accesses S) (mode : Mode) (m : MachineState S) →
@@ -59,9 +59,9 @@ pub fn the_first_that_a_machine_passes_over_are_kept<S>()
 
 /// What a routing table, what a link device may be set to, what it is set to, setting it, all that is gathered and a
 /// report of a machine make of it: evaluations change its world, one after another, and its tables, its mode, the steps
-/// of an evaluation and whether it is spent stay. So the laws of evaluations speak of whole runs, but for the buses that
-/// a kernel asks for. A call that keeps a mode of its own, or tells of other tables than those of the machine, is refused
-/// by this.
+/// of an evaluation and whether it is spent stay. So the laws of evaluations speak of whole runs, but for the buses
+/// that a kernel asks for. A call that keeps a mode of its own, or tells of other tables than those of the machine,
+/// is refused by this.
 pub fn a_run_changes_its_machine_by_evaluations<S>()
     ensures routing_table { (accesses : Accesses S) (device : List Seg) (m : MachineState S) →
         OnlyEvaluated accesses m (routing_table accesses device m).1 }

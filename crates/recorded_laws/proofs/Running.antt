@@ -93,7 +93,7 @@ module _ {S T : Type 0} {accesses : Accesses S} {accesses2 : Accesses T} (side :
 
   pub described_run_carried : (d : Outcome Description) (before : S) (outcome : Outcome RoutingReport) (space : S) (t : T) → IsDescribedRun accesses settings avoid d before outcome space → side.InStep before t
       → Carried side space (λ v. IsDescribedRun accesses2 settings avoid d t outcome v)
-  described_run_carried (Ok d) before outcome space t is i = run_over_goes d before outcome space t is (goes_from side worlds _ _ ((one_profile side 0 (loaded_tables_together (alike side) (λ n. refl) d.0 settings.steps d.1)).goes (fresh_as settings.profile d.0.width d.1 before) t i))
+  described_run_carried (Ok d) before outcome space t is i = run_over_goes d before outcome space t is (goes_from side worlds _ _ ((one_profile side 0 (loaded_tables_together (alike side) (λ n. refl) d.0 settings.steps d.1)).goes (fresh_as settings.evaluation d.0.width d.1 before) t i))
   described_run_carried (Err e) before outcome space t is i = inr (t, (is.0, refl), subst (λ s. side.InStep s t) is.1 i)
 
   pub run_carried : (text : List ℕ) (before : S) (outcome : Outcome RoutingReport) (space : S) (t : T) → IsRun accesses settings avoid text before outcome space → side.InStep before t

@@ -92,7 +92,7 @@ module _ {S : Type 0} (accesses : Accesses S) (q : Asking) (osi : List (List ℕ
   unfolding watching
   watched_run (Ok t) before =
       tables_same t before (loaded_over (watched accesses) q t osi before).0 (loaded_over (watched accesses) q t osi before).1
-      (goes_from (watching accesses) worlds (loaded_over (watched accesses) q t osi before) (loaded_over accesses q t osi before.inner) ((one_profile (watching accesses) 0 (loaded_tables_together (alike (watching accesses)) (λ n. refl) t q.evaluation.steps osi)).goes (fresh_as q.evaluation.profile t.width osi before) before.inner refl))
+      (goes_from (watching accesses) worlds (loaded_over (watched accesses) q t osi before) (loaded_over accesses q t osi before.inner) ((one_profile (watching accesses) 0 (loaded_tables_together (alike (watching accesses)) (λ n. refl) t q.evaluation.steps osi)).goes (fresh_as q.evaluation.settings t.width osi before) before.inner refl))
   watched_run (Err e) before = (refl, refl)
 
 -- ---- links that are set and read

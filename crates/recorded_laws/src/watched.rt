@@ -21,8 +21,8 @@ ghost use Rattle.acpiroute_words.specs.declared.request.Asking.{Asking};
 ghost use Rattle.acpiroute_lib.specs.Ended.{options_of, run_of};
 ghost use Rattle.recorded_laws.specs.Unwatched.{machine_below};
 
-/// Keeping the last access changes no run, up to where what it has to find is found: it is refused by the same refusal as over
-/// the space below, or not refused as that isn't, and leaves the same registers.
+/// Keeping the last access changes no run, up to where what it has to find is found: it is refused by the same
+/// refusal as over the space below, or not refused as that isn't, and leaves the same registers.
 pub fn keeping_the_last_access_changes_no_run<S>()
     ensures outcome { (accesses : Accesses S) (q : Asking) (tables : Outcome Tables) (osi : List (List ℕ))
         (before : Watch S) →
@@ -32,8 +32,8 @@ pub fn keeping_the_last_access_changes_no_run<S>()
         (run_of (watched accesses) q tables osi before).1.inner ≡ (run_of accesses q tables osi before.inner).1 }
 {}
 
-/// Nor does it change how links are set and read: each setting and each reading comes to the same over the space below, and
-/// leaves the same machine.
+/// Nor does it change how links are set and read: each setting and each reading comes to the same over the space
+/// below, and leaves the same machine.
 pub fn keeping_the_last_access_changes_no_setting<S>()
     ensures outcome { (accesses : Accesses S) (dry : Bool) (links : List PresentLink) (choice : List ℕ)
         (machine : MachineState (Watch S)) →

@@ -5,7 +5,8 @@ ghost use Rattle.std.specs.List.{filter_map};
 ghost use Rattle.acpi_links.specs.Links.{is_low};
 ghost use Rattle.route_report.specs.Readable.{triggers_told, buses_told};
 ghost use Rattle.route_report.specs.Reports.{after_state};
-ghost use Rattle.recorded_route.specs.Pins.{plainly, is_level, triggering_in, is_link, is_wired, is_sci, triggering_where};
+ghost use Rattle.recorded_route.specs.Pins.{plainly, is_level, triggering_in, is_link};
+ghost use Rattle.recorded_route.specs.Pins.{is_wired, is_sci, triggering_where};
 ghost use Rattle.recorded_route.specs.Pins.{level_of, is_done, took_setting, is_only, is_read_back, is_link_set};
 ghost use Rattle.recorded_route.specs.Pins.{is_route_set, bus_in, bus_of, routed, routed_sci};
 ghost use Rattle.recorded_route.specs.Pins.{pin_with, pin_of, pins_of};
@@ -355,8 +356,8 @@ pub fn pins_of(alloc: Global, report: &Report) -> Result<Vec<Pin>, AllocError>
     Ok(pins)
 }
 
-/// The System Control Interrupt of a report, and how it is triggered, by the lines for a kernel: without them it is level
-/// and low. None where the report names none: the FADT has none for it.
+/// The System Control Interrupt of a report, and how it is triggered, by the lines for a kernel: without them it is
+/// level and low. None where the report names none: the FADT has none for it.
 pub fn sci_of(report: &Report) -> Option<RoutedInterrupt>
     ensures { result ≡ routed_sci report.now }
 {
