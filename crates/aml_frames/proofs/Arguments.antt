@@ -43,8 +43,8 @@ module _ {S : Type 0} {ac : Accesses S} where
   -- an argument is refused
   pub argument_refused : {m : Run S Flow} {r : Outcome Next} {d : Site} {s0 s s1 : State S × ℕ} (c : Site) (k : Call) (e : Refusal) → Same m s0 (arguments_left ac (meaning ac) k k.done.items c) s → 0 < k.left → Does {A = Flow} (Err e) s1 (term_run ac (meaning ac) c k.levels) s → IsErr r × IsErrAnd r (λ y. y ≡ e)
       → Leads ac (meaning ac) r d s1 m s0
-  argument_refused c k e h some g i =
-      let l = leads_on (next.Term k.levels (frames.Argument (fewer k))) c _ (refused_known c e k.levels (frames.Argument (fewer k)) g i) (leads_argument c k (fewer k) some refl) in
+  argument_refused {r = r} {d = d} {s = s} {s1 = s1} c k e h some g i =
+      let l : Leads ac (meaning ac) r d s1 (arguments_left ac (meaning ac) k k.done.items c) s = leads_on (next.Term k.levels (frames.Argument (fewer k))) c _ (refused_known c e k.levels (frames.Argument (fewer k)) g i) (leads_argument c k (fewer k) some refl) in
       record { is = λ ne. h.is ∙ l.is ne }
 
   -- an argument has to be waited for
@@ -55,15 +55,21 @@ module _ {S : Type 0} {ac : Accesses S} where
   -- all arguments are evaluated
   pub arguments_done : {m : Run S Flow} {r : Outcome Next} {e : Site} {s0 s s1 : State S × ℕ} (c : Site) (k : Call) → Same m s0 (arguments_left ac (meaning ac) k k.done.items c) s → k.left ≡ 0 → Leads ac (meaning ac) r e s1 (called ac (meaning ac) k.callee c.depth k.done.items) s
       → Leads ac (meaning ac) r e s1 m s0
-  arguments_done c k h none l = let i = leads_no_argument c k none l in record { is = λ ne. h.is ∙ i.is ne }
+  arguments_done c k h none l =
+      let i = leads_no_argument c k none l in
+      record { is = λ ne. h.is ∙ i.is ne }
 
 -- ---- where the call ends
 
 pub ends_taken : (b c d : Site) (k j : Call) → behind_arguments k c ≡ b → 0 < k.left → d ≡ behind_term c k.levels → j.left ≡ k.left - 1 → j.levels ≡ k.levels → behind_arguments j d ≡ b
-ends_taken b c d k j h some at left levels = rw (at, left, levels) (ends_argument c k (fewer k) some refl) ∙ h
+ends_taken b c d k j h some at left levels =
+    let over : behind_arguments j d ≡ behind_arguments k c = rw (at, left, levels) (ends_argument c k (fewer k) some refl) in
+    over ∙ h
 
 pub ends_waiting : (b c d : Site) (k j : Call) → behind_arguments k c ≡ b → 0 < k.left → j ≡ fewer k → d ≡ c → next_ends (next.Term k.levels (frames.Argument j)) d ≡ b
-ends_waiting b c d k j h some one at = rw at (ends_argument c k j some one) ∙ h
+ends_waiting b c d k j h some one at =
+    let over : next_ends (next.Term k.levels (frames.Argument j)) d ≡ behind_arguments k c = rw at (ends_argument c k j some one) in
+    over ∙ h
 
 pub ends_called : (r : Outcome Next) (b c d : Site) (k : Call) → behind_arguments k c ≡ b → k.left ≡ 0 → EndsAt r d c → EndsAt r d b
 ends_called r b c d k h none l = subst (EndsAt r d) (ends_no_argument c k none ∙ h) l

@@ -21,7 +21,7 @@ use Rattle.aml_frames.specs.Places.{Site}
 use Rattle.aml_frames.specs.Follow.{ends, turn_items, resumed, next_run, next_ends, Leads}
 use Rattle.aml_frames.specs.Weights.{next_weight, charged}
 use Rattle.aml_frames.specs.Stack.{TurnWaits, then_all, machine, Goes, stack_weight, control_weight}
-use Rattle.aml_frames.proofs.Machine.{weight_on, goes_frame, goes_leads, goes_leads_err, goes_turn}
+use Rattle.aml_frames.proofs.Machine.{weight_on, goes_flow, goes_frame, goes_leads, goes_leads_err, goes_turn}
 use Rattle.aml_frames.proofs.PassedItems.{never_refused, never_memory}
 use Rattle.aml_frames.proofs.Weighing.{charged_less}
 
@@ -88,4 +88,4 @@ pub refused_left : (r : Outcome Control) (a b : ℕ) (xs ys : List Entry) (l : L
 refused_left (Ok c) a b xs ys l waits popped h = tt
 refused_left (Err z) a b xs ys l waits popped h = λ _. let p = charged_less a b h in let q = weighs xs ys l waits popped in omega (arith, p, q)
 
-pub ruleset turning = (turn_again, turn_done, turn_refused, falls_again, falls_left, refused_left, never_refused, never_memory)
+pub ruleset turning = (goes_flow, turn_again, turn_done, turn_refused, falls_again, falls_left, refused_left, never_refused, never_memory)
