@@ -257,6 +257,10 @@ static void judge_spoiled(const struct question *it) {
     judge_told(&other, ACPIROUTE_MALFORMED);
     other = *it, other.settings.kernel = 2;
     judge_told(&other, ACPIROUTE_MALFORMED);
+    other = *it, other.settings.calls = 33;
+    judge_told(&other, ACPIROUTE_MALFORMED);
+    other = *it, other.settings.levels = 65;
+    judge_told(&other, ACPIROUTE_MALFORMED);
 }
 
 /* Pins. */
