@@ -102,8 +102,12 @@ impl ScannedBody {
         body: &Body,
         marks: &Marks,
     ) -> Result<ScannedBody, Refusal>
-        ensures { Answers result (Ok (record { path = path.now; body = body.now; levels = levels;
-            marks = marks.now })) }
+        ensures { Answers result (Ok (record {
+          path = path.now;
+          body = body.now;
+          levels = levels;
+          marks = marks.now;
+        })) }
     {
         Ok(ScannedBody {
             path: path.copy(alloc)?,
