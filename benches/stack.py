@@ -4,7 +4,8 @@
     benches/stack.py [PROGRAM | LIBRARY.a]
 
 For each kind of term, 32 control methods call one another, each through as many terms of this kind, one inside the other, as are
-taken; and then the same by the setting `--calls 4 --levels 8`, with 4 of them. The last one ends the evaluation by Fatal, so that the terms around the calls need not give the values that are wanted there.
+taken; and then 4 of them do the same with the setting `--calls 4 --levels 8`. The last one ends the evaluation by Fatal, so that the terms
+around the calls need not give the values that are wanted there.
 A program is run on the first of them with ever smaller stacks, and the least one on which it ends without a signal is printed, in KiB,
 to the nearest 16. With none named, it is the built one in crates/acpiroute/out. Of a library that tools/kernel_library.py makes,
 `acpiroute_eval` is called, and it is printed how far down its stack was written to, in KiB. In the kinds of fields, the calls are those
