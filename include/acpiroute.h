@@ -40,9 +40,10 @@
  * Nothing is kept between two calls, and there is no global state: any number of threads may make calls at once, each over its
  * own buffers. Everything that is handed in stays the caller's. A call reads no file, prints nothing, and touches no register.
  *
- * Give a call 128 KiB of stack: at most 91 KiB were measured; with fewer levels of terms than 64 it needs less (`levels` of the settings,
- * or the option `--levels`). It takes as much memory as the tables ask for. The option `--steps`
- * bounds how many terms an evaluation begins, and neither time nor memory; the option `--accesses` bounds the accesses of registers.
+ * Give a call 128 KiB of stack: at most 91 KiB were measured. Fewer levels of terms than 64 bound it lower (`levels` of the settings, or
+ * the option `--levels`), but 16 KiB are too few whatever the setting: docs/EMBEDDING.md, "How deep calls and terms may be". A call takes
+ * as much memory as the tables ask for. The option `--steps` bounds how many terms an evaluation begins, and neither time nor memory; the
+ * option `--accesses` bounds the accesses of registers.
  */
 #ifndef ACPIROUTE_H
 #define ACPIROUTE_H
@@ -200,7 +201,7 @@ struct acpiroute_wanted {
  */
 enum { ACPIROUTE_PIC = 0, ACPIROUTE_APIC = 1, ACPIROUTE_WIDE = 2 };
 
-/* How a machine is configured. */
+/* How a machine is configured. Each number counts, so set all of them; those that an initializer leaves out are 0. */
 struct acpiroute_settings {
     /* The budget of steps for each table and each evaluation, from 1 to 1,000,000,000. */
     uint64_t steps;
@@ -210,9 +211,16 @@ struct acpiroute_settings {
     uint8_t dry;
     /* 1 where the report is to have the lines for a kernel, as with the option `--kernel`, and else 0. */
     uint8_t kernel;
-    /* How many control methods may be called one inside another, as with the option `--calls`: 1 to 32, and 0 for 32. */
+    /*
+     * How many calls may be made one inside another, as with the option `--calls`: 1 to 32, and 0 for 32. A call is a control method,
+     * `_OSI`, or an object that says a part of an address (`_SEG`, `_BBN`, `_ADR`), so give at least 2. What is deeper than fewer than 32
+     * allow is refused by number 144.
+     */
     uint8_t calls;
-    /* How many terms may be one inside another, as with the option `--levels`: 1 to 64, and 0 for 64. */
+    /*
+     * How many terms may be one inside another in a table or in the body of a control method, as with the option `--levels`: 1 to 64, and
+     * 0 for 64. What is deeper than fewer than 64 allow is refused by number 144.
+     */
     uint8_t levels;
 };
 

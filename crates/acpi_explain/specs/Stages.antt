@@ -75,7 +75,7 @@ module _ {S : Type 0} (accesses : Accesses S) where
     pub is_run : loaded_tables accesses t steps osi (fresh_as settings t.width osi space) ≡ (Err refusal, after)
 
   -- which table is refused; where none is, all are loaded, unless `_OSI` is to know too many texts
-  abbrev pub IsTable : Profile → Tables → ℕ → List (List ℕ) → S → Option ℕ → Type 0
+  abbrev pub IsTable : EvaluationSettings → Tables → ℕ → List (List ℕ) → S → Option ℕ → Type 0
   IsTable settings t steps osi space None = few_texts osi ≡ Ok tt → (after : State S) × (loaded_tables accesses t steps osi (fresh_as settings t.width osi space) ≡ (Ok tt, after))
   IsTable settings t steps osi space (Some number) = IsTableRefused settings t steps osi space number
 

@@ -33,7 +33,7 @@ The machine text is read from the standard input: acpiroute route < machine.txt
 
 --steps bounds the terms that an evaluation begins, and --accesses the accesses of registers in the whole run: one \
 term may make many. --calls and --levels bound how deep control methods call one another, and how deep terms nest: \
-what goes deeper is refused by number 144.
+with fewer than 32 and 64, what is deeper is refused by number 144.
 
 The numbers of --avoid are separated by commas, without blanks: --avoid 3,4,7. Any other text is told by the line \
 'bad --avoid'. With the 8259 controllers, --mode pic, devices of the ISA bus may use interrupts that links offer, \

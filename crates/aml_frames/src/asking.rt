@@ -66,7 +66,7 @@ fn answer_allowed<S: Space>(
     ensures few { IfOk result (λ a. asked_weight a ≤ part_weight calls) }
     ensures means { Asks S.accesses (meaning S.accesses) result run.now
         (answer_over S.accesses (meaning S.accesses) (calls - 1)
-            (asked (answer_within S.accesses (meaning S.accesses) (calls - 1))) found) run.now }
+        (asked (answer_within S.accesses (meaning S.accesses) (calls - 1))) found) run.now }
 {
     match found {
         Invocation::Value(value) => known(run, value),

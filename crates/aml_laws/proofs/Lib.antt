@@ -50,6 +50,7 @@ pub mod CountedWideTerms
 pub mod DecimalCodes
 pub mod DeclarationNumbers
 pub mod DeclaredNamesStand
+pub mod Deepening
 pub mod EndOfCalls
 pub mod EvaluationsPreserve
 pub mod EvaluationsTogether
@@ -113,6 +114,8 @@ pub mod MoreSteps
 pub mod MutexesCounted
 pub mod MutexesFree
 pub mod NamedIntegers
+pub mod NestingKept
+pub mod NestingTogether
 pub mod NamesSearched
 pub mod NamesStay
 pub mod NestedData

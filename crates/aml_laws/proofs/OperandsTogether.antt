@@ -23,7 +23,8 @@ use Rattle.aml_meaning.specs.FieldCalls.{called_at, asked, method_integer, answe
 use Rattle.aml_laws.proofs.Together.{Sides, Together, give_together, settle_together, stop_together, then_together}
 use Rattle.aml_laws.proofs.Levels.{level, from_body}
 use Rattle.aml_laws.proofs.WorldsTogether.{leaving_together, lift_together, opened_together, runs}
-use Rattle.aml_laws.proofs.ChangesTogether.{body_terms_together, integer_in_together, invocation_found_together, shallow_together}
+use Rattle.aml_laws.proofs.ChangesTogether.{integer_in_together, invocation_found_together}
+use Rattle.aml_laws.proofs.NestingTogether.{body_terms_together, shallow_together}
 use Rattle.aml_laws.proofs.StoreTargetsTogether.{stored_together}
 use Rattle.aml_laws.proofs.FieldsTogether.{field_integer_together, field_part_together, field_referent_together, field_stored_together, field_value_together}
 

@@ -14,6 +14,7 @@ pub mod Counted
 pub mod CountedEvaluations
 pub mod CountedTrees
 pub mod Declares
+pub mod Deepened
 pub mod Digits
 pub mod Events
 pub mod FieldLists

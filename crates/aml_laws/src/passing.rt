@@ -76,8 +76,8 @@ pub fn the_core_profile_passes_nothing_over<S>()
 {}
 
 /// In the bodies of control methods nothing is passed over, in either profile: a term, a list of terms and a call of a
-/// control method note nothing where one is being called, nor does the value of an object or an answer, however it ends.
-/// A list in a body that goes on behind a refusal is refused by this.
+/// control method note nothing where one is being called, nor does the value of an object or an answer, however it
+/// ends. A list in a body that goes on behind a refusal is refused by this.
 #[tactic(auto, using(crate::proofs::BodiesPassNothing::body_notes_nothing, crate::proofs::BodiesPassNothing::list_notes_nothing, crate::proofs::BodiesPassNothing::call_notes_nothing, crate::proofs::BodiesPassNothing::value_notes_nothing, crate::proofs::BodiesPassNothing::answer_notes_nothing))]
 pub fn control_methods_pass_nothing_over<S>()
     ensures terms { (accesses : Accesses S) (t : Task) (s : State S × ℕ) → module_level t.depth ≡ false →

@@ -39,7 +39,8 @@ pub fn scan_list<C: ArgumentCounts>(
     Marks::new(alloc, noted.marks)
 }
 
-/// As `scan_list`, where terms may be one inside another within `levels` levels, the outermost counted; more than 64 are
+/// As `scan_list`, where terms may be one inside another within `levels` levels, the outermost counted; more than 64
+/// are
 /// 64. A term that is deeper than fewer than 64 levels allow is refused as `DepthSetting`, in place of `TooDeep`.
 #[tactic(auto, using(crate::proofs::Within::scanning))]
 pub fn scan_list_within<C: ArgumentCounts>(

@@ -20,8 +20,8 @@ use std::mem;
 
 impl<S> WorldState<S> {
     /// The marks of the body of the control method at a path, with the arguments that names take now; refused as
-    /// `scan_list_within` refuses it, within the levels that this world allows. The body that was read last is not scanned again, unless a name came or went, or a
-    /// control method or an alias was replaced.
+    /// `scan_list_within` refuses it, within the levels that this world allows. The body that was read last is not
+    /// scanned again, unless a name came or went, or a control method or an alias was replaced.
     ///
     /// They are good for the whole call: names that it declares or removes don't change how its body reads.
     pub fn body_marks(&mut self, alloc: Global, path: &Path, body: &Body) -> Result<Marks, Refusal>
@@ -73,8 +73,8 @@ impl Declarations {
         }
     }
 
-    /// Keeps the marks of a body that was scanned now within so many levels, and no others. Where there is no memory for it, what is kept
-    /// stays.
+    /// Keeps the marks of a body that was scanned now within so many levels, and no others. Where there is no memory
+    /// for it, what is kept stays.
     fn keep(
         &mut self,
         alloc: Global,
@@ -102,8 +102,12 @@ impl ScannedBody {
         body: &Body,
         marks: &Marks,
     ) -> Result<ScannedBody, Refusal>
-        ensures { Answers result (Ok (record { path = path.now; body = body.now; levels = levels;
-            marks = marks.now })) }
+        ensures { Answers result (Ok (record {
+          path = path.now;
+          body = body.now;
+          levels = levels;
+          marks = marks.now;
+        })) }
     {
         Ok(ScannedBody {
             path: path.copy(alloc)?,

@@ -8,7 +8,7 @@ ghost use Rattle.aml_namespace.specs.Namespace.{numbered};
 ghost use Rattle.aml_namespace.specs.Search.{found};
 ghost use Rattle.aml_meaning.specs.Readings.{arguments_of};
 ghost use Rattle.aml_meaning.specs.Invocations.{invocation_of_body, invocation_of_object, invocation_of, named_use};
-ghost use Rattle.aml_meaning.specs.Invocations.{invocation_found, use_found, left, shallow};
+ghost use Rattle.aml_meaning.specs.Invocations.{invocation_found, use_found, left, shallow, shallow_within};
 
 use crate::invocation::Invocation;
 use crate::readings::{arguments_of, as_many, read_as};
@@ -31,15 +31,7 @@ impl<S> WorldState<S> {
         ensures few { OnOk result (depth < 32) }
         ensures memory { NotMemory result }
     {
-        if depth < MAX_CALLS {
-            if depth < self.nesting.calls {
-                Ok(())
-            } else {
-                Err(Refusal::Evaluation(EvaluationFault::DepthSetting))
-            }
-        } else {
-            Err(Refusal::Evaluation(EvaluationFault::CallDepth))
-        }
+        shallow_within(self.nesting.calls, depth)
     }
 
     /// What a name is where a value stands, with so many arguments.
@@ -145,5 +137,22 @@ impl<S> WorldState<S> {
     {
         self.close_frame();
         self.remove_below(path);
+    }
+}
+
+/// At most 32 calls one inside another, and no more than a setting allows.
+fn shallow_within(calls: usize, depth: usize) -> Result<(), Refusal>
+    ensures answer { result ≡ shallow_within calls depth }
+    ensures few { OnOk result (depth < 32) }
+    ensures memory { NotMemory result }
+{
+    if depth < MAX_CALLS {
+        if depth < calls {
+            Ok(())
+        } else {
+            Err(Refusal::Evaluation(EvaluationFault::DepthSetting))
+        }
+    } else {
+        Err(Refusal::Evaluation(EvaluationFault::CallDepth))
     }
 }

@@ -13,8 +13,8 @@ pub struct Nesting {
     /// How many control methods may be called one inside another. More than 32 may never be: the next one is refused as
     /// `CallDepth`.
     pub calls: usize,
-    /// How many terms may be one inside another in a list that is scanned, the outermost counted. More than 64 may never
-    /// be: the next one is refused as `TooDeep`.
+    /// How many terms may be one inside another in a list that is scanned, the outermost counted. More than 64 may
+    /// never be: the next one is refused as `TooDeep`.
     pub levels: usize,
 }
 

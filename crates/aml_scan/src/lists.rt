@@ -119,7 +119,7 @@ fn scan_behind<C: ArgumentCounts, B: Before>(
     requires { C.counts counts.now ≡ B.before }
     ensures { Answers (seen (λ n. (n.marks.items, B.before ++ n.added)) result)
         (noted (items (term_at by_arities levels) positions.ListItem scope.now (outermost body)
-            (beginning bytes.now B.before))) }
+        (beginning bytes.now B.before))) }
 {
     let context = Context {
         body,
