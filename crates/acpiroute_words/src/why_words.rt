@@ -8,11 +8,12 @@ ghost use Rattle.acpiroute_words.specs.CommandLine.{fourth_why_app, why_app};
 ghost use Rattle.acpiroute_words.specs.CommandLine.{told_of, why_with, why_evaluated, has_route_options};
 ghost use Rattle.acpiroute_words.specs.CommandLine.{why_asked, why_of};
 
-use crate::command_line::{
-    accesses_arg, arguments_arg, avoid_arg, calls_arg, dry_arg, eval_of, kernel_arg, levels_arg,
-    mode_arg, profile_arg, route_of, spare_arg, spread_arg, steps_arg,
-};
+use crate::command_line::{eval_of, route_of};
 use crate::help_texts;
+use crate::options::{
+    accesses_arg, arguments_arg, avoid_arg, calls_arg, dry_arg, kernel_arg, levels_arg, mode_arg,
+    profile_arg, spare_arg, spread_arg, steps_arg,
+};
 use crate::request::{Asked, Asking, Question, Request};
 use crate::values::is_true;
 use clap::{Arg, ArgAction, ArgMatches, Command};
