@@ -92,7 +92,7 @@ until h (suc k) = record { is = λ s. (until_by s.rest h (until h k)).is s }
 
 -- ---- operands
 
-Inners : Inner → Inner → Type 0
+abbrev Inners : Inner → Inner → Type 0
 Inners i j = (position : Position) (scope : List Seg) (context : Context) → Sooner (i position scope context) (j position scope context)
 
 module _ (i j : Inner) (h : Inners i j) where
@@ -222,7 +222,7 @@ module _ (i j : Inner) (h : Inners i j) where
 
 -- ---- terms
 
-Belows : Option Inner → Option Inner → Type 0
+abbrev Belows : Option Inner → Option Inner → Type 0
 Belows None o = Unit {0}
 Belows (Some i) None = ⊥
 Belows (Some i) (Some j) = Inners i j
