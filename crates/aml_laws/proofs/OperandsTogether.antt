@@ -85,7 +85,7 @@ module _ {S T : Type 0} {accesses : Accesses S} {accesses2 : Accesses T} {side :
   answer_within_together : (d k : ℕ) (i : Invocation) → Together (level side d) runs (answer_within accesses ev k i) (answer_within accesses2 ev2 k i)
   unfolding answer_within
   answer_within_together d zero i = stop_together _
-  answer_within_together d (suc k) i = then_together (lift_together (shallow_together (31 - k))) (λ few. answer_over_together d k (asked_together d (answer_within_together d k)) i)
+  answer_within_together d (suc k) i = then_together (lift_together (shallow_together _)) (λ few. answer_over_together d k (asked_together d (answer_within_together d k)) i)
 
   pub called_at_together : (depth : ℕ) (q : List Seg) → Together (level side depth) runs (called_at accesses ev depth q) (called_at accesses2 ev2 depth q)
   called_at_together depth q = asked_together depth (answer_within_together depth _) q

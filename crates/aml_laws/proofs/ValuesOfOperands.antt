@@ -107,6 +107,11 @@ module _ {H : Type 0} {I : H → Type 0} where
   pub any_settle_maintains : {A : Type 0} (x : Outcome A) → Maintains I Any (settle x)
   any_settle_maintains x = settle_maintains x (λ a e. tt)
 
+-- whether one more call may be made
+pub shallow_maintains : {S : Type 0} {I : State S × ℕ → Type 0} (depth : ℕ) → Maintains I Any (lift (shallow {S = S} depth))
+unfolding lift shallow
+shallow_maintains depth = record { maintains = λ s a. settled_maintained _ s a (λ u e. tt) }
+
 -- ---- what calls find, and their frames
 
 module _ (claim : Claim) where
@@ -188,10 +193,6 @@ module _ (S : Type 0) (claim : Claim) where
   body_terms_maintains : (p : List Seg) (body : List ℕ) → AreClaimedBytes claim body → Maintains RunsWithin (TreesFit claim) (lift (body_terms p body))
   unfolding lift body_terms
   body_terms_maintains p body h = record { maintains = λ s a. settled_maintained _ s a (λ ts e m. seen_terms_plain _ ts (λ us is. read_within_plain s.0.nesting.levels body p true _ us (h m) is) e) }
-
-  shallow_maintains : (depth : ℕ) → Maintains RunsWithin Any (lift (shallow depth))
-  unfolding lift shallow
-  shallow_maintains depth = record { maintains = λ s a. settled_maintained _ s a (λ u e. tt) }
 
   later_is_open : (w : State S) → ((n : ℕ) → w.started ≤ n → AllOpen claim n) → (n : ℕ) → w.started + 1 ≤ n → AllOpen claim n
   later_is_open w next n le = next n (omega arith)
@@ -292,7 +293,7 @@ module _ (S : Type 0) (claim : Claim) (accesses : Accesses S) (ev : Task → Run
   -- a call, where the latest frame need not be open
   pub call_maintains : (depth : ℕ) (q : List Seg) (body : List ℕ) (vs : List Value) → AreClaimedBytes claim body → Each (ValueFits claim) vs → Maintains (RunsWithin S claim) (FlowFits claim) (invoked ev depth q body vs)
   unfolding invoked
-  call_maintains depth q body vs h f = then_maintains _ _ (shallow_maintains S claim depth) (λ few u. then_maintains _ _ (body_terms_maintains S claim q body h) (λ ts g. body_maintains S claim q _ _ (frame_arguments_fit claim vs f) (in_turn_maintains q _ ts g)))
+  call_maintains depth q body vs h f = then_maintains _ _ (shallow_maintains depth) (λ few u. then_maintains _ _ (body_terms_maintains S claim q body h) (λ ts g. body_maintains S claim q _ _ (frame_arguments_fit claim vs f) (in_turn_maintains q _ ts g)))
 
   call_is_balanced : (depth : ℕ) (q : List Seg) (body : List ℕ) (vs : List Value) (s : State S × ℕ) → numbers_of (invoked ev depth q body vs s).1.0.frames ≡ numbers_of s.0.frames
   call_is_balanced depth q body vs s = (invoked_preserves_from {relation = frame_numbers_relation accesses} ev (λ t. record { preserves = parts.balanced t }) s.0 depth q body vs (λ v h. h)).preserves_from s refl
@@ -323,14 +324,10 @@ module _ (S : Type 0) (claim : Claim) (accesses : Accesses S) (ev : Task → Run
   answer_over_maintains k call each (invocations.Method q body) h = then_maintains _ _ (method_value_maintains _ q body [] h tt) (λ v f. any_settle_maintains _)
   answer_over_maintains k call each invocations.Osi h = stop_maintains _
 
-  pub shallow_run_maintains : (depth : ℕ) → Maintains (RunWithin S claim) Any (lift (shallow depth))
-  unfolding lift shallow
-  shallow_run_maintains depth = record { maintains = λ s a. settled_maintained _ s a (λ u e. tt) }
-
   answer_within_maintains : (k : ℕ) (i : Invocation) → InvocationFits claim i → Maintains (RunWithin S claim) Any (answer_within accesses ev k i)
   unfolding answer_within
   answer_within_maintains zero i h = stop_maintains _
-  answer_within_maintains (suc k) i h = then_maintains _ _ (shallow_run_maintains (31 - k)) (λ few u. answer_over_maintains k _ (asked_maintains _ (answer_within_maintains k)) i h)
+  answer_within_maintains (suc k) i h = then_maintains _ _ (shallow_maintains (31 - k)) (λ few u. answer_over_maintains k _ (asked_maintains _ (answer_within_maintains k)) i h)
 
   called_at_maintains : (depth : ℕ) (q : List Seg) → Maintains (RunWithin S claim) Any (called_at accesses ev depth q)
   called_at_maintains depth q = asked_maintains _ (answer_within_maintains _) q
