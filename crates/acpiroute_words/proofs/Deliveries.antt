@@ -1,6 +1,5 @@
 -- What stands in the output and the errors after a run.
-use Rattle.std.proofs.Common.{◌≡◌, ℕ, ◌+◌, ◌<◌, Bool, true, false, List, [], ◌∷◌, ◌++◌, Option, length, take, refl, sym, ap, subst, inl, inr, arith, length-append}
-use Rattle.std.proofs.lemmas.List.{take-append-le}
+use Rattle.std.proofs.Common.{◌≡◌, ℕ, suc, ◌+◌, Bool, true, false, List, [], ◌∷◌, ◌++◌, Option, length, take, refl, ap, subst, inl, inr, arith, length-append}
 use Rattle.std.specs.Prelude.{codes, Ok, Err}
 use Rattle.std.specs.Io.KnownBytes.{Appends}
 use Rattle.std.specs.Fmt.{digits}
@@ -13,17 +12,13 @@ use Rattle.acpiroute_words.specs.Written.{Written, status_of}
 use Rattle.acpiroute_words.proofs.Outputs.{then_more}
 
 take_behind : (front rest : List ℕ) (n : ℕ) → take (length front + n) (front ++ rest) ≡ front ++ take n rest
-take_behind [] rest n = refl
-take_behind (x ∷ xs) rest n = ap (λ l. x ∷ l) (take_behind xs rest n)
+take_behind [] rest n = ap (λ k. take k rest) (omega arith)
+take_behind (x ∷ xs) rest n = let more : length (x ∷ xs) + n ≡ suc (length xs + n) = omega arith in rw more (ap (λ l. x ∷ l) (take_behind xs rest n))
 
 -- a text goes out behind another that went out whole
 takes_behind : (f : Bool) (a b c : Option (List ℕ)) (front rest : List ℕ) → Appends a b front → TakesUnless f b c rest → TakesUnless f a c (front ++ rest)
 takes_behind false a b c front rest h k = then_more a b c front rest (front ++ rest) h k refl
-takes_behind true a b c front rest h k = (length front + k.0, omega (arith, k.1.0, length-append front rest), then_more a b c front (take k.0 rest) (take (length front + k.0) (front ++ rest)) h k.1.1 (take_behind front rest k.0))
-
--- a front part of a text is one of a longer text
-takes_part : (a b : Option (List ℕ)) (front rest : List ℕ) → TakesUnless true a b front → TakesUnless true a b (front ++ rest)
-takes_part a b front rest h = (h.0, omega (arith, h.1.0, length-append front rest), subst (λ xs. Appends a b xs) (sym (take-append-le h.0 front rest (omega (arith, h.1.0)))) h.1.1)
+takes_behind true a b c front rest h (n, less, k) = (length front + n, omega (arith, less, length-append front rest), then_more a b c front (take n rest) (take (length front + n) (front ++ rest)) h k (take_behind front rest n))
 
 -- a write to the output failed, and the lines went out
 pub not_all : (r : Reply) (output output2 errors errors1 errors2 : Held) → output2.has_failed ≡ true → Takes output output2 r.text → errors1.has_failed ≡ false → Takes errors errors1 r.line
@@ -32,17 +27,6 @@ unfolding digits
 not_all r output output2 errors errors1 errors2 failed text whole lines line = record {
   text = text;
   line = rw failed (takes_behind errors2.has_failed errors.bytes errors1.bytes errors2.bytes r.line (codes "refused 142\n") (subst (λ f. TakesUnless f errors.bytes errors1.bytes r.line) whole lines) line);
-  status_is = rw failed refl;
-}
-
--- a write to the output failed, and one of the lines
-pub neither : (r : Reply) (output output2 errors errors2 : Held) → output2.has_failed ≡ true → Takes output output2 r.text → errors2.has_failed ≡ true → Takes errors errors2 r.line
-    → Delivered r 1 output output2 errors errors2
-unfolding digits
-neither r output output2 errors errors2 failed text cut lines = record {
-  text = text;
-  line = rw failed (subst (λ f. TakesUnless f errors.bytes errors2.bytes (r.line ++ codes "refused 142\n")) (sym cut)
-      (takes_part errors.bytes errors2.bytes r.line (codes "refused 142\n") (subst (λ f. TakesUnless f errors.bytes errors2.bytes r.line) cut lines)));
   status_is = rw failed refl;
 }
 
