@@ -36,19 +36,20 @@ terms_kept_over : {S T : Type 0} (raise : Raise) (r : Outcome (List Tree × List
 terms_kept_over raise (Ok (ts, after)) w t = refl
 terms_kept_over raise (Err e) w t = refl
 
-module _ {S T : Type 0} {accesses : Accesses S} {accesses2 : Accesses T} {side : Sides accesses accesses2} where
-  -- ---- tables
+-- ---- tables
 
+module _ {S T : Type 0} {accesses : Accesses S} {accesses2 : Accesses T} (side : Sides accesses accesses2) where
   table_terms_goes : (x y : Outcome (List Tree × List Arity)) (w : State S) (t : T) → (y ≡ x) ⊎ (side.Ends (refusal.Evaluation DepthSetting) × (x ≡ Err (refusal.Evaluation DepthSetting))) → side.beside.InStep w.space t → Comes side worlds (terms_kept x w) (terms_kept y (world_over side.raise w t))
   table_terms_goes x y w t (inl same) i = inr (inr (t, ap (λ z. terms_kept z (world_over side.raise w t)) same ∙ terms_kept_over side.raise x w t, subst (λ s. side.beside.InStep s t) (sym (terms_kept_space x w)) i))
   table_terms_goes x y w t (inr set) i = inr (inl (subst (λ (z : Outcome (List Tree × List Arity)). IsEnded side.Ends (terms_kept z w).0) (sym set.1) set.0))
 
+module _ {S T : Type 0} {accesses : Accesses S} {accesses2 : Accesses T} {side : Sides accesses accesses2} where
   table_terms_together : (bytes : List ℕ) → Together side worlds (table_terms bytes) (table_terms bytes)
   unfolding table_terms
   table_terms_together bytes = record {
     left_parted = λ w t p. subst (λ s. side.beside.Parted s t) (sym (terms_kept_space (table_reading_within w.nesting.levels bytes w.arities) w)) p;
     right_parted = λ s w p. subst (λ t. side.beside.Parted s t) (sym (terms_kept_space (table_reading_within w.nesting.levels bytes w.arities) w)) p;
-    goes = λ w t i. table_terms_goes (table_reading_within w.nesting.levels bytes w.arities) (table_reading_within (side.raise.1 w.nesting).levels bytes w.arities) w t (table_so bytes w.arities w.nesting side.deepens) i;
+    goes = λ w t i. table_terms_goes side (table_reading_within w.nesting.levels bytes w.arities) (table_reading_within (side.raise.1 w.nesting).levels bytes w.arities) w t (table_so side bytes w.arities w.nesting side.deepens) i;
   }
 
 module _ {S T : Type 0} {accesses : Accesses S} {accesses2 : Accesses T} (side : Sides accesses accesses2) where

@@ -43,7 +43,7 @@ module _ {S : Type 0} where
   done_profile scope (Err e) s = refused_profile (is_passable e) scope e s
 
 module _ {S T : Type 0} where
-  abbrev over : (Profile → Profile) → (ℕ → ℕ) → State S × ℕ → T → State T × ℕ
+  abbrev over : Raise → (ℕ → ℕ) → State S × ℕ → T → State T × ℕ
   over raise more s t = (world_over raise s.0 t, more s.1)
 
   refused_over : (raise : Raise) (more : ℕ → ℕ) (b : Bool) (scope : List Seg) (e : Refusal) (s : State S × ℕ) (t : T) → if◌then◌else◌ {A = Outcome Flow × (State T × ℕ)} b (Ok flow.Next, (with_passed scope e (world_over raise s.0 t), more s.1)) (Err e, over raise more s t)

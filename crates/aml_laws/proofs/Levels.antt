@@ -24,9 +24,9 @@ abbrev pub core_more : (raise : Raise) {Ends More : Refusal → Type 0} → (rai
 core_more raise (inl h) = inl h
 core_more raise (inr h) = inr (λ e k. inl (h e k))
 
-abbrev pub deepens_more : {raise : Raise} {Ends More : Refusal → Type 0} → Deepens raise Ends → Deepens raise (λ e. Ends e ⊎ More e)
-deepens_more (inl h) = inl h
-deepens_more (inr h) = inr (inl h.0, h.1)
+abbrev pub deepens_more : (raise : Raise) (Ends More : Refusal → Type 0) → Deepens raise Ends → Deepens raise (λ e. Ends e ⊎ More e)
+deepens_more raise Ends More (inl h) = inl h
+deepens_more raise Ends More (inr h) = inr (inl h.0, h.1)
 
 abbrev pub none_more : {more : ℕ → ℕ} {E M : Type 0} → ((n : ℕ) → more n ≡ n) ⊎ E → ((n : ℕ) → more n ≡ n) ⊎ (E ⊎ M)
 none_more (inl h) = inl h
@@ -41,7 +41,7 @@ module _ {S T : Type 0} {accesses : Accesses S} {accesses2 : Accesses T} where
     Ends = λ e. side.Ends e ⊎ ((module_level depth ≡ true) × MayPass side.passes e);
     wide_stays = side.wide_stays;
     core_stays = core_more side.raise side.core_stays;
-    deepens = deepens_more side.deepens;
+    deepens = deepens_more side.raise side.Ends (λ e. (module_level depth ≡ true) × MayPass side.passes e) side.deepens;
     more = side.more;
     more_next = side.more_next;
     none_left = none_more side.none_left;

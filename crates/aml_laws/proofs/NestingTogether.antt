@@ -24,9 +24,10 @@ set_so = refusal.Evaluation DepthSetting
 
 -- ---- more calls, and more levels
 
-calls_by : (a b c : Bool) → (b ≡ true → c ≡ true)
-    → ((if a then (if c then Ok tt else Err (refusal.Evaluation DepthSetting)) else Err (refusal.Evaluation CallDepth)) ≡ (if a then (if b then Ok tt else Err (refusal.Evaluation DepthSetting)) else Err (refusal.Evaluation CallDepth)))
-    ⊎ ((if◌then◌else◌ {A = Outcome (Unit {0})} a (if b then Ok tt else Err (refusal.Evaluation DepthSetting)) (Err (refusal.Evaluation CallDepth))) ≡ Err (refusal.Evaluation DepthSetting))
+abbrev allowed : Bool → Bool → Outcome (Unit {0})
+allowed below few = if below then (if few then Ok tt else Err (refusal.Evaluation DepthSetting)) else Err (refusal.Evaluation CallDepth)
+
+calls_by : (a b c : Bool) → (b ≡ true → c ≡ true) → (allowed a c ≡ allowed a b) ⊎ (allowed a b ≡ Err (refusal.Evaluation DepthSetting))
 calls_by false b c h = inl refl
 calls_by true false c h = inr refl
 calls_by true true true h = inl refl
@@ -47,7 +48,7 @@ seen_so : {A B : Type 0} {E : Type 0} (view : A → B) (x y : Outcome A) → (y 
 seen_so view x y (inl same) = inl (ap (seen view) same)
 seen_so view x y (inr set) = inr (set.0, ap (seen view) set.1)
 
-module _ {S T : Type 0} {accesses : Accesses S} {accesses2 : Accesses T} {side : Sides accesses accesses2} where
+module _ {S T : Type 0} {accesses : Accesses S} {accesses2 : Accesses T} (side : Sides accesses accesses2) where
   -- what is told of a world, and changes nothing: the same of the right one, or a refusal that ends the likeness
   told_goes : {A : Type 0} (x y : Outcome A) (w : State S) (t : T) → (y ≡ x) ⊎ (side.Ends (refusal.Evaluation DepthSetting) × (x ≡ Err (refusal.Evaluation DepthSetting))) → side.beside.InStep w.space t → Comes side worlds (x, w) (y, world_over side.raise w t)
   told_goes {A = A} x y w t (inl same) i = inr (inr (t, ap (λ (o : Outcome A). (o, world_over side.raise w t)) same, i))
@@ -57,18 +58,24 @@ module _ {S T : Type 0} {accesses : Accesses S} {accesses2 : Accesses T} {side :
   shallow_so depth d (inl same) = inl (ap (λ (n : Nesting). shallow_within n.calls depth) (same d))
   shallow_so depth d (inr h) = set_or_same _ _ h.0 (more_calls d.calls (side.raise.1 d).calls depth (h.1 d).0)
 
+  body_so : (q : List Seg) (body : List ℕ) (arities : List Arity) (d : Nesting) → Deepens side.raise side.Ends
+      → (reading_within (side.raise.1 d).levels body q true arities ≡ reading_within d.levels body q true arities) ⊎ (side.Ends (refusal.Evaluation DepthSetting) × (reading_within d.levels body q true arities ≡ Err (refusal.Evaluation DepthSetting)))
+  body_so q body arities d (inl same) = inl (ap (λ (n : Nesting). reading_within n.levels body q true arities) (same d))
+  body_so q body arities d (inr h) = turned _ _ h.0 (reading_less d.levels (side.raise.1 d).levels (h.1 d).1 body q true arities)
+
+  pub table_so : (bytes : List ℕ) (arities : List Arity) (d : Nesting) → Deepens side.raise side.Ends
+      → (table_reading_within (side.raise.1 d).levels bytes arities ≡ table_reading_within d.levels bytes arities) ⊎ (side.Ends (refusal.Evaluation DepthSetting) × (table_reading_within d.levels bytes arities ≡ Err (refusal.Evaluation DepthSetting)))
+  table_so bytes arities d (inl same) = inl (ap (λ (n : Nesting). table_reading_within n.levels bytes arities) (same d))
+  table_so bytes arities d (inr h) = turned _ _ h.0 (table_less d.levels (side.raise.1 d).levels (h.1 d).1 bytes arities)
+
+module _ {S T : Type 0} {accesses : Accesses S} {accesses2 : Accesses T} {side : Sides accesses accesses2} where
   pub shallow_together : (depth : ℕ) → Together side worlds (shallow depth) (shallow depth)
   unfolding shallow
   shallow_together depth = record {
     left_parted = λ w t p. p;
     right_parted = λ s w p. p;
-    goes = λ w t i. told_goes (shallow_within w.nesting.calls depth) (shallow_within (side.raise.1 w.nesting).calls depth) w t (shallow_so depth w.nesting side.deepens) i;
+    goes = λ w t i. told_goes side (shallow_within w.nesting.calls depth) (shallow_within (side.raise.1 w.nesting).calls depth) w t (shallow_so side depth w.nesting side.deepens) i;
   }
-
-  body_so : (q : List Seg) (body : List ℕ) (arities : List Arity) (d : Nesting) → Deepens side.raise side.Ends
-      → (reading_within (side.raise.1 d).levels body q true arities ≡ reading_within d.levels body q true arities) ⊎ (side.Ends (refusal.Evaluation DepthSetting) × (reading_within d.levels body q true arities ≡ Err (refusal.Evaluation DepthSetting)))
-  body_so q body arities d (inl same) = inl (ap (λ (n : Nesting). reading_within n.levels body q true arities) (same d))
-  body_so q body arities d (inr h) = turned _ _ h.0 (reading_less d.levels (side.raise.1 d).levels (h.1 d).1 body q true arities)
 
   pub body_terms_together : (q : List Seg) (body : List ℕ) → Together side worlds (body_terms q body) (body_terms q body)
   unfolding body_terms
@@ -76,11 +83,6 @@ module _ {S T : Type 0} {accesses : Accesses S} {accesses2 : Accesses T} {side :
     left_parted = λ w t p. p;
     right_parted = λ s w p. p;
     goes = λ w t i.
-        told_goes (seen trees_of (reading_within w.nesting.levels body q true (body_arities w))) (seen trees_of (reading_within (side.raise.1 w.nesting).levels body q true (body_arities w))) w t
-        (seen_so trees_of _ _ (body_so q body (body_arities w) w.nesting side.deepens)) i;
+        told_goes side (seen trees_of (reading_within w.nesting.levels body q true (body_arities w))) (seen trees_of (reading_within (side.raise.1 w.nesting).levels body q true (body_arities w))) w t
+        (seen_so trees_of _ _ (body_so side q body (body_arities w) w.nesting side.deepens)) i;
   }
-
-  pub table_so : (bytes : List ℕ) (arities : List Arity) (d : Nesting) → Deepens side.raise side.Ends
-      → (table_reading_within (side.raise.1 d).levels bytes arities ≡ table_reading_within d.levels bytes arities) ⊎ (side.Ends (refusal.Evaluation DepthSetting) × (table_reading_within d.levels bytes arities ≡ Err (refusal.Evaluation DepthSetting)))
-  table_so bytes arities d (inl same) = inl (ap (λ (n : Nesting). table_reading_within n.levels bytes arities) (same d))
-  table_so bytes arities d (inr h) = turned _ _ h.0 (table_less d.levels (side.raise.1 d).levels (h.1 d).1 bytes arities)

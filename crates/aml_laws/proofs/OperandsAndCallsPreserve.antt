@@ -80,7 +80,8 @@ module _ {S : Type 0} {accesses : Accesses S} {levels : Levels accesses} (ev : T
   answer_within_preserves_from : {level : ℕ} (k : ℕ) (u : State S) (i : Invocation) → CalledMethodStands u i → RunPreservesFrom (levels.at level) u (answer_within accesses ev k i)
   unfolding answer_within
   answer_within_preserves_from zero u i at = run_preserves_from u _ (run_stop_preserves _)
-  answer_within_preserves_from (suc k) u i at = answer_over_preserves_from k _ (asked_preserves _ (answer_within_preserves_from k)) u i at
+  answer_within_preserves_from (suc k) u i at =
+      then_preserves_from u _ _ (run_preserves_from u _ (lift_preserves _ (shallow_preserves _))) (λ few. answer_over_preserves_from k _ (asked_preserves _ (answer_within_preserves_from k)) u i at)
 
   pub called_at_preserves : {level : ℕ} (depth : ℕ) (q : List Seg) → RunPreserves (levels.at level) (called_at accesses ev depth q)
   called_at_preserves depth q = asked_preserves _ (answer_within_preserves_from _) q
