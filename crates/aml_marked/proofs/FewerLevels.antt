@@ -6,13 +6,11 @@ use Rattle.ar_space.specs.declared.refusal.Refusal.{Refusal}
 use Rattle.ar_space.specs.declared.refusal.Refusal.TheVariants as refusals
 use Rattle.ar_space.specs.declared.refusal.EvaluationFault.TheVariants.{DepthSetting}
 use Rattle.ar_space.specs.declared.refusal.TermFault.{TermFault}
-use Rattle.ar_space.specs.declared.refusal.TermFault.TheVariants.{BadOpcode, TooDeep}
+use Rattle.ar_space.specs.declared.refusal.TermFault.TheVariants.{TooDeep}
 use Rattle.ar_space.specs.declared.refusal.TermFault.TheVariants as faults
 use Rattle.ar_space.specs.Outcome.{Outcome}
-use Rattle.ar_space.specs.Change.{give, stop, go_on, ◌>>=◌}
+use Rattle.ar_space.specs.Change.{stop, go_on, ◌>>=◌}
 use Rattle.aml_path.specs.declared.segment.Seg.{Seg}
-use Rattle.aml_grammar.specs.declared.opcode.Opcode.TheVariants as opcodes
-use Rattle.aml_grammar.specs.declared.opcode.TermCode.TheVariants as codes
 use Rattle.aml_grammar.specs.declared.kinds.OperandKind.{OperandKind}
 use Rattle.aml_grammar.specs.declared.kinds.OperandKind.TheVariants as kinds
 use Rattle.aml_grammar.specs.declared.kinds.Row.{Row}
@@ -21,12 +19,10 @@ use Rattle.aml_grammar.specs.declared.context.Position.TheVariants as positions
 use Rattle.aml_grammar.specs.declared.context.Context.{Context}
 use Rattle.aml_grammar.specs.declared.context.Earlier.{Earlier}
 use Rattle.aml_grammar.specs.declared.arities.Arity.{Arity}
-use Rattle.aml_grammar.specs.State.{State, Step, fault, bad_name, is_next, enter, leave, times, until_of, until_end}
+use Rattle.aml_grammar.specs.State.{State, Step, fault, is_next, times, until_of, until_end}
 use Rattle.aml_grammar.specs.Names.{starts_name}
-use Rattle.aml_grammar.specs.Operands.{Read, name_operand, reserved_field, access_field, extended_access_field, named_field}
-use Rattle.aml_grammar.specs.Tree.{Tree, term, Part, null, inner, list}
-use Rattle.aml_grammar.specs.Shape.{parts_of, trees_of}
-use Rattle.aml_grammar.specs.Grammar.{Inner, Counting, is_if, is_nothing, is_slot, takes_name, costs_no_level, item_of, at_item, at_else, in_loop, scope_of, nothing_earlier, kinds_of, keeping, packed, items, term_operand, list_operand, super_name_at, super_name, target_at, target, simple_name_at, simple_name, connection_at, connection, connect_field, field_at, field, fields, fields_operand, operand, operands, row_operands, plain_term, else_term, else_operand, else_part, if_term, row_term, deeper, leveled, coded_term, element_name, argument_number, invocation, named_term, named, begun, term_in, below, term_at, by_arities, max_depth, levels_allowed, outermost, beginning, term_list, term_list_within, within, reading, reading_within, table_reading, table_reading_within, with_arities, refusal_within, fault_within}
+use Rattle.aml_grammar.specs.Tree.{Tree, term, null, list}
+use Rattle.aml_grammar.specs.Grammar.{Inner, Counting, is_if, is_nothing, is_slot, takes_name, costs_no_level, item_of, at_item, at_else, in_loop, scope_of, nothing_earlier, kinds_of, packed, items, term_operand, list_operand, super_name_at, super_name, target_at, target, simple_name_at, simple_name, connection_at, connection, connect_field, field_at, field, fields, fields_operand, operand, operands, row_operands, plain_term, else_term, else_operand, else_part, if_term, row_term, deeper, leveled, coded_term, invocation, named_term, named, begun, term_in, below, term_at, by_arities, max_depth, levels_allowed, outermost, beginning, term_list, term_list_within, within, reading, reading_within, table_reading, table_reading_within, with_arities, refusal_within, fault_within}
 
 -- an outcome is the refusal of a term that is too deep
 abbrev pub IsTooDeep : {A : Type 0} → Outcome A → Type 0

@@ -1,5 +1,5 @@
 -- What the marks of a scan within fewer levels are good for: the same, as far as the scan goes.
-use Rattle.std.specs.Prelude.{◌≡◌, List, [], Bool, false, ℕ, Ok, Err, IsErr, IsErrAnd, refl}
+use Rattle.std.specs.Prelude.{◌≡◌, List, [], Bool, false, ℕ, Ok, Err, IsErr, IsErrAnd}
 use Rattle.std.proofs.Common.{◌∙◌, sym, ap, subst}
 use Rattle.ar_space.specs.declared.refusal.Refusal.{Refusal}
 use Rattle.ar_space.specs.Outcome.{Outcome, Answers, seen}

@@ -1,12 +1,10 @@
 -- What follows for a list that is gone over within fewer levels.
-use Rattle.std.specs.Prelude.{◌≡◌, ◌≢◌, true, false, Bool, ℕ, nat_lt, Ok, Err, refl}
+use Rattle.std.specs.Prelude.{◌≡◌, ℕ, Ok, Err, refl}
 use Rattle.std.proofs.Common.{◌∙◌, ap, sym}
 use Rattle.ar_space.specs.declared.refusal.Refusal.{Refusal}
 use Rattle.ar_space.specs.declared.refusal.Refusal.TheVariants as refusals
-use Rattle.ar_space.specs.declared.refusal.TermFault.{TermFault}
-use Rattle.ar_space.specs.declared.refusal.TermFault.TheVariants as faults
-use Rattle.ar_space.specs.Outcome.{Outcome, Answers, NotMemory, seen}
-use Rattle.aml_grammar.specs.Grammar.{max_depth, fault_within, refusal_within, within}
+use Rattle.ar_space.specs.Outcome.{Outcome, Answers, seen}
+use Rattle.aml_grammar.specs.Grammar.{refusal_within, within}
 
 -- memory runs out within any number of levels
 memory_within : (levels : ℕ) (e : Refusal) → e ≡ refusals.OutOfMemory → refusal_within levels e ≡ refusals.OutOfMemory
