@@ -118,8 +118,9 @@ static void *measure(void *unused) {
     size_t length = 0;
     (void)unused;
     if (strcmp(words[1], "eval") == 0) {
+        const char *more = words[3] != NULL ? words[3] : "";
         char options[256];
-        snprintf(options, sizeof options, "--steps 1000000000 %s \\M000", words[3] != NULL ? words[3] : "");
+        snprintf(options, sizeof options, "--steps 1000000000 %s%s\\M000", more, *more != '\0' ? " " : "");
         acpiroute_eval((const uint8_t *)options, strlen(options), machine.at, machine.length, text, sizeof text, line, sizeof line, &reply);
         printf("%" PRIu64 " ", stack_used(top));
         fwrite(line, 1, reply.line_length, stdout);

@@ -66,6 +66,7 @@ fn second_route_command<'a>(alloc: Global) -> Result<Command<'a>, AllocError>
 }
 
 /// `route`, without the options that say how deep calls and terms may be.
+#[inline(never)]
 fn third_route_command<'a>(alloc: Global) -> Result<Command<'a>, AllocError>
     ensures app { IfOk result (λ c. app_of c ≡ third_route_app) }
     ensures local { IfOk result (λ c. (fields_of c).has_globals ≡ false) }

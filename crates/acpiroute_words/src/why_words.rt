@@ -81,6 +81,7 @@ fn second_why_command<'a>(alloc: Global) -> Result<Command<'a>, AllocError>
 }
 
 /// `why`, without the options that say how deep calls and terms may be.
+#[inline(never)]
 fn third_why_command<'a>(alloc: Global) -> Result<Command<'a>, AllocError>
     ensures app { IfOk result (λ c. app_of c ≡ third_why_app) }
     ensures local { IfOk result (λ c. (fields_of c).has_globals ≡ false) }

@@ -1,6 +1,6 @@
 -- Where calls and terms may be deeper, an evaluation that isn't refused by the setting comes to the same: a run beside itself, of a greater
 -- depth on the right.
-use Rattle.std.specs.Prelude.{◌≡◌, ◌⊎◌, ◌+◌, ℕ, List, true, Ok, Err, refl}
+use Rattle.std.specs.Prelude.{◌≡◌, ◌⊎◌, ℕ, List, true, Ok, Err, refl}
 use Rattle.std.proofs.Common.{arith, inl, inr, ap, sym, ◌∙◌}
 use Rattle.ar_space.specs.declared.refusal.Refusal.{Refusal}
 use Rattle.ar_space.specs.declared.refusal.Refusal.TheVariants as refusal

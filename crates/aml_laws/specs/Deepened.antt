@@ -1,5 +1,5 @@
 -- A world that is set deeper, and what a depth alone refuses.
-use Rattle.std.specs.Prelude.{◌≡◌, ◌+◌, ℕ, Ok, Err}
+use Rattle.std.specs.Prelude.{◌≡◌, ◌+◌, ℕ, Err}
 use Rattle.ar_space.specs.declared.refusal.Refusal.TheVariants as refusal
 use Rattle.ar_space.specs.declared.refusal.EvaluationFault.TheVariants.{DepthSetting}
 use Rattle.ar_space.specs.Outcome.{Outcome}
