@@ -84,7 +84,7 @@ module _ {S : Type 0} where
   unfolding shallow
   unmoved depth w v u is = ap (λ (r : Outcome (Unit {0}) × State S). r.1) is
 
-  begins : (depth : ℕ) (p : List Seg) (body : List ℕ) (arguments : List Value) (w after : State S) (n : ℕ) → body_frame depth p body arguments w ≡ (Ok n, after) → Begins depth p body arguments w after n
+  pub begins : (depth : ℕ) (p : List Seg) (body : List ℕ) (arguments : List Value) (w after : State S) (n : ℕ) → body_frame depth p body arguments w ≡ (Ok n, after) → Begins depth p body arguments w after n
   unfolding body_frame body_terms shallow
   begins depth p body arguments w after n e =
       let one = steps (shallow depth) _ w n after e in

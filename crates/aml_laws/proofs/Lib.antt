@@ -76,6 +76,7 @@ pub mod FieldsPreserve
 pub mod FieldsTogether
 pub mod FoundNamesStand
 pub mod FrameNumbers
+pub mod FramesEnded
 pub mod FramesOpened
 pub mod HandedBack
 pub mod HandedIn
@@ -156,6 +157,7 @@ pub mod StepsOfRules
 pub mod StepsOfTerms
 pub mod StoreTargetsPreserve
 pub mod StoredCopies
+pub mod StoredNames
 pub mod StoreTargetsTogether
 pub mod Together
 pub mod TreesCost

@@ -47,6 +47,7 @@ pub mod Steps
 pub mod StepsTaken
 pub mod UnitValues
 pub mod StoredCopies
+pub mod StoredNames
 pub mod Unreferenced
 pub mod Widened
 pub mod Within

@@ -34,6 +34,7 @@ mod searches;
 mod slots;
 mod space;
 mod steps;
+mod stores;
 mod trees;
 mod updates;
 mod values;
@@ -121,6 +122,7 @@ pub use space::{
 pub use steps::{
     no_more_terms_than_steps, terms_of_tables_and_answers_are_counted, terms_that_begin_are_counted,
 };
+pub use stores::a_store_converts_to_what_its_name_holds;
 pub use trees::{
     a_rule_takes_no_step_of_its_own, a_target_takes_the_steps_of_its_terms, each_tree_costs_a_step,
     plain_targets_cost_nothing, trees_that_begin_are_counted,

@@ -1,0 +1,41 @@
+-- A Store converts to what a name holds.
+use Rattle.std.specs.Prelude.{◌≡◌, ◌<◌, ◌≤◌, ℕ, ◌==◌, nat_lt, List, length, false, Some, Ok, refl, slice_get}
+use Rattle.std.proofs.Common.{arith}
+use Rattle.std.proofs.lemmas.Bool.Decides.{nat_tests}
+use Rattle.std.specs.FinMap.{get}
+use Rattle.ar_space.specs.Change.{give, go_on, ◌>>=◌}
+use Rattle.aml_path.specs.declared.segment.Seg.{Seg}
+use Rattle.aml_objects.specs.Contents.{content_in}
+use Rattle.aml_objects.specs.Objects.{write_string, write_buffer}
+use Rattle.aml_objects.specs.declared.object.Object.TheVariants as object
+use Rattle.aml_objects.specs.declared.value.Value.{Value}
+use Rattle.aml_objects.specs.declared.value.Value.TheVariants as value
+use Rattle.aml_convert.specs.Conversions.{to_text_of, to_buffer_of}
+use Rattle.aml_namespace.specs.Namespace.{replaced}
+use Rattle.aml_meaning.specs.State.{State, on_objects, on_names}
+use Rattle.aml_meaning.specs.Readings.{integer_in}
+use Rattle.aml_meaning.specs.StoreTargets.{held_at}
+use Rattle.aml_meaning.specs.Stores.{text_in, bytes_in, store_integer, store_text, store_bytes, store_in_name, stored}
+use Rattle.aml_meaning.specs.declared.store_target.StoreTarget.TheVariants as targets
+use Rattle.aml_meaning.specs.declared.store_target.Stored.TheVariants as store
+use Rattle.aml_laws.specs.StoredNames.{data_entry, with_integer, with_object_numbered, cut_or_filled}
+
+module _ {S : Type 0} (w : State S) (path : List Seg) (number : ℕ) (v : Value) where
+  pub integer_stored : (m n : ℕ) → get w.names.map path ≡ Some (data_entry number (value.Integer m)) → integer_in v w ≡ (Ok n, w) → stored (targets.Name path) v w ≡ (Ok store.Done, with_integer w path number n)
+  unfolding store_in_name held_at store_integer on_names replaced give go_on ◌>>=◌
+  integer_stored m n at is = rw (at, is, at) refl
+
+  pub text_stored : (o : ℕ) (old text : List ℕ) → get w.names.map path ≡ Some (data_entry number (value.String o)) → slice_get w.objects o ≡ Some (object.String old) → to_text_of w.width (content_in w.objects v) ≡ Ok text → length text ≤ 1048576
+      → stored (targets.Name path) v w ≡ (Ok store.Done, with_object_numbered w o (object.String text))
+  unfolding store_in_name held_at store_text text_in on_objects write_string give go_on ◌>>=◌
+  text_stored o old text at held is short = let few : nat_lt 1048576 (length text) ≡ false = grind (arith, nat_tests) in rw (at, is, held, few) refl
+
+  pub bytes_stored : (o : ℕ) (old bytes : List ℕ) → get w.names.map path ≡ Some (data_entry number (value.Buffer o)) → slice_get w.objects o ≡ Some (object.Buffer old) → to_buffer_of w.width (content_in w.objects v) ≡ Ok bytes → 0 < length old → length (cut_or_filled (length old) bytes) ≤ 1048576
+      → stored (targets.Name path) v w ≡ (Ok store.Done, with_object_numbered w o (object.Buffer (cut_or_filled (length old) bytes)))
+  unfolding store_in_name held_at store_bytes bytes_in on_objects write_buffer give go_on ◌>>=◌
+  bytes_stored o old bytes at held is some short =
+      let room : (length old == 0) ≡ false = grind (arith, nat_tests) in
+      let few : nat_lt 1048576 (length (cut_or_filled (length old) bytes)) ≡ false = grind (arith, nat_tests) in
+      rw (at, is, held, room, few) refl
+
+pub ruleset a_store_converts_to_what_its_name_holds = (integer_stored, text_stored, bytes_stored)

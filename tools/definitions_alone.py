@@ -1,0 +1,223 @@
+"""What a law of the law crates rests on: its definitions and lemmas, without the functions of the libraries below it.
+
+`leave_definitions` takes the functions out of a copy of a library's sources: a law calls none of them, and a check of the law is five times
+as short without them. Types stay, with the functions of those traits that a type needs (`==`, `<`, printing, conversions of refusals), and
+what these and constants call. `Lemmas` follows the names in definitions and proofs, and tells which of them a law may rest on."""
+import functools
+import os
+import re
+import shutil
+
+
+HEAD = re.compile(r"^( *)(?:pub(?:\([a-z]+\))? )?(?:const )?fn (\w+)")
+BLOCK = re.compile(r"(?:pub(?:\([a-z]+\))? )?(?:impl|trait)\b")
+# impls of traits that no type needs
+IMPL = re.compile(
+    r"(?m)^(?:(?:///|#\[).*\n)*impl(?:<[^{\n]*>)? (?:Space|Iterator|ArgumentCounts|TermReader|Before) for [^{]*\{\n(?:[^}\n].*\n|\n)*\}\n"
+)
+USE = re.compile(r"(?m)^ *(?:pub(?:\([a-z]+\))? )?use (\w+)[^;]*;\n")
+
+
+def text_of(file):
+    with open(file, encoding="utf-8") as it:
+        return it.read()
+
+
+def files_below(folder, end):
+    return sorted(f"{at}/{name}" for at, _, names in os.walk(folder) for name in names if name.endswith(end))
+
+
+# ---- libraries without their functions
+
+
+class Function:
+    """A function in a file, from its remarks and attributes to the end of its body."""
+
+    def __init__(self, lines, head, block):
+        at = HEAD.match(lines[head])
+        self.name, self.begin = at[2], head
+        is_inside = bool(at[1])
+        is_of_trait = is_inside and re.search(r"\btrait\b", block.split("{")[0].split("<")[0])
+        ends = (f"{at[1]}}}", f"{at[1]}{{}}")
+        self.end = head if is_of_trait else next(it for it in range(head, len(lines)) if lines[it] in ends)
+        while self.begin and lines[self.begin - 1].startswith((f"{at[1]}///", f"{at[1]}#[")):
+            self.begin -= 1
+        # a type needs it, or a trait names it
+        self.stays = is_inside and bool(is_of_trait or " for " in block)
+        self.body = "\n".join(lines[self.body_begins(lines, head) : self.end + 1])
+
+    def body_begins(self, lines, head):
+        found = (it for it in range(head, self.end + 1) if lines[it].strip() == "{" or (it == head and lines[it].endswith("{")))
+        return next(found, self.end)
+
+
+def functions_in(lines):
+    found, block, behind = [], "", 0
+    for number, line in enumerate(lines):
+        block = line if BLOCK.match(line) else block
+        if number >= behind and HEAD.match(line):
+            found.append(Function(lines, number, block))
+            behind = found[-1].end + 1
+    return found
+
+
+class Library:
+    """The sources of a library, and its functions."""
+
+    def __init__(self, folder, below):
+        self.folder, self.below = folder, below
+        self.lines = {it: IMPL.sub("", text_of(it)).split("\n") for it in files_below(f"{folder}/src", ".rt")}
+        self.functions = {it: functions_in(lines) for it, lines in self.lines.items()}
+        self.bodies = {}
+        for it in self.all():
+            self.bodies.setdefault(it.name, []).append(it.body)
+        self.kept = set()
+
+    def all(self):
+        return [it for found in self.functions.values() for it in found]
+
+    def first_needed(self):
+        """The texts that call functions which have to stay: bodies of functions that types need, and constants."""
+        constants = [line for lines in self.lines.values() for line in lines if re.match(r"(?:pub(?:\([a-z]+\))? )?(?:const|static) ", line)]
+        return [it.body for it in self.all() if it.stays] + constants
+
+    def gone(self):
+        return {it.name for it in self.all() if not it.stays} - self.kept - {it.name for it in self.all() if it.stays}
+
+
+def keep_what_is_called(libraries):
+    todo = [(it, text) for it in libraries.values() for text in it.first_needed()]
+    while todo:
+        library, text = todo.pop()
+        for lead, name in set(re.findall(r"(\.|::|)\b(\w+)\(", re.sub(r"//.*", "", text))):
+            others = [] if not lead and name in library.bodies else [libraries[it] for it in library.below if it in libraries]
+            for it in [library, *others]:
+                if name in it.bodies and name not in it.kept:
+                    it.kept.add(name)
+                    todo += [(it, body) for body in it.bodies[name]]
+
+
+def leave_definitions(crates):
+    """Takes the functions out of these crates' sources, and all that is proved of functions."""
+    libraries = {it.name: Library(it.folder, [dep.name for dep in it.deps]) for it in crates}
+    keep_what_is_called(libraries)
+    for name, library in libraries.items():
+        for file, lines in library.lines.items():
+            gone = {line for it in library.functions[file] if not it.stays and it.name not in library.kept for line in range(it.begin, it.end + 1)}
+            text = "\n".join(line for number, line in enumerate(lines) if number not in gone)
+            with open(file, "w", encoding="utf-8") as it:
+                it.write(USE.sub(lambda use: without_names(use, libraries, name), text))
+        for at, _, names in os.walk(f"{library.folder}/proofs", topdown=False):
+            if {"Answers.antt", "Invariants.antt", "Proof.antt"} & set(names):
+                shutil.rmtree(at)
+
+
+def without_names(use, libraries, own):
+    """A `use` without the names of functions that are gone."""
+    gone = libraries[use[1] if use[1] in libraries else own].gone()
+    text = re.sub(r"\{([^{}]*)\}", lambda it: "{" + ", ".join(name for name in re.findall(r"[\w:]+(?: as \w+)?", it[1]) if name not in gone) + "}", use[0])
+    last = re.search(r"(\w+);\n$", text)
+    return "" if re.search(r"\{\s*\}", text) or (last and last[1] in gone) else text
+
+
+# ---- what a law rests on
+
+SIGNATURE = re.compile(r"^(\s*)(?:(?:(?:abbrev|unfoldable|pub|mutual|record|data) )*([^\s:(){}=]+) (?:\(.*\) |\{.*\} )*:(?: |$)|(?:pub )?ruleset (\S+) =)")
+
+
+def name_of(line):
+    """The name that a line begins to say something of, if it does."""
+    at = SIGNATURE.match(line)
+    return (at[2] or at[3]) if at else None
+
+
+def names_in(text):
+    return set(re.findall(r"[^\s(){}\[\],;.]+", text))
+
+
+class Lemmas:
+    """The definitions and lemmas of a tree, each a file and a name, with what stands under the name."""
+
+    def __init__(self, top):
+        self.top = top
+
+    @functools.lru_cache(maxsize=None)
+    def file_of(self, name):
+        """The file of a module, or None where it is none of this tree: of a type, the one that declares it."""
+        crate, part, *rest = [*name.split("."), "", ""]
+        rest = [it for it in rest if it]
+        kinds = [f"crates/{crate}/src/" + "/".join(rest[1:it]) + ".rt" for it in range(len(rest), 1, -1)]
+        texts = [f"crates/{crate}/{part}/" + "/".join(rest[:it]) + ".antt" for it in range(len(rest), 0, -1)]
+        found = kinds if rest[:1] in (["declared"], ["contracts"]) else texts
+        return next((it for it in found if os.path.isfile(f"{self.top}/{it}")), None)
+
+    def imported(self, text):
+        return {it for it in map(self.file_of, re.findall(r"\bRattle\.([A-Za-z_][\w.]*\w)", text)) if it}
+
+    @functools.lru_cache(maxsize=None)
+    def blocks(self, file):
+        """What stands under each name of a file, and the files that it names."""
+        text = text_of(f"{self.top}/{file}")
+        if file.endswith(".rt"):
+            # (of a type the definitions that its model names)
+            text = "\n".join(it for it in text.split("\n") if it.startswith("    ghost"))
+            return {"": names_in(text)}, self.imported(text)
+        found, name, inside = {"": set()}, "", None
+        for line in text.split("\n"):
+            line = line.split("-- ")[0] if not line.startswith("--") else ""
+            if line.startswith("use "):
+                continue
+            said = name_of(line)
+            if inside is not None and (not line.strip() or len(line) - len(line.lstrip()) > inside):
+                # (a field or a constructor stands for its type)
+                found[name] |= names_in(line)
+                if said:
+                    found.setdefault(said, set()).add(name)
+                continue
+            inside = None
+            if said:
+                name = said
+                inside = len(line) - len(line.lstrip()) if re.match(r"\s*(?:pub )?(?:record|data) ", line) else None
+            found.setdefault(name, set()).update(names_in(line))
+        return found, self.imported(text)
+
+    def below(self, start):
+        """All definitions and lemmas that some of them may rest on, with these."""
+        seen, todo = set(), list(start)
+        while todo:
+            file, name = todo.pop()
+            if (file, name) in seen:
+                continue
+            seen.add((file, name))
+            blocks, files = self.blocks(file)
+            for it in [file, *files]:
+                others = self.blocks(it)[0]
+                todo += [(it, other) for other in (others if it.endswith(".rt") else blocks[name] & set(others))]
+        return seen
+
+    def of_law(self, crate, path):
+        """What a law may rest on: the names in its contract, in its attributes, and in its proof."""
+        *module, law = path.split("::")
+        text = text_of(f"{self.top}/crates/{crate}/src/{'/'.join(module) or 'lib'}.rt")
+        lines = text.split("\n")
+        head = next(number for number, line in enumerate(lines) if re.match(rf"pub fn {law}\b", line))
+        own = Function(lines, head, "")
+        said = "\n".join(lines[own.begin : own.end + 1])
+        files = self.imported("\n".join(it for it in lines if it.startswith("ghost use")))
+        start = [(it, name) for it in files for name in self.blocks(it)[0] if name in names_in(said) or it.endswith(".rt")]
+        for place in re.findall(r"\b(\w+)::(specs|proofs)::([\w:]+)::([\w-]+)", said):
+            file = self.file_of(f"{crate if place[0] == 'crate' else place[0]}.{place[1]}.{place[2].replace('::', '.')}")
+            start.append((file, place[3]))
+        for file in files_below(f"{self.top}/crates/{crate}/proofs/{'/'.join([*module, law])}", ".antt"):
+            start += [(os.path.relpath(file, self.top), name) for name in self.blocks(os.path.relpath(file, self.top))[0]]
+        return self.below(start)
+
+    def at(self, file, place):
+        """The name under which a place of a file stands."""
+        text = text_of(f"{self.top}/{file}")
+        lines = text[: text.find("\n", place)].split("\n")
+        return next((it for it in map(name_of, reversed(lines)) if it), "")
+
+
+if __name__ == "__main__":
+    print(__doc__)
