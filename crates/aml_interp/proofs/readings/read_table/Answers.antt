@@ -11,7 +11,7 @@ pub returns : goal.returns
 returns g c =
     let at : c.take_arities-arities.result ≡ c.args.world.now.arities = c.take_arities-arities.ensures.arities in
     let marks = c.scan_table_within-marks in
-    let read = subst (λ (d : Nesting). Answers (seen (λ m. (trees_by m c.args.bytes.now, marks.new.arities)) marks.result) (table_reading_within d.levels c.args.bytes.now c.take_arities-arities.result)) c.nesting.ensures marks.ensures.table in
+    let read = subst (λ (d : Nesting). Answers (seen (λ m. (trees_by m c.args.bytes.now, marks.new.arities)) marks.result) (table_reading_within d.levels c.args.bytes.now c.take_arities-arities.result)) c.nesting-levels.ensures marks.ensures.table in
     rw (c.set_arities.ensures, c.take_arities-arities.ensures.none) (table_read (λ m. trees_by m c.args.bytes.now) marks.result c.args.bytes.now c.args.world.now marks.new.arities
     (subst (λ a. Answers (seen (λ m. (trees_by m c.args.bytes.now, marks.new.arities)) marks.result) (table_reading_within c.args.world.now.nesting.levels c.args.bytes.now a)) at read)
     (subst (λ a. OnErr marks.result (marks.new.arities ≡ a)) at marks.ensures.refused))
