@@ -2,7 +2,6 @@ pub mod BoundedAccesses
 pub mod Evaluated
 pub mod Initializing
 pub mod KernelLines
-pub mod LoadedInTurn
 pub mod Notes
 pub mod PassedCalls
 pub mod ReportedNotes
