@@ -18,9 +18,9 @@ pub struct CallSettings {
     pub dry: u8,
     /// 1 where the report is to have the lines for a kernel, and else 0.
     pub kernel: u8,
-    /// How many control methods may be called one inside another, from 1 to 32; 0 for 32.
+    /// How deep calls may nest (control methods, `_OSI`, `_SEG`, `_BBN` and `_ADR`), from 1 to 32; 0 for 32.
     pub calls: u8,
-    /// How many terms may be one inside another, from 1 to 64; 0 for 64.
+    /// How deep terms may nest, from 1 to 64; 0 for 64.
     pub levels: u8,
 }
 

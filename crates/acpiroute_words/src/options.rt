@@ -40,7 +40,7 @@ pub(crate) fn calls_arg<'a>(alloc: Global) -> Arg<'a>
     ensures local { result.global ≡ false }
 {
     Arg::new(alloc, "calls").long("calls").value_name("N").help(
-        "How many control methods may be called one inside another, from 1 to 32, by default 32",
+        "How deep calls may nest (control methods, _OSI, _SEG, _BBN and _ADR), from 1 to 32, by default 32",
     )
 }
 
@@ -51,7 +51,7 @@ pub(crate) fn levels_arg<'a>(alloc: Global) -> Arg<'a>
     Arg::new(alloc, "levels")
         .long("levels")
         .value_name("N")
-        .help("How many terms may be one inside another, from 1 to 64, by default 64")
+        .help("How deep terms may nest, from 1 to 64, by default 64")
 }
 
 pub(crate) fn accesses_arg<'a>(alloc: Global) -> Arg<'a>
