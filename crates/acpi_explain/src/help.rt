@@ -309,7 +309,7 @@ const ROWS: [Help; 59] = [
     Help {
         number: 144,
         name: "DepthSetting",
-        help: "raise --calls or --levels: control methods call one another, or terms nest, deeper than these allow",
+        help: "raise --calls or --levels: calls (with _OSI, _SEG, _BBN and _ADR) or terms nest deeper than these allow",
     },
 ];
 
