@@ -180,7 +180,7 @@ class Copy:
         rt.copy_crates(top, self.folder)
         self.crates = {it.name: it for it in rtlib.crates_below(self.folder)}
         if law_crate:
-            leave_definitions(self.crates[law_crate].below())
+            leave_definitions(self.crates[law_crate].below(), self.crates[law_crate])
 
     def put(self, pairs):
         """Puts texts in place of others; returns the files that they change."""
