@@ -1,8 +1,9 @@
 """What a law of the law crates rests on: its definitions and lemmas, without the functions of the libraries below it.
 
-`leave_definitions` takes the functions out of a copy of a library's sources: a law calls none of them, and a check of the law is five times
-as short without them. Types stay, with the functions of those traits that a type needs (`==`, `<`, printing, conversions of refusals), and
-what these and constants call. `Lemmas` follows the names in definitions and proofs, and tells which of them a law may rest on."""
+`leave_definitions` takes the functions out of a copy of a library's sources: a law calls few of them, and a check of the law is five times
+as short without the others. Types stay, with the functions of those traits that a type needs (`==`, `<`, printing, conversions of refusals).
+What these, constants and laws call stays, too, and an `impl` of any other trait where something that stays names its type. What is proved
+of functions goes, but for those that laws call. `Lemmas` follows the names in definitions and proofs, and tells which of them a law may rest on."""
 import functools
 import os
 import re
@@ -15,6 +16,8 @@ TRAIT = re.compile(r"(?m)^(?:pub(?:\([a-z]+\))? )?trait (\w+)")
 IMPL = re.compile(r"^impl(?:<[^{]*?>)? ((?:\w+::)*\w+)(?:<[^{]*?>)? for (?:&(?:'\w+ )?(?:mut )?)?(?:\w+::)*(\w+)")
 CLAUSE = re.compile(r" +(?:requires|ensures|ghost)\b")
 USE = re.compile(r"(?m)^ *(?:pub(?:\([a-z]+\))? )?use (\w+)[^;]*;\n")
+# the files of what is proved of a function
+PROOFS = {"Answers.antt", "Invariants.antt", "Proof.antt"}
 # traits of std that no type needs, as those that these libraries declare
 NEEDLESS = {"Iterator", "Read", "Write"}
 
@@ -173,7 +176,8 @@ def leave_definitions(crates, law_crate=None):
             with open(file, "w", encoding="utf-8") as it:
                 it.write(USE.sub(lambda use: without_names(use, libraries, name), text))
         for at, _, names in os.walk(f"{library.folder}/proofs", topdown=False):
-            if {"Answers.antt", "Invariants.antt", "Proof.antt"} & set(names) and os.path.basename(at) not in proved[name]:
+            # (the folder of a function, and not that of the crate or of a module, whose lemmas may stand in files of these names)
+            if PROOFS & set(names) and "Lib.antt" not in names and os.path.basename(at) not in proved[name]:
                 shutil.rmtree(at)
 
 

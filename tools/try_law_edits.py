@@ -2,9 +2,9 @@
 """try_law_edits.py [--others] [--code] [--check] [--lanes N] [--kept FOLDER] [--note] [NAME..]:
 tries edits of definitions that a law has to refuse.
 
-A law of `aml_laws`, `aml_spelling` or `machine_laws` is about definitions of the crates below, which no edit of the law's own crate can
-change. So these edits stand in crates/LAWS/definitions/NAME.md. Such a file says what is wrong with the definition and why the law doesn't
-hold of it, and then has these lines:
+A law of `aml_laws`, `aml_spelling`, `machine_laws` or `recorded_laws` is about definitions of the crates below, which no edit of its own crate
+can change. So these edits stand in crates/LAWS/definitions/NAME.md. Such a file says what is wrong with the definition and why the law
+doesn't hold of it, and then has these lines:
 
     law: NAME             a law of this crate that has to refuse the edit; one at least
     file: crates/..       a file of specs/, src/ or proofs/ of a crate below
@@ -229,11 +229,11 @@ def unproved(name, lines):
 
 
 def unread(lines, changed):
-    """The first line that says that a definition or a changed file can't be read, if there is one."""
+    """The first line that says that a definition or a changed file can't be read, and the file; nothing where there is none."""
     for line in lines:
         at = re.match(r"(?:\./|\S*/crates/(\w+)/)?((?:src|specs|proofs)/\S+?\.(?:antt|rt)):\d+:\d+: error", line)
         if at and (at[2].startswith("specs/") or f"crates/{at[1]}/{at[2]}" in changed):
-            return line
+            return line, f"crates/{at[1]}/{at[2]}"
     return None
 
 
@@ -251,17 +251,25 @@ def try_group(group, copy, lemmas, others):
         copy.back()
     found = {it.name: verdict(it, group, lemmas, lines, status, others, changed) for it in group}
     left = [it for it in group if found[it.name] is None]
-    half = (len(left) + 1) // 2
-    for part in [left] if len(left) < len(group) else [left[:half], left[half:]]:
+    for part in parts_of(left, group, unread(lines, changed)):
         found |= try_group(part, copy, lemmas, others) if part else {}
     return found
+
+
+def parts_of(left, group, bad):
+    """What is tried again together: of a file that can't be read each edit by itself, and else in halves where nothing was shown."""
+    own = [it for it in left if bad and bad[1] in {path for path, _, _ in it.pairs}]
+    if own:
+        return [*([it] for it in own), [it for it in left if it not in own]]
+    half = (len(left) + 1) // 2
+    return [left] if len(left) < len(group) else [left[:half], left[half:]]
 
 
 def verdict(edit, group, lemmas, lines, status, others=False, changed=()):
     """What an edit of a group comes to, or None where the check of the group doesn't show it."""
     bad, is_alone = unread(lines, changed), len(group) == 1
     if bad or not has_verdict(lines):
-        why = f"it can't be read: {bad[:200]}" if bad else f"the check ended with status {status}: {lines[0][:200]}"
+        why = f"it can't be read: {bad[0][:200]}" if bad else f"the check ended with status {status}: {lines[0][:200]}"
         return ("BAD EDIT" if bad or status == 1 else "NOT TRIED", why) if is_alone else None
     refused = [it.rpartition("::")[2] for it in unproved(edit.crate, lines)]
     proved = [it for it in edit.laws if it not in refused]
@@ -314,6 +322,7 @@ def is_seeded(copy, crate, laws, kept):
     lines, _ = copy.checked(crate.name, [laws_of(crate)[it] for it in laws], kept)
     if not has_verdict(lines) or unproved(crate.name, lines):
         print(f"{crate.name}: its laws are not proved without an edit: {', '.join(unproved(crate.name, lines)) or lines[0][:200]}")
+        print("".join(f"    {it[:200]}\n" for it in [it for it in lines if ": error" in it][:8]), end="", flush=True)
         return False
     with open(mark, "w", encoding="utf-8") as it:
         it.write(sum)
@@ -350,7 +359,7 @@ class Lanes:
 
     def each(self, call, items):
         with concurrent.futures.ThreadPoolExecutor(self.count) as pool:
-            yield from pool.map(lambda it: self.in_one(call, it), items)
+            yield from (it.result() for it in concurrent.futures.as_completed([pool.submit(self.in_one, call, it) for it in items]))
 
     def in_one(self, call, item):
         copies = self.free.get()
@@ -363,9 +372,9 @@ class Lanes:
 def try_crate(top, crate, edits, words, kept):
     """Tries the edits of a law crate; returns how many its laws refused."""
     others, code, count = "--others" in words, "--code" in words, int(value_of(words, "--lanes") or 1)
-    for it in edits:
-        if it.why:
-            print(f"{it.crate}/{it.name}: BAD EDIT: {it.why}", flush=True)
+    all_found = {it.name: ("BAD EDIT", it.why) for it in edits if it.why}
+    for name, (came, why) in all_found.items():
+        print(f"{crate.name}/{name}: {came}: {why}", flush=True)
     edits = [it for it in edits if not it.why]
     laws = list(laws_of(crate)) if others else list(dict.fromkeys(law for it in edits for law in it.laws))
     lemmas = Lemmas(top)
@@ -387,7 +396,6 @@ def try_crate(top, crate, edits, words, kept):
                     shutil.rmtree(it.kept)
             return group, found, told
 
-        all_found = {}
         for group, found, told in lanes.each(tried, groups):
             for it in group:
                 came, said = found[it.name]
