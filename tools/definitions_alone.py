@@ -273,6 +273,10 @@ class Lemmas:
                 todo += [(it, other) for other in (others if it.endswith(".rt") else blocks[name] & set(others))]
         return seen
 
+    @functools.lru_cache(maxsize=None)
+    def below_one(self, file, name):
+        return self.below([(file, name)])
+
     def of_law(self, crate, path):
         """What a law may rest on: the names in its contract, in its attributes, and in its proof."""
         *module, law = path.split("::")

@@ -40,6 +40,7 @@ import shutil
 import subprocess
 import sys
 import tempfile
+import threading
 
 sys.dont_write_bytecode = True
 from definitions_alone import Lemmas, leave_definitions
@@ -48,7 +49,7 @@ from usage import answer_help
 
 
 # how many edits are tried together at most
-TOGETHER = 24
+TOGETHER = 48
 
 
 # ---- the edits
@@ -240,8 +241,8 @@ def unread(lines, changed):
 # ---- trying
 
 
-def try_group(group, copy, lemmas, others):
-    """What each edit of a group comes to, and what to say of it, by its name."""
+def try_group(group, copy, lemmas, others, tell):
+    """Tries the edits of a group, and tells what each comes to, as soon as a check shows it."""
     laws = laws_of(copy.crates[group[0].crate])
     asked = list(laws) if others else list(dict.fromkeys(law for it in group for law in it.laws))
     changed = copy.put(it for edit in group for it in definition_pairs(edit))
@@ -250,10 +251,13 @@ def try_group(group, copy, lemmas, others):
     finally:
         copy.back()
     found = {it.name: verdict(it, group, lemmas, lines, status, others, changed) for it in group}
+    for it in group:
+        if found[it.name]:
+            tell(it, *found[it.name])
     left = [it for it in group if found[it.name] is None]
     for part in parts_of(left, group, unread(lines, changed)):
-        found |= try_group(part, copy, lemmas, others) if part else {}
-    return found
+        if part:
+            try_group(part, copy, lemmas, others, tell)
 
 
 def parts_of(left, group, bad):
@@ -268,7 +272,8 @@ def parts_of(left, group, bad):
 def verdict(edit, group, lemmas, lines, status, others=False, changed=()):
     """What an edit of a group comes to, or None where the check of the group doesn't show it."""
     bad, is_alone = unread(lines, changed), len(group) == 1
-    if bad or not has_verdict(lines):
+    is_own = is_alone or (bad and bad[1] in {path for path, _, _ in edit.pairs})
+    if (bad and is_own) or not has_verdict(lines):
         why = f"it can't be read: {bad[0][:200]}" if bad else f"the check ended with status {status}: {lines[0][:200]}"
         return ("BAD EDIT" if bad or status == 1 else "NOT TRIED", why) if is_alone else None
     refused = [it.rpartition("::")[2] for it in unproved(edit.crate, lines)]
@@ -290,7 +295,7 @@ def first_of(edit, law, others, lemmas, lines):
         at = re.match(r"(?:\./|\S*/crates/(\w+)/)?(proofs/\S+\.antt):(\d+):\d+: error: `([^`]+)`", line)
         lemma = (f"crates/{at[1] or edit.crate}/{at[2]}", at[4]) if at else None
         if lemma and lemma in edit.rests[law]:
-            rests = lemmas.below([lemma])
+            rests = lemmas.below_one(*lemma)
             if edit.changes & rests and not any(it.changes & rests for it in others):
                 return f"{lemma[0]}:{at[3]}, `{lemma[1]}`"
     return ""
@@ -385,24 +390,27 @@ def try_crate(top, crate, edits, words, kept):
         if not lanes.in_one(lambda copies, _: is_seeded(copies[0], crate, laws, kept), None):
             return 0
 
+        lock = threading.Lock()
+
         def tried(copies, group):
             for it in copies:
                 if it:
                     rt.linked(kept, it.kept)
-            found = try_group(group, copies[0], lemmas, others)
-            told = {it.name: code_of(it, copies[1]) for it in group if code and found[it.name][0] == "REFUSED"}
+            try_group(group, copies[0], lemmas, others, lambda *it: tell(copies[1], *it))
             for it in copies:
                 if it:
                     shutil.rmtree(it.kept)
-            return group, found, told
 
-        for group, found, told in lanes.each(tried, groups):
-            for it in group:
-                came, said = found[it.name]
-                all_found[it.name] = came, said + (f"; {told[it.name]}" if it.name in told else "")
-                print(f"{it.crate}/{it.name}: {came}: {all_found[it.name][1]}", flush=True)
-            if "--note" in words:
-                note(crate, edits_of(crate, top), all_found)
+        def tell(copy, edit, came, said):
+            said += f"; {code_of(edit, copy)}" if code and came == "REFUSED" else ""
+            with lock:
+                all_found[edit.name] = came, said
+                print(f"{crate.name}/{edit.name}: {came}: {said}", flush=True)
+                if "--note" in words:
+                    note(crate, edits_of(crate, top), all_found)
+
+        for _ in lanes.each(tried, groups):
+            pass
         return len([it for it in all_found.values() if it[0] == "REFUSED" and "NOT PROVED" not in it[1]])
 
 
