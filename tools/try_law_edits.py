@@ -2,9 +2,9 @@
 """try_law_edits.py [--others] [--code] [--check] [--lanes N] [--kept FOLDER] [--note] [NAME..]:
 tries edits of definitions that a law has to refuse.
 
-A law of `aml_laws`, `aml_spelling` or `machine_laws` is about definitions of the crates below, which no edit of the law's own crate can
-change. So these edits stand in crates/LAWS/definitions/NAME.md. Such a file says what is wrong with the definition and why the law doesn't
-hold of it, and then has these lines:
+A law of `aml_laws`, `aml_spelling`, `machine_laws` or `recorded_laws` is about definitions of the crates below, which no edit of its own crate
+can change. So these edits stand in crates/LAWS/definitions/NAME.md. Such a file says what is wrong with the definition and why the law
+doesn't hold of it, and then has these lines:
 
     law: NAME             a law of this crate that has to refuse the edit; one at least
     file: crates/..       a file of specs/, src/ or proofs/ of a crate below
@@ -40,6 +40,7 @@ import shutil
 import subprocess
 import sys
 import tempfile
+import threading
 
 sys.dont_write_bytecode = True
 from definitions_alone import Lemmas, leave_definitions
@@ -48,7 +49,7 @@ from usage import answer_help
 
 
 # how many edits are tried together at most
-TOGETHER = 24
+TOGETHER = 48
 
 
 # ---- the edits
@@ -180,7 +181,7 @@ class Copy:
         rt.copy_crates(top, self.folder)
         self.crates = {it.name: it for it in rtlib.crates_below(self.folder)}
         if law_crate:
-            leave_definitions(self.crates[law_crate].below())
+            leave_definitions(self.crates[law_crate].below(), self.crates[law_crate])
 
     def put(self, pairs):
         """Puts texts in place of others; returns the files that they change."""
@@ -229,19 +230,19 @@ def unproved(name, lines):
 
 
 def unread(lines, changed):
-    """The first line that says that a definition or a changed file can't be read, if there is one."""
+    """The first line that says that a definition or a changed file can't be read, and the file; nothing where there is none."""
     for line in lines:
         at = re.match(r"(?:\./|\S*/crates/(\w+)/)?((?:src|specs|proofs)/\S+?\.(?:antt|rt)):\d+:\d+: error", line)
         if at and (at[2].startswith("specs/") or f"crates/{at[1]}/{at[2]}" in changed):
-            return line
+            return line, f"crates/{at[1]}/{at[2]}"
     return None
 
 
 # ---- trying
 
 
-def try_group(group, copy, lemmas, others):
-    """What each edit of a group comes to, and what to say of it, by its name."""
+def try_group(group, copy, lemmas, others, tell):
+    """Tries the edits of a group, and tells what each comes to, as soon as a check shows it."""
     laws = laws_of(copy.crates[group[0].crate])
     asked = list(laws) if others else list(dict.fromkeys(law for it in group for law in it.laws))
     changed = copy.put(it for edit in group for it in definition_pairs(edit))
@@ -250,18 +251,30 @@ def try_group(group, copy, lemmas, others):
     finally:
         copy.back()
     found = {it.name: verdict(it, group, lemmas, lines, status, others, changed) for it in group}
+    for it in group:
+        if found[it.name]:
+            tell(it, *found[it.name])
     left = [it for it in group if found[it.name] is None]
+    for part in parts_of(left, group, unread(lines, changed)):
+        if part:
+            try_group(part, copy, lemmas, others, tell)
+
+
+def parts_of(left, group, bad):
+    """What is tried again together: of a file that can't be read each edit by itself, and else in halves where nothing was shown."""
+    own = [it for it in left if bad and bad[1] in {path for path, _, _ in it.pairs}]
+    if own:
+        return [*([it] for it in own), [it for it in left if it not in own]]
     half = (len(left) + 1) // 2
-    for part in [left] if len(left) < len(group) else [left[:half], left[half:]]:
-        found |= try_group(part, copy, lemmas, others) if part else {}
-    return found
+    return [left] if len(left) < len(group) else [left[:half], left[half:]]
 
 
 def verdict(edit, group, lemmas, lines, status, others=False, changed=()):
     """What an edit of a group comes to, or None where the check of the group doesn't show it."""
     bad, is_alone = unread(lines, changed), len(group) == 1
-    if bad or not has_verdict(lines):
-        why = f"it can't be read: {bad[:200]}" if bad else f"the check ended with status {status}: {lines[0][:200]}"
+    is_own = is_alone or (bad and bad[1] in {path for path, _, _ in edit.pairs})
+    if (bad and is_own) or not has_verdict(lines):
+        why = f"it can't be read: {bad[0][:200]}" if bad else f"the check ended with status {status}: {lines[0][:200]}"
         return ("BAD EDIT" if bad or status == 1 else "NOT TRIED", why) if is_alone else None
     refused = [it.rpartition("::")[2] for it in unproved(edit.crate, lines)]
     proved = [it for it in edit.laws if it not in refused]
@@ -282,7 +295,7 @@ def first_of(edit, law, others, lemmas, lines):
         at = re.match(r"(?:\./|\S*/crates/(\w+)/)?(proofs/\S+\.antt):(\d+):\d+: error: `([^`]+)`", line)
         lemma = (f"crates/{at[1] or edit.crate}/{at[2]}", at[4]) if at else None
         if lemma and lemma in edit.rests[law]:
-            rests = lemmas.below([lemma])
+            rests = lemmas.below_one(*lemma)
             if edit.changes & rests and not any(it.changes & rests for it in others):
                 return f"{lemma[0]}:{at[3]}, `{lemma[1]}`"
     return ""
@@ -314,6 +327,7 @@ def is_seeded(copy, crate, laws, kept):
     lines, _ = copy.checked(crate.name, [laws_of(crate)[it] for it in laws], kept)
     if not has_verdict(lines) or unproved(crate.name, lines):
         print(f"{crate.name}: its laws are not proved without an edit: {', '.join(unproved(crate.name, lines)) or lines[0][:200]}")
+        print("".join(f"    {it[:200]}\n" for it in [it for it in lines if ": error" in it][:8]), end="", flush=True)
         return False
     with open(mark, "w", encoding="utf-8") as it:
         it.write(sum)
@@ -350,7 +364,7 @@ class Lanes:
 
     def each(self, call, items):
         with concurrent.futures.ThreadPoolExecutor(self.count) as pool:
-            yield from pool.map(lambda it: self.in_one(call, it), items)
+            yield from (it.result() for it in concurrent.futures.as_completed([pool.submit(self.in_one, call, it) for it in items]))
 
     def in_one(self, call, item):
         copies = self.free.get()
@@ -363,9 +377,9 @@ class Lanes:
 def try_crate(top, crate, edits, words, kept):
     """Tries the edits of a law crate; returns how many its laws refused."""
     others, code, count = "--others" in words, "--code" in words, int(value_of(words, "--lanes") or 1)
-    for it in edits:
-        if it.why:
-            print(f"{it.crate}/{it.name}: BAD EDIT: {it.why}", flush=True)
+    all_found = {it.name: ("BAD EDIT", it.why) for it in edits if it.why}
+    for name, (came, why) in all_found.items():
+        print(f"{crate.name}/{name}: {came}: {why}", flush=True)
     edits = [it for it in edits if not it.why]
     laws = list(laws_of(crate)) if others else list(dict.fromkeys(law for it in edits for law in it.laws))
     lemmas = Lemmas(top)
@@ -376,25 +390,27 @@ def try_crate(top, crate, edits, words, kept):
         if not lanes.in_one(lambda copies, _: is_seeded(copies[0], crate, laws, kept), None):
             return 0
 
+        lock = threading.Lock()
+
         def tried(copies, group):
             for it in copies:
                 if it:
                     rt.linked(kept, it.kept)
-            found = try_group(group, copies[0], lemmas, others)
-            told = {it.name: code_of(it, copies[1]) for it in group if code and found[it.name][0] == "REFUSED"}
+            try_group(group, copies[0], lemmas, others, lambda *it: tell(copies[1], *it))
             for it in copies:
                 if it:
                     shutil.rmtree(it.kept)
-            return group, found, told
 
-        all_found = {}
-        for group, found, told in lanes.each(tried, groups):
-            for it in group:
-                came, said = found[it.name]
-                all_found[it.name] = came, said + (f"; {told[it.name]}" if it.name in told else "")
-                print(f"{it.crate}/{it.name}: {came}: {all_found[it.name][1]}", flush=True)
-            if "--note" in words:
-                note(crate, edits_of(crate, top), all_found)
+        def tell(copy, edit, came, said):
+            said += f"; {code_of(edit, copy)}" if code and came == "REFUSED" else ""
+            with lock:
+                all_found[edit.name] = came, said
+                print(f"{crate.name}/{edit.name}: {came}: {said}", flush=True)
+                if "--note" in words:
+                    note(crate, edits_of(crate, top), all_found)
+
+        for _ in lanes.each(tried, groups):
+            pass
         return len([it for it in all_found.values() if it[0] == "REFUSED" and "NOT PROVED" not in it[1]])
 
 
