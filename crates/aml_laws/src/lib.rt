@@ -8,6 +8,7 @@ mod buffer_fields;
 mod calls;
 mod copies;
 mod declarations;
+mod default_depth;
 mod depths;
 mod events;
 mod field_lists;
@@ -57,6 +58,7 @@ pub use copies::{
     what_is_within_the_limits_is_copied,
 };
 pub use declarations::refused_names_change_nothing;
+pub use default_depth::no_depth_is_refused_for_the_default_setting;
 pub use depths::{a_depth_answers_what_a_smaller_one_does, evaluation_keeps_the_depth};
 pub use events::{
     a_wait_takes_a_signal, signals_are_counted_one_by_one, signals_outlive_an_answer,
