@@ -163,6 +163,7 @@ pub mod StoredCopies
 pub mod StoredNames
 pub mod StoreTargetsTogether
 pub mod Together
+pub mod TooDeepForSettings
 pub mod TreesCost
 pub mod UnitsTogether
 pub mod UnreferencedSlots

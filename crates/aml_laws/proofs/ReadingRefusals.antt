@@ -434,7 +434,7 @@ table_reading_reads bs arities = with_arities_reads (term_list by_arities bs [] 
 
 -- ---- whole lists within the levels that a setting allows
 
-list_within_reads : (levels : ℕ) (bs : List ℕ) (scope : List Seg) (body : Bool) (arities : List Arity) → Reads (term_list_within levels by_arities bs scope body arities).0
+pub list_within_reads : (levels : ℕ) (bs : List ℕ) (scope : List Seg) (body : Bool) (arities : List Arity) → Reads (term_list_within levels by_arities bs scope body arities).0
 unfolding term_list_within
 list_within_reads levels bs scope body arities = (items_reads (term_at by_arities (levels_allowed levels)) (term_at_reads by_arities (levels_allowed levels)) positions.ListItem scope (outermost body)).reads (beginning bs arities)
 

@@ -58,7 +58,9 @@ pub use copies::{
     what_is_within_the_limits_is_copied,
 };
 pub use declarations::refused_names_change_nothing;
-pub use default_depth::no_depth_is_refused_for_the_default_setting;
+pub use default_depth::{
+    levels_are_refused_exactly_if_a_term_is_deeper, no_depth_is_refused_for_the_default_setting,
+};
 pub use depths::{a_depth_answers_what_a_smaller_one_does, evaluation_keeps_the_depth};
 pub use events::{
     a_wait_takes_a_signal, signals_are_counted_one_by_one, signals_outlive_an_answer,
