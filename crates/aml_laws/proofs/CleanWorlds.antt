@@ -205,7 +205,6 @@ pub invocation_of_clean : (x : Outcome (List Seg × Entry)) → Clean x → Clea
 invocation_of_clean (Ok e) c = invocation_of_object_clean e.0 e.1.number e.1.object
 invocation_of_clean (Err e) c = c
 
-
 pub osi_answer_clean : (width : IntegerWidth) (texts : List (List ℕ)) (c : Content) → Clean (osi_answer width texts c)
 osi_answer_clean width texts (String text) = tt
 osi_answer_clean width texts _ = tt

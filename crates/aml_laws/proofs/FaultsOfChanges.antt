@@ -171,8 +171,8 @@ module _ {S : Type 0} (accesses : Accesses S) where
 
 module _ {S : Type 0} {accesses : Accesses S} {H : Type 0} {space : H → S} {rest : H → ℕ} {low : H → Bool} where
   -- a change that makes no access, which may be refused for a depth that the setting doesn't allow
-  pub within_explains : {A : Type 0} (m : Change H A) → ((h : H) → CleanWithin (low (m h).1) (m h).0) → ((h : H) → space (m h).1 ≡ space h) → Explains accesses space rest low m
-  within_explains m c e = record {
+  pub direct_or_set_explains : {A : Type 0} (m : Change H A) → ((h : H) → CleanWithin (low (m h).1) (m h).0) → ((h : H) → space (m h).1 ≡ space h) → Explains accesses space rest low m
+  direct_or_set_explains m c e = record {
     explained = λ h. clean_explained accesses (low (m h).1) (m h).0 (space h) (space (m h).1) (c h) (e h);
     spent = λ h. clean_spent (low (m h).1) (m h).0 (rest (m h).1) (c h);
     set = λ h. within_of_setting (low (m h).1) (m h).0 (c h);
@@ -180,7 +180,7 @@ module _ {S : Type 0} {accesses : Accesses S} {H : Type 0} {space : H → S} {re
 
   -- one that is never refused for it
   pub direct_explains : {A : Type 0} (m : Change H A) → ((h : H) → Clean (m h).0) → ((h : H) → space (m h).1 ≡ space h) → Explains accesses space rest low m
-  direct_explains m c e = within_explains m (λ h. clean_within (low (m h).1) (m h).0 (c h)) e
+  direct_explains m c e = direct_or_set_explains m (λ h. clean_within (low (m h).1) (m h).0 (c h)) e
 
   pub give_explains : {A : Type 0} (a : A) → Explains accesses space rest low (give a)
   unfolding give

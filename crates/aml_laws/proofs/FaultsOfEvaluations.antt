@@ -34,7 +34,7 @@ use Rattle.aml_laws.proofs.CleanReading.{table_reading_within_clean}
 use Rattle.aml_laws.proofs.CleanValues.{resolved_clean}
 use Rattle.aml_laws.proofs.CleanWorlds.{use_of_clean}
 use Rattle.aml_laws.proofs.FaultsOfCalls.{called_at_explains, field_read_explains, in_turn_explains, method_value_explains}
-use Rattle.aml_laws.proofs.FaultsOfChanges.{EvaluationExplains, Explained, RunExplains, Spent, WorldExplains, spent_with_none, charge_explains, direct_explains, within_explains, either_branch_explains, give_explains, lift_explains, on_objects_explains, stop_explains, then_explains}
+use Rattle.aml_laws.proofs.FaultsOfChanges.{EvaluationExplains, Explained, RunExplains, Spent, WorldExplains, spent_with_none, charge_explains, direct_explains, direct_or_set_explains, either_branch_explains, give_explains, lift_explains, on_objects_explains, stop_explains, then_explains}
 use Rattle.aml_laws.proofs.FaultsOfFields.{field_given_explains}
 use Rattle.aml_laws.proofs.FaultsOfOperations.{entry_found_explains, integer_kept_explains, invocation_found_explains, osi_answered_explains}
 use Rattle.aml_laws.proofs.FaultsOfTerms.{meaning_explains}
@@ -53,6 +53,14 @@ module _ {S : Type 0} (accesses : Accesses S) where
   taken_back_set count (Ok v) w h = tt
   taken_back_set count (Err e) w h = h
 
+terms_kept_clean : {S : Type 0} (x : Outcome (List Tree × List Arity)) (w : State S) → CleanWithin (is_low w.nesting) x → CleanWithin (is_low (terms_kept x w).1.nesting) (terms_kept x w).0
+terms_kept_clean (Ok p) w c = tt
+terms_kept_clean (Err e) w c = c
+
+terms_kept_directly : {S : Type 0} (x : Outcome (List Tree × List Arity)) (w : State S) → (terms_kept x w).1.space ≡ w.space
+terms_kept_directly (Ok p) w = refl
+terms_kept_directly (Err e) w = refl
+
 module _ {S : Type 0} {accesses : Accesses S} where
   opened_explains : (vs : List Value) → EvaluationExplains accesses (opened vs)
   unfolding opened
@@ -60,17 +68,9 @@ module _ {S : Type 0} {accesses : Accesses S} where
 
   -- ---- the terms of a table
 
-  terms_kept_clean : (x : Outcome (List Tree × List Arity)) (w : State S) → CleanWithin (is_low w.nesting) x → CleanWithin (is_low (terms_kept x w).1.nesting) (terms_kept x w).0
-  terms_kept_clean (Ok p) w c = tt
-  terms_kept_clean (Err e) w c = c
-
-  terms_kept_directly : (x : Outcome (List Tree × List Arity)) (w : State S) → (terms_kept x w).1.space ≡ w.space
-  terms_kept_directly (Ok p) w = refl
-  terms_kept_directly (Err e) w = refl
-
   table_terms_explains : (bytes : List ℕ) → EvaluationExplains accesses (table_terms bytes)
   unfolding table_terms
-  table_terms_explains bytes = within_explains _ (λ w.
+  table_terms_explains bytes = direct_or_set_explains _ (λ w.
       let read = table_reading_within w.nesting.levels bytes w.arities in
       terms_kept_clean read w (low_so _ _ read (few_levels w.nesting) (table_reading_within_clean w.nesting.levels bytes w.arities))) (λ w. terms_kept_directly (table_reading_within w.nesting.levels bytes w.arities) w)
 

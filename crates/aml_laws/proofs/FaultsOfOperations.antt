@@ -46,7 +46,7 @@ use Rattle.aml_laws.proofs.CleanReading.{reading_within_clean}
 use Rattle.aml_laws.proofs.CleanValues.{compared_clean, concatenated_clean, divided_clean, explicit_integer_of_clean, resources_joined_clean, result_of_clean, to_buffer_of_clean, to_integer_of_clean}
 use Rattle.aml_laws.proofs.CleanWorlds.{as_many_clean, below_clean, invocation_of_clean, made_of_clean, no_method_in_clean, osi_answer_clean, scope_or_not_clean, size_of_referent_clean, size_of_value_clean}
 use Rattle.aml_laws.proofs.SetDepths.{few_calls, few_levels, low_so, seen_within, shallow_clean}
-use Rattle.aml_laws.proofs.FaultsOfChanges.{WorldExplains, direct_explains, within_explains, give_explains, on_names_explains, on_objects_explains, settle_explains, stop_explains, then_explains}
+use Rattle.aml_laws.proofs.FaultsOfChanges.{WorldExplains, direct_explains, direct_or_set_explains, give_explains, on_names_explains, on_objects_explains, settle_explains, stop_explains, then_explains}
 
 module _ {S : Type 0} {accesses : Accesses S} where
   -- ---- what names find, and what values are
@@ -235,11 +235,11 @@ module _ {S : Type 0} {accesses : Accesses S} where
 
   pub shallow_explains : (depth : ℕ) → WorldExplains accesses (shallow depth)
   unfolding shallow
-  shallow_explains depth = within_explains _ (λ w. low_so _ _ (shallow_within w.nesting.calls depth) (few_calls w.nesting) (shallow_clean w.nesting.calls depth)) (λ w. refl)
+  shallow_explains depth = direct_or_set_explains _ (λ w. low_so _ _ (shallow_within w.nesting.calls depth) (few_calls w.nesting) (shallow_clean w.nesting.calls depth)) (λ w. refl)
 
   pub body_terms_explains : (q : List Seg) (body : List ℕ) → WorldExplains accesses (body_terms q body)
   unfolding body_terms
-  body_terms_explains q body = within_explains _ (λ w.
+  body_terms_explains q body = direct_or_set_explains _ (λ w.
       let read = reading_within w.nesting.levels body q true (body_arities w) in
       low_so _ _ (seen trees_of read) (few_levels w.nesting) (seen_within _ trees_of read (reading_within_clean w.nesting.levels body q true (body_arities w)))) (λ w. refl)
 

@@ -68,17 +68,17 @@ module _ {S : Type 0} (w : State S) (path : List Seg) (number m : ℕ) (at : get
 
   is_refused : (v : Value) → ((o : ℕ) → v ≡ value.Package o → ⊥) → store_package {S = S} path v w ≡ (Err (refusal.Value WrongType), w)
   unfolding stop
-  is_refused (value.Package o) no = absurd (no o refl)
-  is_refused value.Uninitialized no = refl
-  is_refused (value.Integer n) no = refl
-  is_refused (value.String o) no = refl
-  is_refused (value.Buffer o) no = refl
-  is_refused (value.Reference r) no = refl
+  is_refused (value.Package o) other = absurd (other o refl)
+  is_refused value.Uninitialized other = refl
+  is_refused (value.Integer n) other = refl
+  is_refused (value.String o) other = refl
+  is_refused (value.Buffer o) other = refl
+  is_refused (value.Reference r) other = refl
 
 pub package_stored : {S : Type 0} (w : State S) (path : List Seg) (number m o : ℕ) → get w.names.map path ≡ Some (data_entry number (value.Package m)) → stored (targets.Name path) (value.Package o) w ≡ copied_to (targets.Name path) (value.Package o) w
 package_stored w path number m o at = package_copied w path number m at o
 
 pub no_package_stored : {S : Type 0} (w : State S) (path : List Seg) (number : ℕ) (v : Value) (m : ℕ) → get w.names.map path ≡ Some (data_entry number (value.Package m)) → ((o : ℕ) → v ≡ value.Package o → ⊥) → stored (targets.Name path) v w ≡ (Err (refusal.Value WrongType), w)
-no_package_stored w path number v m at no = by_package w path number m at v ∙ is_refused w path number m at v no
+no_package_stored w path number v m at other = by_package w path number m at v ∙ is_refused w path number m at v other
 
 pub ruleset a_store_converts_to_what_its_name_holds = (integer_stored, text_stored, bytes_stored, package_stored, no_integer_stored, no_text_stored, no_bytes_stored, no_package_stored)

@@ -68,8 +68,9 @@ list_set_exactly_if_deep levels bs scope body known =
 pub table_set_exactly_if_deep : (levels : ℕ) (bs : List ℕ) (known : List Arity)
     → IsSet (table_reading_within levels bs known) ↔ ((levels < 64) × (offset : ℕ) × ((term_list_within levels by_arities bs [] false known).0 ≡ Err (refusals.Term faults.TooDeep offset)))
 table_set_exactly_if_deep levels bs known =
-    let run = term_list_within levels by_arities bs [] false known in
-    (λ h. let k = set_is_deep levels (with_arities run) (with_arities_reads run (list_within_reads levels bs [] false known)) h in (k.0, k.1.0, with_arities_deep run k.1.0 k.1.1),
-    λ h. deep_is_set levels (with_arities run) h.0 h.1 (deep_with_arities run h.1 h.2))
+    let run = term_list_within levels by_arities bs [] false known in (
+      λ h. let k = set_is_deep levels (with_arities run) (with_arities_reads run (list_within_reads levels bs [] false known)) h in (k.0, k.1.0, with_arities_deep run k.1.0 k.1.1),
+      λ h. deep_is_set levels (with_arities run) h.0 h.1 (deep_with_arities run h.1 h.2),
+    )
 
 pub ruleset levels_are_refused_exactly_if_a_term_is_deeper = (list_set_exactly_if_deep, table_set_exactly_if_deep)
