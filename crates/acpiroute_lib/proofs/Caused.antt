@@ -54,27 +54,27 @@ memory_or_not refusal.OutOfMemory = inl refl
 memory_or_not _ = inr (λ q. cc q)
 
 module _ (words : List (List ℕ)) (input : List ℕ) where
-  own : (q : Request) (e : Refusal) → asked_of words ≡ Some (For q) → (e ≡ refusal.OutOfMemory) ⊎ (e ≢ refusal.OutOfMemory) → ComesTo q false input (Err e) → IsCause words false false input e
-  own q e asked (inl memory) comes = inl memory
-  own q e asked (inr other) comes = inr (record { request = q; asked = asked; answers = comes other })
+  own : (q : Request) (e : Refusal) → faults_of words ≡ [] → asked_of words ≡ Some (For q) → (e ≡ refusal.OutOfMemory) ⊎ (e ≢ refusal.OutOfMemory) → ComesTo q false input (Err e) → IsCause words false false input e
+  own q e clean asked (inl memory) comes = inl memory
+  own q e clean asked (inr other) comes = inr (record { request = q; no_fault = clean; asked = asked; answers = comes other })
 
-  refused : (q : Request) (read_failed : Bool) (e : Refusal) → asked_of words ≡ Some (For q) → ComesTo q read_failed input (Err e) → IsCause words read_failed false input e
-  refused q true e asked comes = cc comes
-  refused q false e asked comes = own q e asked (memory_or_not e) comes
+  refused : (q : Request) (read_failed : Bool) (e : Refusal) → faults_of words ≡ [] → asked_of words ≡ Some (For q) → ComesTo q read_failed input (Err e) → IsCause words read_failed false input e
+  refused q true e clean asked comes = cc comes
+  refused q false e clean asked comes = own q e clean asked (memory_or_not e) comes
 
 -- ---- a run
 
 module _ (words : List (List ℕ)) (left : Option (List ℕ)) (read_failed : Bool) (status : ℕ) (output output2 errors errors2 : Held) where
-  of_request : (input : List ℕ) → IsInput left input → (q : Request) → asked_of words ≡ Some (For q) → (outcome : Outcome Written) → ComesTo q read_failed input outcome → (r : Reply) → r ≡ reply_of (told_passed q read_failed input) outcome
+  of_request : (input : List ℕ) → IsInput left input → (q : Request) → faults_of words ≡ [] → asked_of words ≡ Some (For q) → (outcome : Outcome Written) → ComesTo q read_failed input outcome → (r : Reply) → r ≡ reply_of (told_passed q read_failed input) outcome
       → Takes errors errors2 r.line → r.status ≡ 1 → TellsCause words left read_failed false errors errors2
-  of_request input is_input q asked (Ok w) comes r same line is = absurd (not_one w.completion (subst (λ x. x.status ≡ 1) same is))
-  of_request input is_input q asked (Err e) comes r same line is =
-      record { input = input; is_input = is_input; refusal = e; is_cause = refused words input q read_failed e asked comes; passed = told_passed q read_failed input; is_passed = inl (q, asked, refl); line = subst (λ x. Takes errors errors2 x.line) same line }
+  of_request input is_input q clean asked (Ok w) comes r same line is = absurd (not_one w.completion (subst (λ x. x.status ≡ 1) same is))
+  of_request input is_input q clean asked (Err e) comes r same line is =
+      record { input = input; is_input = is_input; refusal = e; is_cause = refused words input q read_failed e clean asked comes; passed = told_passed q read_failed input; is_passed = inl (q, clean, asked, refl); line = subst (λ x. Takes errors errors2 x.line) same line }
 
   of_reply : (input : List ℕ) → IsInput left input → (r : Reply) → IsReply words read_failed input r → Takes errors errors2 r.line → r.status ≡ 1 → TellsCause words left read_failed false errors errors2
   of_reply input is_input r (inl c) line is = absurd (shown_otherwise c.fault r c.shown is)
   of_reply input is_input r (inr (inl d)) line is = absurd (cc (sym (ap (λ x. x.status) d.is) ∙ is))
-  of_reply input is_input r (inr (inr w)) line is = of_request input is_input w.request w.asked w.outcome w.comes r w.is line is
+  of_reply input is_input r (inr (inr w)) line is = of_request input is_input w.request w.no_fault w.asked w.outcome w.comes r w.is line is
 
   -- where a write to the output failed, there was a text
   no_text : (text : List ℕ) → output2.has_failed ≡ true → Takes output output2 text → text ≡ [] → ⊥
@@ -93,22 +93,22 @@ module _ (words : List (List ℕ)) (left : Option (List ℕ)) (read_failed : Boo
         (subst (λ b. Takes errors errors2 (if b then r.reply.line ++ error_line (refusal.Input fault.WriteFault) else r.reply.line)) same r.delivered.line);
   }
 
-  at_fault : (k : ErrorKind) → k ≢ kind.OutOfMemory → IsAmong k (kind.OutOfMemory ∷ faults_of words) → faults_of words ≢ []
-  at_fault k other (inl is) none = absurd (other is)
-  at_fault k other (inr among) none = absurd (subst (λ faults. IsAmong k faults) none among)
+  help_asked : (k : ErrorKind) → IsHelp k → IsAmong k (kind.OutOfMemory ∷ faults_of words) → IsAmong k (faults_of words)
+  help_asked k help (inl is) = absurd (help_is_other k help is)
+  help_asked k help (inr among) = among
 
   not_written : (r : Ran words left read_failed status output output2 errors errors2) → output2.has_failed ≡ true → IsReply words read_failed r.input r.reply → TellsCause words left read_failed true errors errors2
   not_written r same (inl c) = by (ordinary c.fault)
     where
       by : (IsHelp c.fault) ⊎ ((c.fault ≡ kind.OutOfMemory) ⊎ ((c.fault ≢ kind.OutOfMemory) × (IsHelp c.fault → ⊥))) → TellsCause words left read_failed true errors errors2
-      by (inl help) = failed_told r same [] (c.shown.help help).1.0 (inr (refl, at_fault c.fault (help_is_other c.fault help) c.found, refl))
+      by (inl help) = failed_told r same [] (c.shown.help help).1.0 (inr (refl, (c.fault, help, help_asked c.fault help c.found), refl))
       by (inr (inl memory)) = absurd (no_text r.reply.text same r.delivered.text (ap (λ x. x.text) (c.shown.memory memory)))
       by (inr (inr other)) = absurd (no_text r.reply.text same r.delivered.text (c.shown.other other.0 other.1).1.0)
   not_written r same (inr (inl d)) = absurd (no_text r.reply.text same r.delivered.text (ap (λ x. x.text) d.is))
   not_written r same (inr (inr w)) = by w.outcome w.is
     where
       by : (outcome : Outcome Written) → r.reply ≡ reply_of (told_passed w.request read_failed r.input) outcome → TellsCause words left read_failed true errors errors2
-      by (Ok answer) is = failed_told r same (told_passed w.request read_failed r.input) (ap (λ x. x.line) is) (inl (w.request, w.asked, refl))
+      by (Ok answer) is = failed_told r same (told_passed w.request read_failed r.input) (ap (λ x. x.line) is) (inl (w.request, w.no_fault, w.asked, refl))
       by (Err e) is = absurd (no_text r.reply.text same r.delivered.text (ap (λ x. x.text) is))
 
   told : Ran words left read_failed status output output2 errors errors2 → status ≡ 1 → (failed : Bool) → output2.has_failed ≡ failed → TellsCause words left read_failed failed errors errors2

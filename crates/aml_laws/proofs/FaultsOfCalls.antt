@@ -26,6 +26,7 @@ use Rattle.aml_meaning.specs.declared.store_target.Stored.{Stored}
 use Rattle.aml_laws.proofs.CleanWorlds.{inner_of_clean, integer_only_clean, value_in_clean}
 use Rattle.aml_laws.proofs.FaultsOfChanges.{Explained, RunExplains, Spent, WorldExplains, direct_explains, either_branch_explains, give_explains, lift_explains, settle_explains, stop_explains, then_explains}
 use Rattle.aml_laws.proofs.ItemsOfLists.{item_explains}
+use Rattle.aml_laws.proofs.SetDepths.{is_low, seen_of_setting}
 use Rattle.aml_laws.proofs.FaultsOfFields.{field_integer_explains, field_part_explains, field_referent_explains, field_stored_explains, field_value_explains}
 use Rattle.aml_laws.proofs.FaultsOfOperations.{body_terms_explains, integer_in_explains, invocation_found_explains, shallow_explains}
 use Rattle.aml_laws.proofs.FaultsOfStoreTargets.{stored_explains}
@@ -68,7 +69,7 @@ module _ {S : Type 0} (accesses : Accesses S) (ev : Task → Run S Flow) (parts 
 
   leaving_explains : (q : List Seg) (m : Run S Flow) → RunExplains accesses m → RunExplains accesses (leaving q m)
   unfolding leaving
-  leaving_explains q m h = record { explained = λ s. returned_explained (m s).0 s.0.space (m s).1.0.space (h.explained s); spent = λ s. returned_spent (m s).0 (m s).1.1 (h.spent s) }
+  leaving_explains q m h = record { explained = λ s. returned_explained (m s).0 s.0.space (m s).1.0.space (h.explained s); spent = λ s. returned_spent (m s).0 (m s).1.1 (h.spent s); set = λ s. seen_of_setting returned_by (m s).0 (is_low (m s).1.0.nesting) (h.set s) }
 
   opened_explains : (vs : List Value) → WorldExplains accesses (opened vs)
   unfolding opened

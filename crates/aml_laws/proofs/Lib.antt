@@ -3,7 +3,8 @@
 -- `x_maintains` (where what is known of a state holds, it holds after x, and what x gives fits), `x_counts` (x over a space with a
 -- counter does what it does without), `x_clean` (x answers with no fault of the register space), `x_reads` (x is refused, if at all,
 -- by what is told of terms and names), `x_explains` (a fault of the register space that x is refused by is what its last access
--- answered, and no other access is answered with one), `x_together` (x goes the same way over two register spaces until they part),
+-- answered, no other access is answered with one, and a depth that the setting doesn't allow is refused only where it allows less than
+-- the default), `x_together` (x goes the same way over two register spaces until they part),
 -- `x_unnoted` (noting the accesses of x changes nothing), `x_respects`, `x_keeps_kinds`, `x_fits`, `x_stands`;
 -- a lemma that goes through the cases for another ends with `_by_cases`.
 pub mod AnswersTogether
@@ -51,6 +52,7 @@ pub mod DecimalCodes
 pub mod DeclarationNumbers
 pub mod DeclaredNamesStand
 pub mod Deepening
+pub mod DefaultDepth
 pub mod EndOfCalls
 pub mod EvaluationsPreserve
 pub mod EvaluationsTogether
@@ -149,6 +151,7 @@ pub mod RulesPreserve
 pub mod RulesTogether
 pub mod SignalsTaken
 pub mod SlotsPut
+pub mod SetDepths
 pub mod SpaceFaultsExplained
 pub mod SpaceFaultsNoted
 pub mod SpaceReached
@@ -160,6 +163,7 @@ pub mod StoredCopies
 pub mod StoredNames
 pub mod StoreTargetsTogether
 pub mod Together
+pub mod TooDeepForSettings
 pub mod TreesCost
 pub mod UnitsTogether
 pub mod UnreferencedSlots

@@ -20,7 +20,7 @@ use Rattle.aml_grammar.specs.declared.kinds.OperandKind.TheVariants as kinds
 use Rattle.aml_grammar.specs.declared.kinds.OperandKind.{OperandKind}
 use Rattle.aml_grammar.specs.declared.kinds.Row.{Row}
 use Rattle.aml_laws.proofs.ReadingChanges.{AllReads, branch_reads, direct_reads, give_reads, if_all_reads, settle_reads, stop_reads, then_reads}
-use Rattle.aml_laws.proofs.TermRefusals.{Reads, followed_reads, if_reads, resolved_reads, seg_of_reads, within_reads}
+use Rattle.aml_laws.proofs.TermRefusals.{Reads, ReadsWithin, followed_reads, if_reads, resolved_reads, seg_of_reads, within_reads}
 
 allowed_reads : (context : Context) (start : ℕ) (n : Name) (path : List Seg) → Reads (allowed context start n path)
 allowed_reads context start n path = if_reads (context.body && begins_outside n) _ _ tt tt
@@ -434,14 +434,14 @@ table_reading_reads bs arities = with_arities_reads (term_list by_arities bs [] 
 
 -- ---- whole lists within the levels that a setting allows
 
-list_within_reads : (levels : ℕ) (bs : List ℕ) (scope : List Seg) (body : Bool) (arities : List Arity) → Reads (term_list_within levels by_arities bs scope body arities).0
+pub list_within_reads : (levels : ℕ) (bs : List ℕ) (scope : List Seg) (body : Bool) (arities : List Arity) → Reads (term_list_within levels by_arities bs scope body arities).0
 unfolding term_list_within
 list_within_reads levels bs scope body arities = (items_reads (term_at by_arities (levels_allowed levels)) (term_at_reads by_arities (levels_allowed levels)) positions.ListItem scope (outermost body)).reads (beginning bs arities)
 
-pub reading_within_reads : (levels : ℕ) (bs : List ℕ) (scope : List Seg) (body : Bool) (arities : List Arity) → Reads (reading_within levels bs scope body arities)
+pub reading_within_reads : (levels : ℕ) (bs : List ℕ) (scope : List Seg) (body : Bool) (arities : List Arity) → ReadsWithin (nat_lt levels max_depth) (reading_within levels bs scope body arities)
 reading_within_reads levels bs scope body arities = within_reads levels _ (list_within_reads levels bs scope body arities)
 
-pub table_reading_within_reads : (levels : ℕ) (bs : List ℕ) (arities : List Arity) → Reads (table_reading_within levels bs arities)
+pub table_reading_within_reads : (levels : ℕ) (bs : List ℕ) (arities : List Arity) → ReadsWithin (nat_lt levels max_depth) (table_reading_within levels bs arities)
 table_reading_within_reads levels bs arities =
     let list = term_list_within levels by_arities bs [] false arities in
     within_reads levels (with_arities list) (with_arities_reads list.0 list.1 (list_within_reads levels bs [] false arities))
