@@ -7,6 +7,7 @@ pub mod Becomes
 pub mod BusesFound
 pub mod Calls
 pub mod Comparisons
+pub mod ConstantTerms
 pub mod Copied
 pub mod Copyable
 pub mod CostsOfTrees
@@ -27,10 +28,13 @@ pub mod IndexRegisters
 pub mod InnerLists
 pub mod Kinds
 pub mod Limits
+pub mod MatchedTerms
 pub mod Mutexes
 pub mod NamesFound
+pub mod NamesUsed
 pub mod Noted
 pub mod Numbers
+pub mod OperatorTerms
 pub mod Ordered
 pub mod Outside
 pub mod Parts
@@ -39,12 +43,14 @@ pub mod PassedNumbers
 pub mod PciScopes
 pub mod Plain
 pub mod Reached
+pub mod ReferringTerms
 pub mod RegionAccesses
 pub mod RegionTerms
 pub mod ResourceLists
 pub mod SpaceFaults
 pub mod Steps
 pub mod StepsTaken
+pub mod TestTerms
 pub mod UnitValues
 pub mod StoredCopies
 pub mod StoredNames

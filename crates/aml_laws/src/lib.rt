@@ -6,6 +6,7 @@ mod bank_fields;
 mod budgets;
 mod buffer_fields;
 mod calls;
+mod constants;
 mod copies;
 mod declarations;
 mod depths;
@@ -23,11 +24,13 @@ mod names;
 mod notes;
 mod numbers;
 mod objects;
+mod operators;
 mod passing;
 mod pci_functions;
 mod profiles;
 mod reading;
 mod references;
+mod referring;
 mod region_terms;
 mod regions;
 mod searches;
@@ -35,6 +38,7 @@ mod slots;
 mod space;
 mod steps;
 mod stores;
+mod tests;
 mod trees;
 mod updates;
 mod values;
@@ -52,6 +56,7 @@ pub use buffer_fields::{
 pub use calls::{
     a_call_begins_with_its_arguments, a_call_gives_what_its_body_returns, calls_leave_nothing,
 };
+pub use constants::constants_stand_for_their_numbers;
 pub use copies::{
     a_copy_is_the_same_apart_from_its_source, what_is_stored_is_a_copy,
     what_is_within_the_limits_is_copied,
@@ -86,6 +91,11 @@ pub use names::{declared_names_stand, names_stay, outside_of_control_methods};
 pub use notes::{noting_changes_nothing, space_faults_are_answers_of_the_last_access};
 pub use numbers::{numbers_are_given_once, numbers_never_fall, what_is_gone_stays_gone};
 pub use objects::objects_keep_number_and_kind;
+pub use operators::{
+    a_count_changes_what_its_target_holds_by_one, a_division_gives_quotient_and_remainder, bits_are_combined_one_by_one,
+    set_bits_are_numbered_from_one, shifts_multiply_and_divide_by_powers_of_two,
+    sums_differences_and_products_are_modulo_two_to_the_width,
+};
 pub use passing::{
     a_list_goes_on_behind_an_item_that_is_passed_over, control_methods_pass_nothing_over,
     no_list_is_refused_by_what_is_passed_over, the_core_profile_passes_nothing_over,
@@ -105,6 +115,9 @@ pub use references::{
     a_reference_refers_to_its_target, a_reference_to_a_name_finds_its_declaration,
     a_reference_to_a_slot_reads_that_slot,
 };
+pub use referring::{
+    a_size_counts_bytes_and_elements, an_index_refers_to_a_part, object_types_have_their_numbers,
+};
 pub use region_terms::{
     a_region_is_declared_as_its_term_says, field_flags_say_the_access_and_the_update_rule,
     fields_are_declared_in_what_their_names_find,
@@ -123,6 +136,9 @@ pub use steps::{
     no_more_terms_than_steps, terms_of_tables_and_answers_are_counted, terms_that_begin_are_counted,
 };
 pub use stores::a_store_converts_to_what_its_name_holds;
+pub use tests::{
+    a_match_finds_the_first_element, logical_operators_tell_of_truth, terms_of_comparisons_tell_the_order,
+};
 pub use trees::{
     a_rule_takes_no_step_of_its_own, a_target_takes_the_steps_of_its_terms, each_tree_costs_a_step,
     plain_targets_cost_nothing, trees_that_begin_are_counted,
