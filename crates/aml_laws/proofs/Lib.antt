@@ -90,15 +90,18 @@ pub mod IntegersClaimed
 pub mod IntegersInStrings
 pub mod IntegersOfAnswers
 pub mod IntegersOfContents
+pub mod IntegersOfValues
 pub mod ListsGoOn
 pub mod ListsWithinTerms
 pub mod MatchesFound
 pub mod NamesGiven
+pub mod NamesSought
 pub mod NotesKept
 pub mod NothingPassed
 pub mod ObjectsAsked
 pub mod OperatorLaws
 pub mod OperatorsComputed
+pub mod OsiAsked
 pub mod PartsIndexed
 pub mod PassableRefusals
 pub mod ReadingChanges
@@ -106,6 +109,7 @@ pub mod ReadingRefusals
 pub mod TablesRefused
 pub mod TermRefusals
 pub mod TestsTold
+pub mod ValuesJoined
 pub mod ValuesOfEvents
 pub mod ValuesOfFields
 pub mod ValuesOfObjects

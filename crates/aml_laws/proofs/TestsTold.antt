@@ -76,7 +76,7 @@ none_by_test : (a : ℕ) → is_true a ≡ false → 0 < a → ⊥
 none_by_test zero e some = absurd (omega (arith, some))
 none_by_test (suc a) e some = let so : is_true (suc a) ≡ true = rw (not_zero a) refl in let both : true ≡ false = sym so ∙ e in absurd (cc both)
 
-truth_by : (width : IntegerWidth) (b : Bool) (Holds : Type 0) → (b ≡ true → Holds) → (b ≡ false → Holds → ⊥) → IsTruth width Holds (truth width b)
+pub truth_by : (width : IntegerWidth) (b : Bool) (Holds : Type 0) → (b ≡ true → Holds) → (b ≡ false → Holds → ⊥) → IsTruth width Holds (truth width b)
 truth_by width true Holds so not = record { true = λ h. refl; false = λ n. absurd (n (so refl)) }
 truth_by width false Holds so not = record { true = λ h. absurd (not refl h); false = λ n. refl }
 

@@ -13,12 +13,14 @@ use Rattle.ar_space.specs.Outcome.{Outcome}
 use Rattle.ar_space.specs.Outcome as outcome
 use Rattle.aml_path.specs.declared.segment.Seg.{Seg}
 use Rattle.aml_grammar.specs.declared.opcode.Opcode.TheVariants as opcodes
-use Rattle.aml_grammar.specs.Tree.{Tree, Part}
+use Rattle.aml_grammar.specs.Tree.{Tree, Part, null}
 use Rattle.aml_objects.specs.Contents.{Content, Integer, String, Buffer, Other, content_in}
+use Rattle.aml_objects.specs.declared.object.Object.TheVariants as object
 use Rattle.aml_objects.specs.declared.value.Value.{Value}
+use Rattle.aml_objects.specs.declared.value.Value.TheVariants as value
 use Rattle.aml_convert.specs.Conversions.{to_integer_of, to_text_of, to_buffer_of, integer_bytes}
 use Rattle.aml_convert.specs.Concatenation.{concatenated}
-use Rattle.aml_convert.specs.Strings.{part_of, middle_of}
+use Rattle.aml_convert.specs.Strings.{string_of, part_of, middle_of}
 use Rattle.aml_meaning.specs.declared.flow.Flow.TheVariants as flow
 use Rattle.aml_meaning.specs.declared.term_kind.TwoOperands.TheVariants as two
 use Rattle.aml_meaning.specs.Profiles.{asked_for}
@@ -27,13 +29,13 @@ use Rattle.aml_meaning.specs.Run.{lift}
 use Rattle.aml_meaning.specs.Readings.{integer_in}
 use Rattle.aml_meaning.specs.Tasks.{task, operand_value, value_at, two_values}
 use Rattle.aml_meaning.specs.Operations.{made_of, joined_contents, joined}
-use Rattle.aml_meaning.specs.WideOperations.{middle_content, middle_in}
-use Rattle.aml_meaning.specs.WideTerms.{middle_rule}
+use Rattle.aml_meaning.specs.WideOperations.{string_text, string_in, middle_content, middle_in}
+use Rattle.aml_meaning.specs.WideTerms.{formed_at, to_string_rule, middle_rule}
 use Rattle.aml_meaning.specs.Evaluation.{rule}
 use Rattle.aml_meaning.specs.Meaning.{meaning}
 use Rattle.aml_laws.specs.OperatorTerms.{two_to, StoresTo, GivesValue}
 use Rattle.aml_laws.specs.TestTerms.{TwoValues}
-use Rattle.aml_laws.specs.JoinedTerms.{Fits, IsJoined, strings, buffers, integers, IsNew, new_string, new_buffer, middle, IsPart, TakesPart, HasBytes, of_string, of_buffer, of_integer, IsTextOf}
+use Rattle.aml_laws.specs.JoinedTerms.{Fits, IsJoined, strings, buffers, integers, IsNew, new_string, new_buffer, middle, IsPart, TakesPart, HasBytes, of_string, of_buffer, of_integer, with_object, TakesText, IsTextOf}
 use Rattle.aml_laws.proofs.TreesCost.{term_begins}
 use Rattle.aml_laws.proofs.LimitsTaken.{string_made, buffer_made}
 use Rattle.aml_laws.proofs.OperatorsComputed.{stored_at, two_gives}
@@ -162,3 +164,19 @@ module _ (n : ℕ) (bytes : List ℕ) where
 
   text_is : IsTextOf n bytes cut
   text_is = record { back = rest; is = all_bytes; whole = no_end; few = omega (arith, cut_length); ends = text_ends }
+
+module _ {S : Type 0} (accesses : Accesses S) (scope : List Seg) (depth : ℕ) (x y : Tree) (w : State S) (steps : ℕ) (bytes : List ℕ) (n : ℕ) (after : State S × ℕ) (h : TakesText accesses scope depth x y (w, steps) bytes n after) where
+  string_so : string_of after.0.width (content_in after.0.objects h.v) (content_in after.0.objects h.u) ≡ Ok (cut n bytes)
+  unfolding string_of outcome.◌>>=◌
+  string_so = rw (h.source, converted_so after.0 n h.u h.counts) refl
+
+  string_to : Fits after.0 (cut n bytes) → string_in h.v h.u after.0 ≡ (Ok (value.String (length after.0.objects)), with_object after.0 (object.String (cut n bytes)))
+  unfolding string_in string_text on_objects go_on ◌>>=◌
+  string_to fits = rw (string_so, string_made (cut n bytes) after.0.objects fits.0 fits.1) refl
+
+  string_ruled : Fits after.0 (cut n bytes) → rule accesses (meaning accesses) (task scope depth (two_to opcodes.ToString x y null)) (w, steps) ≡ (Ok (flow.Value (value.String (length after.0.objects))), (with_object after.0 (object.String (cut n bytes)), after.1))
+  unfolding rule to_string_rule asked_for two_values value_at operand_value formed_at settle lift give go_on ◌>>=◌
+  string_ruled fits = rw (h.wide, h.operands.first, h.operands.second, string_to fits) refl
+
+  pub text_taken : (text : List ℕ) × IsTextOf n bytes text × (Fits after.0 text → GivesValue accesses scope depth (two_to opcodes.ToString x y null) (w, suc steps) (value.String (length after.0.objects)) (with_object after.0 (object.String text), after.1))
+  text_taken = (cut n bytes, text_is n bytes, λ fits. (term_begins accesses (task scope depth (two_to opcodes.ToString x y null))).paid w steps ∙ string_ruled fits)

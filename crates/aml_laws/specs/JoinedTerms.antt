@@ -5,7 +5,7 @@ use Rattle.ar_space.specs.Accesses.{Accesses}
 use Rattle.aml_path.specs.declared.segment.Seg.{Seg}
 use Rattle.aml_grammar.specs.declared.opcode.Opcode.TheVariants as opcodes
 use Rattle.aml_grammar.specs.Tree.{Tree, Part, inner, no_parts, part}
-use Rattle.aml_objects.specs.Contents.{Content, Integer, String, Buffer}
+use Rattle.aml_objects.specs.Contents.{Content, Integer, String, Buffer, content_in}
 use Rattle.aml_objects.specs.declared.object.Object.{Object}
 use Rattle.aml_objects.specs.declared.object.Object.TheVariants as object
 use Rattle.aml_objects.specs.declared.value.Value.{Value}
@@ -70,6 +70,15 @@ pub data HasBytes (width : IntegerWidth) : Content → List ℕ → (List ℕ �
   of_integer : (n : ℕ) (s : List ℕ) → to_buffer_of width (Integer n) ≡ Ok s → HasBytes width (Integer n) s Buffer
 
 -- ---- ToString
+
+-- a value, as the bytes of a buffer, and a value that converts to a number of bytes, in the wide profile
+pub record TakesText {S : Type 0} (accesses : Accesses S) (scope : List Seg) (depth : ℕ) (x y : Tree) (s : State S × ℕ) (bytes : List ℕ) (count : ℕ) (after : State S × ℕ) : Type 0 where
+  pub wide : s.0.profile ≡ profiles.Wide
+  pub v : Value
+  pub u : Value
+  pub operands : TwoValues accesses scope depth x y s v u after
+  pub source : to_buffer_of after.0.width (content_in after.0.objects v) ≡ Ok bytes
+  pub counts : integer_in u after.0 ≡ (Ok count, after.0)
 
 -- the bytes before the first that is 0, at most so many
 pub record IsTextOf (count : ℕ) (bytes text : List ℕ) : Type 0 where

@@ -26,6 +26,8 @@ pub mod HandedIn
 pub mod Histories
 pub mod IndexRegisters
 pub mod InnerLists
+pub mod IntegersOfValues
+pub mod JoinedTerms
 pub mod Kinds
 pub mod Limits
 pub mod MatchedTerms

@@ -17,7 +17,9 @@ use Rattle.aml_objects.specs.declared.value.Reference.{Reference}
 use Rattle.aml_objects.specs.declared.value.Reference.TheVariants as reference
 use Rattle.aml_objects.specs.declared.value.Value.{Value}
 use Rattle.aml_objects.specs.declared.value.Value.TheVariants as value
+use Rattle.aml_meaning.specs.declared.frame.Frame.{Frame}
 use Rattle.aml_meaning.specs.State.{State}
+use Rattle.aml_meaning.specs.Slots.{frame_index}
 use Rattle.aml_meaning.specs.Readings.{integer_in}
 use Rattle.aml_laws.specs.OperatorTerms.{of_opcode}
 use Rattle.aml_laws.specs.TestTerms.{TwoValues}
@@ -76,6 +78,10 @@ pub data IsNamedKind : NamedObject → ℕ → Type 0 where
 -- what it refers to, and the target of the reference
 abbrev pub conditional : Part → Part → Tree
 conditional p q = of_opcode opcodes.CondRefOf (part p (part q no_parts))
+
+-- the frame of the control method that runs is the latest one with its number
+abbrev pub IsNumberedLast : {S : Type 0} → State S → Frame → ℕ → Type 0
+IsNumberedLast w frame last = frame_index frame.number w.frames ≡ Some last
 
 -- DerefOf of an Index without a target
 abbrev pub part_read : Tree → Tree → Tree

@@ -18,12 +18,15 @@ mod handed;
 mod index_fields;
 mod inner_lists;
 mod integers;
+mod joined;
 mod limits;
 mod mutexes;
 mod names;
+mod names_used;
 mod notes;
 mod numbers;
 mod objects;
+mod operands;
 mod operators;
 mod passing;
 mod pci_functions;
@@ -82,15 +85,20 @@ pub use inner_lists::{
     lists_of_scopes_are_evaluated_in_turn,
 };
 pub use integers::{integers_stay_below_two_to_the_width, operators_form_integers_of_the_width};
+pub use joined::{
+    a_part_is_taken_from_its_index_on, a_text_ends_before_the_first_zero, joined_values_begin_with_the_first,
+};
 pub use limits::{
     at_most_64_references_are_followed, limits_are_refused, packages_nest_at_most_64_deep,
     what_is_within_the_limits_is_taken,
 };
 pub use mutexes::{acquisitions_are_counted_one_by_one, no_mutex_stays_acquired};
 pub use names::{declared_names_stand, names_stay, outside_of_control_methods};
+pub use names_used::{a_name_gives_what_it_holds, osi_tells_of_known_texts};
 pub use notes::{noting_changes_nothing, space_faults_are_answers_of_the_last_access};
 pub use numbers::{numbers_are_given_once, numbers_never_fall, what_is_gone_stays_gone};
 pub use objects::objects_keep_number_and_kind;
+pub use operands::operands_convert_to_integers;
 pub use operators::{
     a_count_changes_what_its_target_holds_by_one, a_division_gives_quotient_and_remainder, bits_are_combined_one_by_one,
     set_bits_are_numbered_from_one, shifts_multiply_and_divide_by_powers_of_two,
@@ -116,7 +124,7 @@ pub use references::{
     a_reference_to_a_slot_reads_that_slot,
 };
 pub use referring::{
-    a_size_counts_bytes_and_elements, an_index_refers_to_a_part, object_types_have_their_numbers,
+    a_conditional_reference_tells_what_is_found, a_size_counts_bytes_and_elements, an_index_refers_to_a_part, object_types_have_their_numbers,
 };
 pub use region_terms::{
     a_region_is_declared_as_its_term_says, field_flags_say_the_access_and_the_update_rule,

@@ -1,22 +1,28 @@
 //! References to parts of objects and to names, and what is asked of objects.
-ghost use Rattle.std.specs.Prelude.{◌≡◌, ◌≢◌, ◌<◌, ◌≤◌, ℕ, suc, List, Some};
+ghost use Rattle.std.specs.Prelude.{◌≡◌, ◌≢◌, ◌<◌, ◌≤◌, ◌-◌, ◌^◌, ℕ, suc, List, Some, Ok, Err};
 ghost use Rattle.std.specs.FinMap.{get};
 ghost use Rattle.ar_space.specs.Accesses.{Accesses};
 ghost use Rattle.ar_space.specs.declared.refusal.Refusal.TheVariants as refusal;
 ghost use Rattle.ar_space.specs.declared.refusal.EvaluationFault.TheVariants.{IndexLimit};
+ghost use Rattle.ar_space.specs.declared.refusal.NamespaceFault.TheVariants.{NotFound};
 ghost use Rattle.aml_path.specs.declared.segment.Seg.{Seg};
-ghost use Rattle.aml_grammar.specs.Tree.{Tree, Part, inner};
+ghost use Rattle.aml_path.specs.Paths.{Name};
+ghost use Rattle.aml_grammar.specs.Tree.{Tree, Part, name, inner};
+ghost use Rattle.aml_grammar.specs.declared.opcode.Opcode.{Opcode};
 ghost use Rattle.aml_grammar.specs.declared.opcode.Opcode.TheVariants as opcodes;
 ghost use Rattle.aml_objects.specs.declared.entry.Entry.{Entry};
 ghost use Rattle.aml_objects.specs.declared.value.Reference.{Reference};
+ghost use Rattle.aml_objects.specs.declared.value.Reference.TheVariants as reference;
 ghost use Rattle.aml_objects.specs.declared.value.Slot.{Slot};
 ghost use Rattle.aml_objects.specs.declared.value.Value.{Value};
 ghost use Rattle.aml_objects.specs.declared.value.Value.TheVariants as value;
+ghost use Rattle.aml_convert.specs.Integers.{bits_of};
+ghost use Rattle.aml_namespace.specs.Search.{found};
 ghost use Rattle.aml_meaning.specs.declared.store_target.StoreTarget.{StoreTarget};
 ghost use Rattle.aml_meaning.specs.declared.store_target.StoreTarget.TheVariants as targets;
 ghost use Rattle.aml_meaning.specs.State.{State};
-ghost use Rattle.aml_laws.specs.OperatorTerms.{alone, two_to, NamesTarget, StoresTo, SlotIsEmpty, TargetHolds, GivesValue, Gives, IsRefused};
-ghost use Rattle.aml_laws.specs.ReferringTerms.{HasParts, HasPart, Indexes, part_read, size_of, object_type, IsNumbered, IsNamedKind};
+ghost use Rattle.aml_laws.specs.OperatorTerms.{alone, two_to, NamesSlot, NamesTarget, StoresTo, SlotHolds, SlotIsEmpty, TargetHolds, GivesValue, Gives, IsRefused};
+ghost use Rattle.aml_laws.specs.ReferringTerms.{HasParts, HasPart, Indexes, part_read, size_of, object_type, IsNumbered, IsNamedKind, conditional, IsNumberedLast};
 
 /// Index gives a reference to the element of a package, or to the byte of a string or of a buffer, that its second
 /// operand counts from 0, and stores it to its target; from the end on it is refused. DerefOf of it gives that element,
@@ -61,4 +67,26 @@ pub fn object_types_have_their_numbers<S>()
         Gives accesses scope depth (object_type p) (w, suc steps) 0 (w, steps) }
     ensures debug { (accesses : Accesses S) (scope : List Seg) (depth : ℕ) (w : State S) (steps : ℕ) →
         Gives accesses scope depth (object_type (inner (alone opcodes.Debug))) (w, suc steps) 16 (w, steps) }
+{}
+
+/// CondRefOf of a name that is found stores a reference to its declaration and gives Ones; where none is found it stores
+/// nothing and gives Zero. Of a local or an argument it does the same by whether it holds a value. What it refers to
+/// isn't evaluated, and it changes nothing but its target. One that stores in either case, or that gives One, is refused
+/// by this.
+pub fn a_conditional_reference_tells_what_is_found<S>()
+    ensures name_found { (accesses : Accesses S) (scope : List Seg) (depth : ℕ) (w : State S) (steps : ℕ) (q : Part)
+        (n : Name) (path : List Seg) (e : Entry) (end : State S) → found w.names.map scope n ≡ Ok (path, e) →
+        StoresTo scope q (value.Reference (reference.Name e.number)) w end →
+        Gives accesses scope depth (conditional (name n) q) (w, suc steps) (2 ^ bits_of end.width - 1) (end, steps) }
+    ensures no_name { (accesses : Accesses S) (scope : List Seg) (depth : ℕ) (w : State S) (steps : ℕ) (q : Part)
+        (n : Name) → found w.names.map scope n ≡ Err (refusal.Namespace NotFound) →
+        Gives accesses scope depth (conditional (name n) q) (w, suc steps) 0 (w, steps) }
+    ensures slot_with_value { (accesses : Accesses S) (scope : List Seg) (depth : ℕ) (w : State S) (steps : ℕ) (q : Part)
+        (op : Opcode) (s : Slot) (v : Value) (end : State S) → NamesSlot op s → (h : SlotHolds w s v) →
+        IsNumberedLast w h.frame h.last → StoresTo scope q (value.Reference (reference.Slot s h.frame.number)) w end →
+        Gives accesses scope depth (conditional (inner (alone op)) q) (w, suc steps) (2 ^ bits_of end.width - 1)
+        (end, steps) }
+    ensures empty_slot { (accesses : Accesses S) (scope : List Seg) (depth : ℕ) (w : State S) (steps : ℕ) (q : Part)
+        (op : Opcode) (s : Slot) → NamesSlot op s → (h : SlotIsEmpty w s) → IsNumberedLast w h.frame h.last →
+        Gives accesses scope depth (conditional (inner (alone op)) q) (w, suc steps) 0 (w, steps) }
 {}
