@@ -41,7 +41,7 @@ use Rattle.aml_laws.proofs.OperatorsComputed.{target_is}
 
 -- ---- what targets hold
 
-initialized_is : (v : Value) → v ≢ value.Uninitialized → initialized v ≡ Ok v
+pub initialized_is : (v : Value) → v ≢ value.Uninitialized → initialized v ≡ Ok v
 initialized_is value.Uninitialized some = absurd (some refl)
 initialized_is (value.Integer n) some = refl
 initialized_is (value.String o) some = refl

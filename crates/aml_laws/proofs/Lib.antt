@@ -186,6 +186,7 @@ pub mod LimitsRefused
 pub mod LimitsTaken
 pub mod LocatedRegions
 pub mod MatchesPreserve
+pub mod WideAsked
 pub mod WideTermsPreserve
 pub mod MatchesTogether
 pub mod WideTermsTogether

@@ -13,9 +13,10 @@ use Rattle.ar_space.specs.declared.integer_width.IntegerWidth.{IntegerWidth}
 use Rattle.ar_space.specs.declared.refusal.Refusal.TheVariants as refusal
 use Rattle.ar_space.specs.declared.refusal.EvaluationFault.TheVariants.{IndexLimit}
 use Rattle.ar_space.specs.Accesses.{Accesses}
-use Rattle.ar_space.specs.Change.{give, settle, go_on, ◌>>=◌, ◌>>◌}
+use Rattle.ar_space.specs.Change.{give, settle, go_on, ◌>>=◌}
 use Rattle.ar_space.specs.Outcome as outcome
 use Rattle.aml_path.specs.declared.segment.Seg.{Seg}
+use Rattle.aml_grammar.specs.declared.opcode.Opcode.TheVariants as opcodes
 use Rattle.aml_grammar.specs.Tree.{Tree}
 use Rattle.aml_objects.specs.Contents.{Integer}
 use Rattle.aml_objects.specs.Objects.{element_at}
@@ -29,7 +30,6 @@ use Rattle.aml_convert.specs.declared.matching.MatchOperator.TheVariants as oper
 use Rattle.aml_meaning.specs.declared.flow.Flow.{Flow}
 use Rattle.aml_meaning.specs.declared.flow.Flow.TheVariants as flow
 use Rattle.aml_meaning.specs.declared.searches.Search.{Search}
-use Rattle.aml_meaning.specs.Profiles.{asked_for}
 use Rattle.aml_meaning.specs.State.{State, on_objects}
 use Rattle.aml_meaning.specs.Run.{Run, lift}
 use Rattle.aml_meaning.specs.Readings.{integer_kept}
@@ -42,6 +42,7 @@ use Rattle.aml_laws.specs.OperatorTerms.{Gives, IsRefused}
 use Rattle.aml_laws.specs.MatchedTerms.{match, IsNumberOf, mtr, meq, mle, mlt, mge, mgt, IsMet, integer_element, Matches, MeetsBoth}
 use Rattle.aml_laws.proofs.TreesCost.{term_begins}
 use Rattle.aml_laws.proofs.ConstantsGiven.{all_kept}
+use Rattle.aml_laws.proofs.WideAsked.{asked_in_wide}
 
 -- ---- tests
 
@@ -151,6 +152,11 @@ module _ {S : Type 0} (accesses : Accesses S) (depth : ℕ) (k l : MatchOperator
   there : (i : ℕ) → i < length ns → slice_get ns i ≡ Some (element_number i)
   there i l = slice_get-get_or ns i 0 l
 
+  found_by : (n i j : ℕ) → ((i ≡ j) ⊎ (i < j)) → i < length ns → MeetsBoth k l ns a b j → ((q : ℕ) → i ≤ q → q < j → MeetsBoth k l ns a b q → ⊥) → (i < j → searched n (w, steps) ≡ (Ok (flow.Value (value.Integer j)), (w, steps)))
+      → found_or (both (element_number i)) i (searched n) (w, steps) ≡ (Ok (flow.Value (value.Integer j)), (w, steps))
+  found_by n i j (inl same) inside h first later = found_here (both (element_number i)) i (searched n) (met i (element_number i) (there i inside) (subst (MeetsBoth k l ns a b) (sym same) h)) ∙ ap (λ (q : ℕ). (Ok (flow.Value (value.Integer q)), (w, steps))) same
+  found_by n i j (inr less) inside h first later = found_later (both (element_number i)) i (searched n) (missed i (element_number i) (there i inside) (first i (omega arith) less)) ∙ later less
+
   found_from : (n i j : ℕ) → i + n ≡ length ns → i ≤ j → MeetsBoth k l ns a b j → ((q : ℕ) → i ≤ q → q < j → MeetsBoth k l ns a b q → ⊥) → searched n (w, steps) ≡ (Ok (flow.Value (value.Integer j)), (w, steps))
   found_from zero i j sum le h first = let within = slice_get_within ns j h.n h.stands in absurd (omega (arith, sum, le, within))
   found_from (suc n) i j sum le h first =
@@ -158,13 +164,8 @@ module _ {S : Type 0} (accesses : Accesses S) (depth : ℕ) (k l : MatchOperator
       let long : length (map integer_element ns) ≡ length ns = length-map ns integer_element in
       let index : length (map integer_element ns) - suc n ≡ i = omega (arith, sum, long) in
       let inside : i < length ns = omega (arith, sum) in
-      searched_step n i (element_number i) index (there i inside) ∙ by (eq-or-lt_of_le le) inside
-    where
-      by : ((i ≡ j) ⊎ (i < j)) → i < length ns → found_or (both (element_number i)) i (searched n) (w, steps) ≡ (Ok (flow.Value (value.Integer j)), (w, steps))
-      by (inl same) inside = found_here (both (element_number i)) i (searched n) (met i (element_number i) (there i inside) (subst (MeetsBoth k l ns a b) (sym same) h)) ∙ ap (λ (q : ℕ). (Ok (flow.Value (value.Integer q)), (w, steps))) same
-      by (inr less) inside =
-          found_later (both (element_number i)) i (searched n) (missed i (element_number i) (there i inside) (first i (omega arith) less))
-          ∙ found_from n (i + 1) j (omega (arith, sum)) (omega (arith, less)) h (λ q from before. first q (omega (arith, from)) before)
+      searched_step n i (element_number i) index (there i inside)
+      ∙ found_by n i j (eq-or-lt_of_le le) inside h first (λ less. found_from n (i + 1) j (omega (arith, sum)) (omega (arith, less)) h (λ q from before. first q (omega (arith, from)) before))
 
   none_from : (n i : ℕ) → i + n ≡ length ns → ((q : ℕ) → i ≤ q → q < length ns → MeetsBoth k l ns a b q → ⊥) → searched n (w, steps) ≡ (Ok (flow.Value (value.Integer (2 ^ bits_of w.width - 1))), (w, steps))
   none_from zero i sum none = none_left
@@ -184,13 +185,23 @@ is_past : (i n : ℕ) → n ≤ i → nat_lt i n ≡ false
 is_past i n l = grind (arith, nat_tests)
 
 module _ {S : Type 0} (accesses : Accesses S) (scope : List Seg) (depth : ℕ) (p x y i : Tree) (w : State S) (steps : ℕ) (ns : List ℕ) (a b start : ℕ) (after : State S × ℕ) (h : Matches accesses scope depth p x y i (w, steps) ns a b start after) (j m : ℕ) (k l : MatchOperator) (one : IsNumberOf j k) (other : IsNumberOf m l) where
+  ruled : rule accesses (meaning accesses) (task scope depth (match p j x m y i)) (w, steps) ≡ match_rule accesses (meaning accesses) scope depth (match p j x m y i) (w, steps)
+  unfolding rule
+  ruled = asked_in_wide opcodes.Match w steps h.wide (match_rule accesses (meaning accesses) scope depth (match p j x m y i))
+
+  searched_by : start < length (map integer_element ns) → match_rule accesses (meaning accesses) scope depth (match p j x m y i) (w, steps) ≡ searched accesses depth k l ns a b h.source after.0 after.1 h.holds (length (map integer_element ns) - start) after
+  unfolding match_rule search_begun size_held value_at operand_value settle lift give go_on ◌>>=◌
+  searched_by less = rw (h.gives_package, h.gives_first, h.gives_second, h.gives_start, numbered j k one, numbered m l other, h.converts, h.holds, is_below start (length (map integer_element ns)) less) refl
+
   searched_so : start < length (map integer_element ns) → rule accesses (meaning accesses) (task scope depth (match p j x m y i)) (w, steps) ≡ searched accesses depth k l ns a b h.source after.0 after.1 h.holds (length (map integer_element ns) - start) after
-  unfolding rule match_rule asked_for search_begun size_held value_at operand_value settle lift give go_on ◌>>=◌
-  searched_so less = rw (h.wide, h.gives_package, h.gives_first, h.gives_second, h.gives_start, numbered j k one, numbered m l other, h.converts, h.holds, is_below start (length (map integer_element ns)) less) refl
+  searched_so less = ruled ∙ searched_by less
+
+  refused_by : length (map integer_element ns) ≤ start → match_rule accesses (meaning accesses) scope depth (match p j x m y i) (w, steps) ≡ (Err (refusal.Evaluation IndexLimit), after)
+  unfolding match_rule search_begun size_held value_at operand_value settle lift give go_on ◌>>=◌
+  refused_by past = rw (h.gives_package, h.gives_first, h.gives_second, h.gives_start, numbered j k one, numbered m l other, h.converts, h.holds, is_past start (length (map integer_element ns)) past) refl
 
   refused_so : length (map integer_element ns) ≤ start → rule accesses (meaning accesses) (task scope depth (match p j x m y i)) (w, steps) ≡ (Err (refusal.Evaluation IndexLimit), after)
-  unfolding rule match_rule asked_for search_begun size_held value_at operand_value settle lift give go_on ◌>>=◌
-  refused_so past = rw (h.wide, h.gives_package, h.gives_first, h.gives_second, h.gives_start, numbered j k one, numbered m l other, h.converts, h.holds, is_past start (length (map integer_element ns)) past) refl
+  refused_so past = ruled ∙ refused_by past
 
   long : length (map integer_element ns) ≡ length ns
   long = length-map ns integer_element

@@ -63,27 +63,27 @@ module _ {S : Type 0} (w : State S) where
   unfolding slot_referent own_slot latest_frame slot_held go_on ◌>>=◌
   empty_refers s h = rw (h.latest, h.stands, h.empty) (plain_followed value.Uninitialized nothing_yet)
 
+  kind_by : (n : NamedObject) (k : ℕ) → IsNamedKind n k → (o : ObjectType) × (referent_followed (followed most_references) (referent_of n) w ≡ (Ok (referent.Object o), w)) × (type_number o ≡ k)
+  unfolding give
+  kind_by _ _ scope = (types.Uninitialized, refl, refl)
+  kind_by _ _ (field_unit u) = (types.FieldUnit, refl, refl)
+  kind_by _ _ device = (types.Device, refl, refl)
+  kind_by _ _ (event c) = (types.Event, refl, refl)
+  kind_by _ _ (method m) = (types.Method, refl, refl)
+  kind_by _ _ (mutex c) = (types.Mutex, refl, refl)
+  kind_by _ _ (region r) = (types.OperationRegion, refl, refl)
+  kind_by _ _ power_resource = (types.PowerResource, refl, refl)
+  kind_by _ _ processor = (types.Processor, refl, refl)
+  kind_by _ _ thermal_zone = (types.ThermalZone, refl, refl)
+  kind_by _ _ (buffer_field b) = (types.BufferField, refl, refl)
+
   module _ (path : List Seg) (e : Entry) (at : get w.names.map path ≡ Some e) where
     there : (o : ObjectType) → referent_followed (followed most_references) (referent_of e.object) w ≡ (Ok (referent.Object o), w) → name_referent path w ≡ (Ok (referent.Object o), w)
     unfolding name_referent declared_referent go_on ◌>>=◌
     there o ends = rw at ends
 
     kind_refers : (k : ℕ) → IsNamedKind e.object k → (o : ObjectType) × (name_referent path w ≡ (Ok (referent.Object o), w)) × (type_number o ≡ k)
-    kind_refers k is = let b = by e.object k is in (b.0, there b.0 b.1, b.2)
-      where
-        by : (n : NamedObject) (k : ℕ) → IsNamedKind n k → (o : ObjectType) × (referent_followed (followed most_references) (referent_of n) w ≡ (Ok (referent.Object o), w)) × (type_number o ≡ k)
-        unfolding give
-        by _ _ scope = (types.Uninitialized, refl, refl)
-        by _ _ (field_unit u) = (types.FieldUnit, refl, refl)
-        by _ _ device = (types.Device, refl, refl)
-        by _ _ (event c) = (types.Event, refl, refl)
-        by _ _ (method m) = (types.Method, refl, refl)
-        by _ _ (mutex c) = (types.Mutex, refl, refl)
-        by _ _ (region r) = (types.OperationRegion, refl, refl)
-        by _ _ power_resource = (types.PowerResource, refl, refl)
-        by _ _ processor = (types.Processor, refl, refl)
-        by _ _ thermal_zone = (types.ThermalZone, refl, refl)
-        by _ _ (buffer_field b) = (types.BufferField, refl, refl)
+    kind_refers k is = let b = kind_by e.object k is in (b.0, there b.0 b.1, b.2)
 
 module _ {S : Type 0} (accesses : Accesses S) (at : List Seg) (depth : ℕ) (p : Part) (w : State S) (steps : ℕ) where
   target_asked : (op : Opcode) (t : StoreTarget) → NamesTarget at w p t → referent_of_target accesses (meaning accesses) at depth (counting op p) (w, steps) ≡ lift (target_referent t) (w, steps)

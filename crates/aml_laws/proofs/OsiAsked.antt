@@ -1,5 +1,5 @@
 -- What \_OSI answers of a text.
-use Rattle.std.specs.Prelude.{◌≡◌, ◌<◌, ◌||◌, ◌==◌, ℕ, suc, List, [], ◌∷◌, slice_get, Bool, true, false, Some, Ok, refl}
+use Rattle.std.specs.Prelude.{◌≡◌, ◌||◌, ℕ, suc, List, [], ◌∷◌, Bool, true, false, Ok, refl}
 use Rattle.std.specs.Ordering.{is_eq, nat_cmp}
 use Rattle.std.specs.Cmp.Lexicographic.{slice_cmp}
 use Rattle.std.specs.FinMap.{nat_cmp-IsAntisymmetric, slice_cmp-IsAntisymmetric}
@@ -43,17 +43,13 @@ same_so a b e = slice_cmp-IsAntisymmetric nat_cmp-IsAntisymmetric a b (is_equal_
 same_itself : (a : List ℕ) → same_text a a ≡ true
 same_itself a = ap is_eq (total_itself nat_list_cmp_total (slice_cmp-IsAntisymmetric nat_cmp-IsAntisymmetric) a)
 
-any_by : (b c : Bool) → (b || c) ≡ true → b ≡ false → c ≡ true
-any_by true c e f = absurd (cc f)
-any_by false c e f = e
+among_by : (t : List ℕ) (ts : List (List ℕ)) (text : List ℕ) (b : Bool) → same_text t text ≡ b → (is_known ts text ≡ true → IsAmong text ts) → (b || is_known ts text) ≡ true → IsAmong text (t ∷ ts)
+among_by t ts text true is others e = subst (λ u. IsAmong text (u ∷ ts)) (sym (same_so t text is)) (first ts)
+among_by t ts text false is others e = later t ts (others e)
 
 among_so : (texts : List (List ℕ)) (text : List ℕ) → is_known texts text ≡ true → IsAmong text texts
 among_so [] text e = absurd (cc e)
-among_so (t ∷ ts) text e = by (same_text t text) refl
-  where
-    by : (b : Bool) → same_text t text ≡ b → IsAmong text (t ∷ ts)
-    by true is = subst (λ u. IsAmong text (u ∷ ts)) (sym (same_so t text is)) (first ts)
-    by false is = later t ts (among_so ts text (any_by (same_text t text) (is_known ts text) e is))
+among_so (t ∷ ts) text e = among_by t ts text (same_text t text) refl (among_so ts text) e
 
 first_known : (b c : Bool) → b ≡ true → (b || c) ≡ true
 first_known true c e = refl
@@ -63,12 +59,12 @@ later_known : (b c : Bool) → c ≡ true → (b || c) ≡ true
 later_known true c e = refl
 later_known false c e = e
 
-known_so : (texts : List (List ℕ)) (text : List ℕ) → IsAmong text texts → is_known texts text ≡ true
-known_so _ text (first others) = first_known (same_text text text) (is_known others text) (same_itself text)
-known_so _ text (later other others h) = later_known (same_text other text) (is_known others text) (known_so others text h)
+known_so : (text : List ℕ) (texts : List (List ℕ)) → IsAmong text texts → is_known texts text ≡ true
+known_so text _ (first others) = first_known (same_text text text) (is_known others text) (same_itself text)
+known_so text _ (later other others h) = later_known (same_text other text) (is_known others text) (known_so text others h)
 
 not_among : (texts : List (List ℕ)) (text : List ℕ) → is_known texts text ≡ false → IsAmong text texts → ⊥
-not_among texts text e h = let both : true ≡ false = sym (known_so texts text h) ∙ e in absurd (cc both)
+not_among texts text e h = let both : true ≡ false = sym (known_so text texts h) ∙ e in absurd (cc both)
 
 module _ {S : Type 0} (accesses : Accesses S) (scope : List Seg) (depth : ℕ) (n : Name) (x : Tree) (w : State S) (steps : ℕ) (text : List ℕ) (after : State S × ℕ) (h : AsksOsi accesses scope depth n x (w, steps) text after) where
   answered_so : rule accesses (meaning accesses) (task scope depth (call_of_one n x)) (w, steps) ≡ (Ok (flow.Value (value.Integer (truth after.0.width (is_known after.0.osi text)))), after)

@@ -8,7 +8,7 @@ use Rattle.std.proofs.lemmas.Option.{slice_get_within, slice_get-get_or, get_or_
 use Rattle.std.proofs.lemmas.Bool.{eqb-true, cases_lt}
 use Rattle.ar_space.specs.declared.integer_width.IntegerWidth.{IntegerWidth}
 use Rattle.ar_space.specs.Accesses.{Accesses}
-use Rattle.ar_space.specs.Change.{give, settle, go_on, ◌>>=◌, ◌>>◌}
+use Rattle.ar_space.specs.Change.{give, settle, go_on, ◌>>=◌}
 use Rattle.ar_space.specs.Outcome.{Outcome}
 use Rattle.ar_space.specs.Outcome as outcome
 use Rattle.aml_path.specs.declared.segment.Seg.{Seg}
@@ -23,7 +23,6 @@ use Rattle.aml_convert.specs.Concatenation.{concatenated}
 use Rattle.aml_convert.specs.Strings.{string_of, part_of, middle_of}
 use Rattle.aml_meaning.specs.declared.flow.Flow.TheVariants as flow
 use Rattle.aml_meaning.specs.declared.term_kind.TwoOperands.TheVariants as two
-use Rattle.aml_meaning.specs.Profiles.{asked_for}
 use Rattle.aml_meaning.specs.State.{State, on_objects}
 use Rattle.aml_meaning.specs.Run.{lift}
 use Rattle.aml_meaning.specs.Readings.{integer_in}
@@ -40,6 +39,7 @@ use Rattle.aml_laws.proofs.TreesCost.{term_begins}
 use Rattle.aml_laws.proofs.LimitsTaken.{string_made, buffer_made}
 use Rattle.aml_laws.proofs.OperatorsComputed.{stored_at, two_gives}
 use Rattle.aml_laws.proofs.TestsTold.{converted_so}
+use Rattle.aml_laws.proofs.WideAsked.{asked_in_wide}
 
 -- ---- new objects
 
@@ -87,32 +87,36 @@ part_is i n s = record {
   long = length-take n (drop i s) ∙ ap (min n) (length-drop i s);
 }
 
-middle_so : (width : IntegerWidth) (c b d : Content) (i n : ℕ) (whole : List ℕ) (as : List ℕ → Content) → HasBytes width c whole as → to_integer_of width b ≡ Ok i → to_integer_of width d ≡ Ok n → (middle_of width c b d ≡ Ok (as (take n (drop i whole)))) × ((bytes : List ℕ) → bytes ≡ bytes_in (as bytes))
+middle_so : (width : IntegerWidth) (c b d : Content) (i n : ℕ) (whole : List ℕ) (made : List ℕ → Content) → HasBytes width c whole made → to_integer_of width b ≡ Ok i → to_integer_of width d ≡ Ok n → (middle_of width c b d ≡ Ok (made (take n (drop i whole)))) × ((bytes : List ℕ) → bytes ≡ bytes_in (made bytes))
 unfolding middle_of part_of outcome.◌>>=◌
 middle_so width _ b d i n _ _ (of_string s) starts counts = (rw (starts, counts) refl, λ bytes. refl)
 middle_so width _ b d i n _ _ (of_buffer s) starts counts = (rw (starts, counts) refl, λ bytes. refl)
 middle_so width _ b d i n _ _ (of_integer m s is) starts counts = let same : integer_bytes width m ≡ s = cc is in (rw (starts, counts, same) refl, λ bytes. refl)
 
-module _ {S : Type 0} (accesses : Accesses S) (scope : List Seg) (depth : ℕ) (x y z : Tree) (w : State S) (steps : ℕ) (v : Value) (i n : ℕ) (after : State S × ℕ) (h : TakesPart accesses scope depth x y z (w, steps) v i n after) (whole : List ℕ) (as : List ℕ → Content) (has : HasBytes after.0.width (content_in after.0.objects v) whole as) where
+module _ {S : Type 0} (accesses : Accesses S) (scope : List Seg) (depth : ℕ) (x y z : Tree) (w : State S) (steps : ℕ) (v : Value) (i n : ℕ) (after : State S × ℕ) (h : TakesPart accesses scope depth x y z (w, steps) v i n after) (whole : List ℕ) (made : List ℕ → Content) (has : HasBytes after.0.width (content_in after.0.objects v) whole made) where
   abbrev taken : List ℕ
   taken = take n (drop i whole)
 
-  middle_is : middle_in v h.u h.r after.0 ≡ on_objects (made_of (as taken)) after.0
+  middle_is : middle_in v h.u h.r after.0 ≡ on_objects (made_of (made taken)) after.0
   unfolding middle_in middle_content go_on ◌>>=◌
-  middle_is = rw (middle_so after.0.width (content_in after.0.objects v) (content_in after.0.objects h.u) (content_in after.0.objects h.r) i n whole as has (converted_so after.0 i h.u h.starts) (converted_so after.0 n h.r h.counts)).0 refl
+  middle_is = rw (middle_so after.0.width (content_in after.0.objects v) (content_in after.0.objects h.u) (content_in after.0.objects h.r) i n whole made has (converted_so after.0 i h.u h.starts) (converted_so after.0 n h.r h.counts)).0 refl
 
-  module _ (r : Value) (formed end : State S) (p : Part) (fits : Fits after.0 taken) (new : IsNew after.0 (as taken) r formed) (stores : StoresTo scope p r formed end) where
+  module _ (r : Value) (formed end : State S) (p : Part) (fits : Fits after.0 taken) (new : IsNew after.0 (made taken) r formed) (stores : StoresTo scope p r formed end) where
     middle_to : middle_in v h.u h.r after.0 ≡ (Ok r, formed)
-    middle_to = middle_is ∙ new_made after.0 (as taken) r formed new (subst (λ bs. Fits after.0 bs) ((middle_so after.0.width (content_in after.0.objects v) (content_in after.0.objects h.u) (content_in after.0.objects h.r) i n whole as has (converted_so after.0 i h.u h.starts) (converted_so after.0 n h.r h.counts)).1 taken) fits)
+    middle_to = middle_is ∙ new_made after.0 (made taken) r formed new (subst (λ bs. Fits after.0 bs) ((middle_so after.0.width (content_in after.0.objects v) (content_in after.0.objects h.u) (content_in after.0.objects h.r) i n whole made has (converted_so after.0 i h.u h.starts) (converted_so after.0 n h.r h.counts)).1 taken) fits)
+
+    middle_by : middle_rule accesses (meaning accesses) scope depth (middle x y z p) (w, steps) ≡ (Ok (flow.Value r), (end, after.1))
+    unfolding middle_rule two_values value_at operand_value settle lift give go_on ◌>>=◌
+    middle_by = rw (h.operands.first, h.operands.second, h.third, middle_to) (stored_at accesses scope depth (middle x y z p) 3 formed after.1 p r end stores refl)
 
     middle_ruled : rule accesses (meaning accesses) (task scope depth (middle x y z p)) (w, steps) ≡ (Ok (flow.Value r), (end, after.1))
-    unfolding rule middle_rule asked_for two_values value_at operand_value settle lift give go_on ◌>>=◌
-    middle_ruled = rw (h.wide, h.operands.first, h.operands.second, h.third, middle_to) (stored_at accesses scope depth (middle x y z p) 3 formed after.1 p r end stores refl)
+    unfolding rule
+    middle_ruled = asked_in_wide opcodes.Mid w steps h.wide (middle_rule accesses (meaning accesses) scope depth (middle x y z p)) ∙ middle_by
 
     middle_gives : GivesValue accesses scope depth (middle x y z p) (w, suc steps) r (end, after.1)
     middle_gives = (term_begins accesses (task scope depth (middle x y z p))).paid w steps ∙ middle_ruled
 
-  pub part_taken : (bytes : List ℕ) × IsPart i n whole bytes × ((r : Value) (formed end : State S) (p : Part) → Fits after.0 bytes → IsNew after.0 (as bytes) r formed → StoresTo scope p r formed end → GivesValue accesses scope depth (middle x y z p) (w, suc steps) r (end, after.1))
+  pub part_taken : (bytes : List ℕ) × IsPart i n whole bytes × ((r : Value) (formed end : State S) (p : Part) → Fits after.0 bytes → IsNew after.0 (made bytes) r formed → StoresTo scope p r formed end → GivesValue accesses scope depth (middle x y z p) (w, suc steps) r (end, after.1))
   part_taken = (taken, part_is i n whole, middle_gives)
 
 -- ---- ToString
@@ -174,9 +178,13 @@ module _ {S : Type 0} (accesses : Accesses S) (scope : List Seg) (depth : ℕ) (
   unfolding string_in string_text on_objects go_on ◌>>=◌
   string_to fits = rw (string_so, string_made (cut n bytes) after.0.objects fits.0 fits.1) refl
 
+  string_by : Fits after.0 (cut n bytes) → to_string_rule accesses (meaning accesses) scope depth (two_to opcodes.ToString x y null) (w, steps) ≡ (Ok (flow.Value (value.String (length after.0.objects))), (with_object after.0 (object.String (cut n bytes)), after.1))
+  unfolding to_string_rule two_values value_at operand_value formed_at settle lift give go_on ◌>>=◌
+  string_by fits = rw (h.operands.first, h.operands.second, string_to fits) refl
+
   string_ruled : Fits after.0 (cut n bytes) → rule accesses (meaning accesses) (task scope depth (two_to opcodes.ToString x y null)) (w, steps) ≡ (Ok (flow.Value (value.String (length after.0.objects))), (with_object after.0 (object.String (cut n bytes)), after.1))
-  unfolding rule to_string_rule asked_for two_values value_at operand_value formed_at settle lift give go_on ◌>>=◌
-  string_ruled fits = rw (h.wide, h.operands.first, h.operands.second, string_to fits) refl
+  unfolding rule
+  string_ruled fits = asked_in_wide opcodes.ToString w steps h.wide (to_string_rule accesses (meaning accesses) scope depth (two_to opcodes.ToString x y null)) ∙ string_by fits
 
   pub text_taken : (text : List ℕ) × IsTextOf n bytes text × (Fits after.0 text → GivesValue accesses scope depth (two_to opcodes.ToString x y null) (w, suc steps) (value.String (length after.0.objects)) (with_object after.0 (object.String text), after.1))
   text_taken = (cut n bytes, text_is n bytes, λ fits. (term_begins accesses (task scope depth (two_to opcodes.ToString x y null))).paid w steps ∙ string_ruled fits)

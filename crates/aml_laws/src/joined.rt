@@ -32,9 +32,9 @@ pub fn joined_values_begin_with_the_first<S>()
 pub fn a_part_is_taken_from_its_index_on<S>()
     ensures { (accesses : Accesses S) (scope : List Seg) (depth : ℕ) (x y z : Tree) (w : State S) (steps : ℕ)
         (v : Value) (i n : ℕ) (after : State S × ℕ) → TakesPart accesses scope depth x y z (w, steps) v i n after →
-        (whole : List ℕ) (as : List ℕ → Content) → HasBytes after.0.width (content_in after.0.objects v) whole as →
+        (whole : List ℕ) (made : List ℕ → Content) → HasBytes after.0.width (content_in after.0.objects v) whole made →
         (bytes : List ℕ) × IsPart i n whole bytes × ((r : Value) (formed end : State S) (p : Part) →
-        Fits after.0 bytes → IsNew after.0 (as bytes) r formed → StoresTo scope p r formed end →
+        Fits after.0 bytes → IsNew after.0 (made bytes) r formed → StoresTo scope p r formed end →
         GivesValue accesses scope depth (middle x y z p) (w, suc steps) r (end, after.1)) }
 {}
 
