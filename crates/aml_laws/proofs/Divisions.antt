@@ -56,6 +56,7 @@ module _ {S : Type 0} (accesses : Accesses S) (scope : List Seg) (depth : ℕ) (
     divide_refused r q = rw (h.first, h.second, h.one, h.other) refl
 
     pub refused_by_zero : (p q : Part) → IsRefused accesses scope depth (two_to opcodes.Mod x y p) (w, suc steps) (refusal.Value DivideByZero) after × IsRefused accesses scope depth (divide x y p q) (w, suc steps) (refusal.Value DivideByZero) after
-    refused_by_zero p q =
-        (operator_refused accesses scope depth x y w steps a 0 after h binary.Mod opcodes.Mod (refusal.Value DivideByZero) refl refl p,
-        (term_begins accesses (task scope depth (divide x y p q))).paid w steps ∙ divide_refused p q)
+    refused_by_zero p q = (
+      operator_refused accesses scope depth x y w steps a 0 after h binary.Mod opcodes.Mod (refusal.Value DivideByZero) refl refl p,
+      (term_begins accesses (task scope depth (divide x y p q))).paid w steps ∙ divide_refused p q,
+    )

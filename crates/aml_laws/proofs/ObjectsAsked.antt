@@ -7,7 +7,7 @@ use Rattle.ar_space.specs.Change.{give, settle, go_on, ◌>>=◌}
 use Rattle.aml_path.specs.declared.segment.Seg.{Seg}
 use Rattle.aml_grammar.specs.declared.opcode.Opcode.{Opcode}
 use Rattle.aml_grammar.specs.declared.opcode.Opcode.TheVariants as opcodes
-use Rattle.aml_grammar.specs.Tree.{Part, inner}
+use Rattle.aml_grammar.specs.Tree.{Part, null, name, inner}
 use Rattle.aml_objects.specs.declared.entry.Entry.{Entry}
 use Rattle.aml_objects.specs.declared.entry.NamedObject.{NamedObject}
 use Rattle.aml_objects.specs.declared.value.Reference.{Reference}
@@ -85,31 +85,31 @@ module _ {S : Type 0} (w : State S) where
     kind_refers : (k : ℕ) → IsNamedKind e.object k → (o : ObjectType) × (name_referent path w ≡ (Ok (referent.Object o), w)) × (type_number o ≡ k)
     kind_refers k is = let b = kind_by e.object k is in (b.0, there b.0 b.1, b.2)
 
-module _ {S : Type 0} (accesses : Accesses S) (at : List Seg) (depth : ℕ) (p : Part) (w : State S) (steps : ℕ) where
-  target_asked : (op : Opcode) (t : StoreTarget) → NamesTarget at w p t → referent_of_target accesses (meaning accesses) at depth (counting op p) (w, steps) ≡ lift (target_referent t) (w, steps)
+module _ {S : Type 0} (accesses : Accesses S) (at : List Seg) (depth : ℕ) (w : State S) (steps : ℕ) (op : Opcode) where
+  target_asked : (p : Part) (t : StoreTarget) → NamesTarget at w p t → referent_of_target accesses (meaning accesses) at depth (counting op p) (w, steps) ≡ lift (target_referent t) (w, steps)
   unfolding referent_of_target go_on ◌>>=◌
-  target_asked op t names = rw (target_is accesses at depth (counting op p) 0 w steps p t names refl) refl
+  target_asked p t names = rw (target_is accesses at depth (counting op p) 0 w steps p t names refl) refl
 
-  part_asked : (op : Opcode) (t : StoreTarget) → NamesTarget at w p t → referent_at accesses (meaning accesses) at depth (counting op p) (w, steps) ≡ lift (target_referent t) (w, steps)
-  part_asked op _ nothing = target_asked op targets.Nowhere nothing
-  part_asked op _ debug = target_asked op targets.Nowhere debug
-  part_asked op _ (slot code s names) = rw (slot_is_target code s names) (target_asked op (targets.Slot s) (slot code s names))
-  part_asked op _ (named n path e finds) = target_asked op (targets.Name path) (named n path e finds)
+  part_asked : (p : Part) (t : StoreTarget) → NamesTarget at w p t → referent_at accesses (meaning accesses) at depth (counting op p) (w, steps) ≡ lift (target_referent t) (w, steps)
+  part_asked _ _ nothing = target_asked null targets.Nowhere nothing
+  part_asked _ _ debug = target_asked (inner (alone opcodes.Debug)) targets.Nowhere debug
+  part_asked _ _ (slot code s names) = rw (slot_is_target code s names) (target_asked (inner (alone code)) (targets.Slot s) (slot code s names))
+  part_asked _ _ (named n path e finds) = target_asked (name n) (targets.Name path) (named n path e finds)
 
 -- ---- what is told
 
 module _ {S : Type 0} (accesses : Accesses S) (at : List Seg) (depth : ℕ) (p : Part) (w : State S) (steps : ℕ) (t : StoreTarget) (names : NamesTarget at w p t) where
   sized : (v : Value) (n : ℕ) → target_referent t w ≡ (Ok (referent.Value v), w) → size_in (referent.Value v) w ≡ (Ok (value.Integer n), w) → rule accesses (meaning accesses) (task at depth (size_of p)) (w, steps) ≡ (Ok (flow.Value (value.Integer n)), (w, steps))
   unfolding rule size_rule lift give go_on ◌>>=◌
-  sized v n refers is = rw (part_asked accesses at depth p w steps opcodes.SizeOf t names, refers, is) refl
+  sized v n refers is = rw (part_asked accesses at depth w steps opcodes.SizeOf p t names, refers, is) refl
 
   typed_value : (v : Value) → target_referent t w ≡ (Ok (referent.Value v), w) → rule accesses (meaning accesses) (task at depth (object_type p)) (w, steps) ≡ (Ok (flow.Value (value.Integer (type_number (type_of_value v)))), (w, steps))
   unfolding rule type_rule lift give go_on ◌>>=◌
-  typed_value v refers = rw (part_asked accesses at depth p w steps opcodes.ObjectType t names, refers) refl
+  typed_value v refers = rw (part_asked accesses at depth w steps opcodes.ObjectType p t names, refers) refl
 
   typed_object : (o : ObjectType) → target_referent t w ≡ (Ok (referent.Object o), w) → rule accesses (meaning accesses) (task at depth (object_type p)) (w, steps) ≡ (Ok (flow.Value (value.Integer (type_number o))), (w, steps))
   unfolding rule type_rule lift give go_on ◌>>=◌
-  typed_object o refers = rw (part_asked accesses at depth p w steps opcodes.ObjectType t names, refers) refl
+  typed_object o refers = rw (part_asked accesses at depth w steps opcodes.ObjectType p t names, refers) refl
 
   size_gives : (v : Value) (n : ℕ) → target_referent t w ≡ (Ok (referent.Value v), w) → size_in (referent.Value v) w ≡ (Ok (value.Integer n), w) → Gives accesses at depth (size_of p) (w, suc steps) n (w, steps)
   size_gives v n refers is = (term_begins accesses (task at depth (size_of p))).paid w steps ∙ sized v n refers is

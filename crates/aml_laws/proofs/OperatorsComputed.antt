@@ -146,7 +146,8 @@ computes_two k op f Is kind is so accesses scope depth x y w steps a b after h =
     (f after.0.width a b, so after.0.width a b, operator_gives accesses scope depth x y w steps a b after h k op (f after.0.width a b) kind (is after.0.width a b))
 
 pub computes_one : {S : Type 0} (k : UnaryOperator) (op : Opcode) (Is : IntegerWidth → ℕ → ℕ → Type 0) → kind_of op ≡ kinds.Operator (operators.One (one.Integer k)) → ((width : IntegerWidth) (a : ℕ) → Is width a (unary_result_of k width a)) → ComputesOfOne S op Is
-computes_one k op Is kind so accesses scope depth x w steps a after h =
-    (unary_result_of k after.0.width a,
-    so after.0.width a,
-    λ p end s. one_gives accesses scope depth x p (one.Integer k) op kind w steps after h.v h.gives (value.Integer (unary_result_of k after.0.width a)) after.0 end (operated_on_one_is after.0 h.v a h.converts k) s)
+computes_one k op Is kind so accesses scope depth x w steps a after h = (
+  unary_result_of k after.0.width a,
+  so after.0.width a,
+  λ p end s. one_gives accesses scope depth x p (one.Integer k) op kind w steps after h.v h.gives (value.Integer (unary_result_of k after.0.width a)) after.0 end (operated_on_one_is after.0 h.v a h.converts k) s,
+)

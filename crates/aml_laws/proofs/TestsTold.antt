@@ -123,10 +123,11 @@ module _ {S : Type 0} (w : State S) (v u : Value) (a b : ℕ) (one : integer_in 
   logical_is other k = rw (one, other) refl
 
 tells_two : {S : Type 0} (k : LogicalOperator) (op : Opcode) (Holds : ℕ → ℕ → Type 0) → kind_of op ≡ kinds.Operator (operators.Test (test.Logical k)) → ((width : IntegerWidth) (a b : ℕ) → IsTruth width (Holds a b) (logical_result_of k width a b)) → TellsOfTwo S op Holds
-tells_two k op Holds is so accesses scope depth x y w steps a b after h =
-    (logical_result_of k after.0.width a b,
-    so after.0.width a b,
-    test_gives accesses scope depth x y (test.Logical k) op is w steps h.v h.u after (record { between = h.between; first = h.first; second = h.second }) (value.Integer (logical_result_of k after.0.width a b)) (logical_is after.0 h.v h.u a b h.one h.other k))
+tells_two k op Holds is so accesses scope depth x y w steps a b after h = (
+  logical_result_of k after.0.width a b,
+  so after.0.width a b,
+  test_gives accesses scope depth x y (test.Logical k) op is w steps h.v h.u after (record { between = h.between; first = h.first; second = h.second }) (value.Integer (logical_result_of k after.0.width a b)) (logical_is after.0 h.v h.u a b h.one h.other k),
+)
 
 pub tells_both : {S : Type 0} → TellsOfTwo S opcodes.LAnd (λ a b. (0 < a) × (0 < b))
 tells_both = tells_two logical.And opcodes.LAnd (λ a b. (0 < a) × (0 < b)) refl both_truth
@@ -153,9 +154,10 @@ module _ {S : Type 0} (w : State S) (c : Comparison) (v u : Value) where
   compared_so r e = ap (λ r. (truth_of w.width c r, w)) e
 
 compares : {S : Type 0} (c : Comparison) (op : Opcode) (wanted : Ordering) → kind_of op ≡ kinds.Operator (operators.Test (test.Compare c)) → ((width : IntegerWidth) (o : Ordering) → IsTruth width (o ≡ wanted) (truth width (holds c o))) → ComparesValues S op wanted
-compares c op wanted is so accesses scope depth x y w steps v u after h =
-    (λ o e. (truth after.0.width (holds c o), so after.0.width o, test_gives accesses scope depth x y (test.Compare c) op is w steps v u after h (value.Integer (truth after.0.width (holds c o))) (compared_so after.0 c v u (Ok o) e)),
-    λ e r. test_refused accesses scope depth x y (test.Compare c) op is w steps v u after h e (compared_so after.0 c v u (Err e) r))
+compares c op wanted is so accesses scope depth x y w steps v u after h = (
+  λ o e. (truth after.0.width (holds c o), so after.0.width o, test_gives accesses scope depth x y (test.Compare c) op is w steps v u after h (value.Integer (truth after.0.width (holds c o))) (compared_so after.0 c v u (Ok o) e)),
+  λ e r. test_refused accesses scope depth x y (test.Compare c) op is w steps v u after h e (compared_so after.0 c v u (Err e) r),
+)
 
 asks_equal : (width : IntegerWidth) (o : Ordering) → IsTruth width (o ≡ Equal) (truth width (holds comparison.Equal o))
 asks_equal width Less = record { true = λ h. absurd (cc h); false = λ n. refl }
@@ -179,20 +181,21 @@ compares_values _ _ for_less = compares comparison.Less opcodes.LLess Less refl 
 
 -- ---- integers
 
-module _ {S : Type 0} (w : State S) (a b : ℕ) (u : Value) where
+module _ {S : Type 0} (w : State S) (b : ℕ) (u : Value) where
   pub converted_so : integer_in u w ≡ (Ok b, w) → to_integer_of w.width (content_in w.objects u) ≡ Ok b
   unfolding integer_in
   converted_so e = ap (λ (m : Outcome ℕ × State S). m.0) e
 
-  integers_compared : integer_in u w ≡ (Ok b, w) → compared w.width (content_in w.objects (value.Integer a)) (content_in w.objects u) ≡ Ok (nat_cmp a b)
+  integers_compared : (a : ℕ) → integer_in u w ≡ (Ok b, w) → compared w.width (content_in w.objects (value.Integer a)) (content_in w.objects u) ≡ Ok (nat_cmp a b)
   unfolding compared outcome.◌>>=◌
-  integers_compared e = rw (converted_so e) refl
+  integers_compared a e = rw (converted_so e) refl
 
 compares_two : {S : Type 0} (c : Comparison) (op : Opcode) (Holds : ℕ → ℕ → Type 0) → kind_of op ≡ kinds.Operator (operators.Test (test.Compare c)) → ((width : IntegerWidth) (a b : ℕ) → IsTruth width (Holds a b) (truth width (holds c (nat_cmp a b)))) → ComparesIntegers S op Holds
-compares_two c op Holds is so accesses scope depth x y w steps a b u after h e =
-    (truth after.0.width (holds c (nat_cmp a b)),
-    so after.0.width a b,
-    test_gives accesses scope depth x y (test.Compare c) op is w steps (value.Integer a) u after h (value.Integer (truth after.0.width (holds c (nat_cmp a b)))) (compared_so after.0 c (value.Integer a) u (Ok (nat_cmp a b)) (integers_compared after.0 a b u e)))
+compares_two c op Holds is so accesses scope depth x y w steps a b u after h e = (
+  truth after.0.width (holds c (nat_cmp a b)),
+  so after.0.width a b,
+  test_gives accesses scope depth x y (test.Compare c) op is w steps (value.Integer a) u after h (value.Integer (truth after.0.width (holds c (nat_cmp a b)))) (compared_so after.0 c (value.Integer a) u (Ok (nat_cmp a b)) (integers_compared after.0 b u a e)),
+)
 
 equal_truth : (width : IntegerWidth) (a b : ℕ) → IsTruth width (a ≡ b) (truth width (holds comparison.Equal (nat_cmp a b)))
 equal_truth width a b = by (nat_cmp a b) refl

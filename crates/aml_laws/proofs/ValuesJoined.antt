@@ -82,7 +82,7 @@ part_is : (i n : ℕ) (s : List ℕ) → IsPart i n s (take n (drop i s))
 part_is i n s = record {
   front = take i s;
   back = drop n (drop i s);
-  is = ap (λ l. take i s ++ l) (take-append-drop n (drop i s)) ∙ take-append-drop i s;
+  is = append_assoc (take i s) (take n (drop i s)) (drop n (drop i s)) ∙ (ap (λ l. take i s ++ l) (take-append-drop n (drop i s)) ∙ take-append-drop i s);
   begins = length-take i s;
   long = length-take n (drop i s) ∙ ap (min n) (length-drop i s);
 }
@@ -158,8 +158,8 @@ module _ (n : ℕ) (bytes : List ℕ) where
   rest_by : (place bytes < length bytes) ⊎ (length bytes ≤ place bytes) → drop n (before_first is_end bytes) ≡ [] → (rest ≡ []) ⊎ (slice_get rest 0 ≡ Some 0)
   rest_by (inl inside) none =
       let first : slice_get (drop (place bytes) bytes) 0 ≡ Some 0 =
-          slice_get-get_or (drop (place bytes) bytes) 0 1 (omega (arith, length-drop (place bytes) bytes, inside))
-          ∙ ap (λ b. Some b) (get_or-drop (place bytes) bytes 0 1 ∙ (ap (λ k. get_or bytes k 1) (plus_none (place bytes)) ∙ at_end (get_or bytes (place bytes) 1) (passes_at_first is_end bytes 1 inside)))
+      slice_get-get_or (drop (place bytes) bytes) 0 1 (omega (arith, length-drop (place bytes) bytes, inside))
+      ∙ ap (λ b. Some b) (get_or-drop (place bytes) bytes 0 1 ∙ (ap (λ k. get_or bytes k 1) (plus_none (place bytes)) ∙ at_end (get_or bytes (place bytes) 1) (passes_at_first is_end bytes 1 inside)))
       in inr (ap (λ l. slice_get (l ++ drop (place bytes) bytes) 0) none ∙ first)
   rest_by (inr past) none = inl (ap (λ l. l ++ drop (place bytes) bytes) none ∙ drop_all (place bytes) bytes past)
 

@@ -59,7 +59,6 @@ pub use buffer_fields::{
 pub use calls::{
     a_call_begins_with_its_arguments, a_call_gives_what_its_body_returns, calls_leave_nothing,
 };
-pub use constants::constants_stand_for_their_numbers;
 pub use copies::{
     a_copy_is_the_same_apart_from_its_source, what_is_stored_is_a_copy,
     what_is_within_the_limits_is_copied,
@@ -85,25 +84,15 @@ pub use inner_lists::{
     lists_of_scopes_are_evaluated_in_turn,
 };
 pub use integers::{integers_stay_below_two_to_the_width, operators_form_integers_of_the_width};
-pub use joined::{
-    a_part_is_taken_from_its_index_on, a_text_ends_before_the_first_zero, joined_values_begin_with_the_first,
-};
 pub use limits::{
     at_most_64_references_are_followed, limits_are_refused, packages_nest_at_most_64_deep,
     what_is_within_the_limits_is_taken,
 };
 pub use mutexes::{acquisitions_are_counted_one_by_one, no_mutex_stays_acquired};
 pub use names::{declared_names_stand, names_stay, outside_of_control_methods};
-pub use names_used::{a_name_gives_what_it_holds, osi_tells_of_known_texts};
 pub use notes::{noting_changes_nothing, space_faults_are_answers_of_the_last_access};
 pub use numbers::{numbers_are_given_once, numbers_never_fall, what_is_gone_stays_gone};
 pub use objects::objects_keep_number_and_kind;
-pub use operands::operands_convert_to_integers;
-pub use operators::{
-    a_count_changes_what_its_target_holds_by_one, a_division_gives_quotient_and_remainder, bits_are_combined_one_by_one,
-    set_bits_are_numbered_from_one, shifts_multiply_and_divide_by_powers_of_two,
-    sums_differences_and_products_are_modulo_two_to_the_width,
-};
 pub use passing::{
     a_list_goes_on_behind_an_item_that_is_passed_over, control_methods_pass_nothing_over,
     no_list_is_refused_by_what_is_passed_over, the_core_profile_passes_nothing_over,
@@ -123,9 +112,6 @@ pub use references::{
     a_reference_refers_to_its_target, a_reference_to_a_name_finds_its_declaration,
     a_reference_to_a_slot_reads_that_slot,
 };
-pub use referring::{
-    a_conditional_reference_tells_what_is_found, a_size_counts_bytes_and_elements, an_index_refers_to_a_part, object_types_have_their_numbers,
-};
 pub use region_terms::{
     a_region_is_declared_as_its_term_says, field_flags_say_the_access_and_the_update_rule,
     fields_are_declared_in_what_their_names_find,
@@ -144,9 +130,6 @@ pub use steps::{
     no_more_terms_than_steps, terms_of_tables_and_answers_are_counted, terms_that_begin_are_counted,
 };
 pub use stores::a_store_converts_to_what_its_name_holds;
-pub use tests::{
-    a_match_finds_the_first_element, logical_operators_tell_of_truth, terms_of_comparisons_tell_the_order,
-};
 pub use trees::{
     a_rule_takes_no_step_of_its_own, a_target_takes_the_steps_of_its_terms, each_tree_costs_a_step,
     plain_targets_cost_nothing, trees_that_begin_are_counted,
@@ -156,4 +139,27 @@ pub use values::{
     an_integer_is_read_back_from_its_string, binary_coded_decimal_has_the_decimal_digits,
     comparisons_answer_by_the_order, conversions_answer, joined_resources_have_the_items_of_both,
     values_of_one_type_are_in_a_total_order,
+};
+
+// what operators, and other terms that have a value, give of their operands
+pub use constants::constants_stand_for_their_numbers;
+pub use joined::{
+    a_part_is_taken_from_its_index_on, a_text_ends_before_the_first_zero,
+    joined_values_begin_with_the_first,
+};
+pub use names_used::{a_name_gives_what_it_holds, osi_tells_of_known_texts};
+pub use operands::operands_convert_to_integers;
+pub use operators::{
+    a_count_changes_what_its_target_holds_by_one, a_division_gives_quotient_and_remainder,
+    bits_are_combined_one_by_one, set_bits_are_numbered_from_one,
+    shifts_multiply_and_divide_by_powers_of_two,
+    sums_differences_and_products_are_modulo_two_to_the_width,
+};
+pub use referring::{
+    a_conditional_reference_tells_what_is_found, a_size_counts_bytes_and_elements,
+    an_index_refers_to_a_part, object_types_have_their_numbers,
+};
+pub use tests::{
+    a_match_finds_the_first_element, logical_operators_tell_of_truth,
+    terms_of_comparisons_tell_the_order,
 };
