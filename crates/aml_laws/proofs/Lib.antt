@@ -99,6 +99,7 @@ pub mod NamesSought
 pub mod NotesKept
 pub mod NothingPassed
 pub mod ObjectsAsked
+pub mod OperandsRefused
 pub mod OperatorLaws
 pub mod OperatorsComputed
 pub mod OsiAsked

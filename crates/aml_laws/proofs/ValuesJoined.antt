@@ -19,7 +19,7 @@ use Rattle.aml_objects.specs.declared.object.Object.TheVariants as object
 use Rattle.aml_objects.specs.declared.value.Value.{Value}
 use Rattle.aml_objects.specs.declared.value.Value.TheVariants as value
 use Rattle.aml_convert.specs.Conversions.{to_integer_of, to_text_of, to_buffer_of, integer_bytes}
-use Rattle.aml_convert.specs.Concatenation.{concatenated}
+use Rattle.aml_convert.specs.Concatenation.{concatenated, resources_joined}
 use Rattle.aml_convert.specs.Strings.{string_of, part_of, middle_of}
 use Rattle.aml_meaning.specs.declared.flow.Flow.TheVariants as flow
 use Rattle.aml_meaning.specs.declared.term_kind.TwoOperands.TheVariants as two
@@ -27,7 +27,7 @@ use Rattle.aml_meaning.specs.State.{State, on_objects}
 use Rattle.aml_meaning.specs.Run.{lift}
 use Rattle.aml_meaning.specs.Readings.{integer_in}
 use Rattle.aml_meaning.specs.Tasks.{task, operand_value, value_at, two_values}
-use Rattle.aml_meaning.specs.Operations.{made_of, joined_contents, joined}
+use Rattle.aml_meaning.specs.Operations.{made_of, joined_contents, joined, joined_items, joined_resources}
 use Rattle.aml_meaning.specs.WideOperations.{string_text, string_in, middle_content, middle_in}
 use Rattle.aml_meaning.specs.WideTerms.{formed_at, to_string_rule, middle_rule}
 use Rattle.aml_meaning.specs.Evaluation.{rule}
@@ -75,6 +75,18 @@ module _ {S : Type 0} (accesses : Accesses S) (scope : List Seg) (depth : ℕ) (
   pub joined_gives : (c : Content) (bytes : List ℕ) (r : Value) (formed end : State S) (p : Part) → IsJoined after.0.width (content_in after.0.objects v) (content_in after.0.objects u) c bytes → Fits after.0 bytes → IsNew after.0 c r formed → StoresTo scope p r formed end
       → GivesValue accesses scope depth (two_to opcodes.Concat x y p) (w, suc steps) r (end, after.1)
   joined_gives c bytes r formed end p joins fits new stores = two_gives accesses scope depth x y p two.Concatenate opcodes.Concat refl w steps h.between after v u h.first h.second r formed end (joined_to after.0 v u c bytes joins r formed new fits) stores
+
+-- ---- ConcatenateResTemplate
+
+module _ {S : Type 0} (w : State S) (v u : Value) (bytes : List ℕ) (joins : resources_joined (content_in w.objects v) (content_in w.objects u) ≡ Ok bytes) where
+  resources_is : Fits w bytes → joined_resources v u w ≡ (Ok (value.Buffer (length w.objects)), with_object w (object.Buffer bytes))
+  unfolding joined_resources joined_items on_objects go_on ◌>>=◌
+  resources_is fits = rw (joins, buffer_made bytes w.objects fits.0 fits.1) refl
+
+module _ {S : Type 0} (accesses : Accesses S) (scope : List Seg) (depth : ℕ) (x y : Tree) (w : State S) (steps : ℕ) (v u : Value) (after : State S × ℕ) (h : TwoValues accesses scope depth x y (w, steps) v u after) where
+  pub resources_give : (bytes : List ℕ) (end : State S) (p : Part) → resources_joined (content_in after.0.objects v) (content_in after.0.objects u) ≡ Ok bytes → Fits after.0 bytes → StoresTo scope p (value.Buffer (length after.0.objects)) (with_object after.0 (object.Buffer bytes)) end
+      → GivesValue accesses scope depth (two_to opcodes.ConcatRes x y p) (w, suc steps) (value.Buffer (length after.0.objects)) (end, after.1)
+  resources_give bytes end p joins fits stores = two_gives accesses scope depth x y p two.ConcatenateResources opcodes.ConcatRes refl w steps h.between after v u h.first h.second (value.Buffer (length after.0.objects)) (with_object after.0 (object.Buffer bytes)) end (resources_is after.0 v u bytes joins fits) stores
 
 -- ---- Mid
 

@@ -1,5 +1,5 @@
 //! Strings and buffers that terms form of others.
-ghost use Rattle.std.specs.Prelude.{◌≡◌, ℕ, suc, List, length};
+ghost use Rattle.std.specs.Prelude.{◌≡◌, ℕ, suc, List, length, Ok};
 ghost use Rattle.ar_space.specs.Accesses.{Accesses};
 ghost use Rattle.aml_path.specs.declared.segment.Seg.{Seg};
 ghost use Rattle.aml_grammar.specs.Tree.{Tree, Part, null};
@@ -8,6 +8,7 @@ ghost use Rattle.aml_objects.specs.Contents.{Content, content_in};
 ghost use Rattle.aml_objects.specs.declared.object.Object.TheVariants as object;
 ghost use Rattle.aml_objects.specs.declared.value.Value.{Value};
 ghost use Rattle.aml_objects.specs.declared.value.Value.TheVariants as value;
+ghost use Rattle.aml_convert.specs.Concatenation.{resources_joined};
 ghost use Rattle.aml_meaning.specs.State.{State};
 ghost use Rattle.aml_laws.specs.OperatorTerms.{two_to, StoresTo, GivesValue};
 ghost use Rattle.aml_laws.specs.TestTerms.{TwoValues};
@@ -16,9 +17,18 @@ ghost use Rattle.aml_laws.specs.JoinedTerms.{with_object, Fits, IsJoined, IsNew,
 /// Concatenate gives a new object: of a string the string and what the second value is as a string, of a buffer the
 /// buffer and what it is as one, and of an integer the bytes of it and of the integer that the second value converts to.
 /// It stores this to its target. Values that are joined the other way round, or by the type of the second one, are
-/// refused by this.
+/// refused by this. ConcatenateResTemplate does the same with the items of its two buffers, of which
+/// `joined_resources_have_the_items_of_both` says which they are.
 pub fn joined_values_begin_with_the_first<S>()
-    ensures { (accesses : Accesses S) (scope : List Seg) (depth : ℕ) (x y : Tree) (w : State S) (steps : ℕ)
+    ensures resources { (accesses : Accesses S) (scope : List Seg) (depth : ℕ) (x y : Tree) (w : State S) (steps : ℕ)
+        (v u : Value) (after : State S × ℕ) → TwoValues accesses scope depth x y (w, steps) v u after →
+        (bytes : List ℕ) (end : State S) (p : Part) →
+        resources_joined (content_in after.0.objects v) (content_in after.0.objects u) ≡ Ok bytes →
+        Fits after.0 bytes →
+        StoresTo scope p (value.Buffer (length after.0.objects)) (with_object after.0 (object.Buffer bytes)) end →
+        GivesValue accesses scope depth (two_to opcodes.ConcatRes x y p) (w, suc steps)
+        (value.Buffer (length after.0.objects)) (end, after.1) }
+    ensures values { (accesses : Accesses S) (scope : List Seg) (depth : ℕ) (x y : Tree) (w : State S) (steps : ℕ)
         (v u : Value) (after : State S × ℕ) → TwoValues accesses scope depth x y (w, steps) v u after → (c : Content)
         (bytes : List ℕ) (r : Value) (formed end : State S) (p : Part) →
         IsJoined after.0.width (content_in after.0.objects v) (content_in after.0.objects u) c bytes →

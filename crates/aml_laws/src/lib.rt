@@ -148,7 +148,7 @@ pub use joined::{
     joined_values_begin_with_the_first,
 };
 pub use names_used::{a_name_gives_what_it_holds, osi_tells_of_known_texts};
-pub use operands::operands_convert_to_integers;
+pub use operands::{operands_convert_to_integers, operands_that_do_not_convert_are_refused};
 pub use operators::{
     a_count_changes_what_its_target_holds_by_one, a_division_gives_quotient_and_remainder,
     bits_are_combined_one_by_one, set_bits_are_numbered_from_one,
