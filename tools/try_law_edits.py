@@ -1,5 +1,5 @@
 #!/usr/bin/env python3
-"""try_law_edits.py [--others] [--code] [--check] [--lanes N] [--kept FOLDER] [--note] [NAME..]:
+"""try_law_edits.py [--others] [--code] [--check] [--lanes N] [--kept FOLDER] [--note] [--left] [NAME..]:
 tries edits of definitions that a law has to refuse.
 
 A law of `aml_laws`, `aml_spelling`, `machine_laws` or `recorded_laws` is about definitions of the crates below, which no edit of its own crate
@@ -29,6 +29,7 @@ laws that are named, without any edit, has kept. An edit comes to one of these:
 --lanes N  tries so many at a time; 1 if it isn't given. Each takes one to four GB
 --kept FOLDER  keeps there what the check without edits proved, for the next run over the same sources
 --note     writes what came of each edit to crates/LAWS/definitions/tried.md; the rows of edits that were not tried stay
+--left     tries just those of which that table doesn't tell yet what came of them
 
 NAME is a law crate, or the name of an edit; without one, all edits are tried. Run it at the top of a checkout."""
 import concurrent.futures
@@ -343,13 +344,19 @@ TRIED = """# What came of the edits of this folder
 """
 
 
+UNTRIED = "not tried yet"
+
+
 def note(crate, edits, found):
     """Writes what came of edits into the table that stands with them."""
-    file = f"{crate.folder}/definitions/tried.md"
-    rows = dict(re.findall(r"(?m)^\| `(\w+)` \| (.*) \|$", rtlib.text_of(file) or ""))
-    rows |= {name: f"{came}: {said}" for name, (came, said) in found.items()}
-    with open(file, "w", encoding="utf-8") as it:
-        it.write(TRIED + "".join(f"| `{edit.name}` | {rows.get(edit.name, 'not tried yet')} |\n" for edit in edits))
+    rows = noted(crate) | {name: f"{came}: {said}" for name, (came, said) in found.items()}
+    with open(f"{crate.folder}/definitions/tried.md", "w", encoding="utf-8") as it:
+        it.write(TRIED + "".join(f"| `{edit.name}` | {rows.get(edit.name, UNTRIED)} |\n" for edit in edits))
+
+
+def noted(crate):
+    """The rows of the table, by edits."""
+    return dict(re.findall(r"(?m)^\| `(\w+)` \| (.*) \|$", rtlib.text_of(f"{crate.folder}/definitions/tried.md") or ""))
 
 
 class Lanes:
@@ -444,6 +451,9 @@ def main(words):
         print(f"no law crate and no edit has this name: {', '.join(unknown)}")
         return 2
     edits = [it for it in edits if not names or it.name in names or it.crate in names]
+    if "--left" in words:
+        rows = {it.name: noted(it) for it in crates}
+        edits = [it for it in edits if rows[it.crate].get(it.name, UNTRIED) == UNTRIED]
     crates = [it for it in crates if it.name in [edit.crate for edit in edits]]
     if "--check" in words:
         return look(crates, edits)

@@ -78,7 +78,7 @@ module _ (words : List (List ℕ)) (left : Option (List ℕ)) (read_failed : Boo
 
   -- where a write to the output failed, there was a text
   no_text : (text : List ℕ) → output2.has_failed ≡ true → Takes output output2 text → text ≡ [] → ⊥
-  no_text text failed takes none = let cut = subst (λ b. TakesUnless b output.bytes output2.bytes text) failed takes in omega (arith, cut.1.0, ap length none)
+  no_text text failed takes none = let cut = subst (λ b. TakesUnless b output.bytes output2.bytes text) failed takes in omega (arith, cut.1, ap length none)
 
   failed_told : (r : Ran words left read_failed status output output2 errors errors2) → output2.has_failed ≡ true → (passed : List ℕ) → r.reply.line ≡ passed → IsPassed words read_failed true r.input passed
       → TellsCause words left read_failed true errors errors2
@@ -101,9 +101,9 @@ module _ (words : List (List ℕ)) (left : Option (List ℕ)) (read_failed : Boo
   not_written r same (inl c) = by (ordinary c.fault)
     where
       by : (IsHelp c.fault) ⊎ ((c.fault ≡ kind.OutOfMemory) ⊎ ((c.fault ≢ kind.OutOfMemory) × (IsHelp c.fault → ⊥))) → TellsCause words left read_failed true errors errors2
-      by (inl help) = failed_told r same [] (c.shown.help help).1.0 (inr (refl, (c.fault, help, help_asked c.fault help c.found), refl))
+      by (inl help) = failed_told r same [] (c.shown.help help).1 (inr (refl, (c.fault, help, help_asked c.fault help c.found), refl))
       by (inr (inl memory)) = absurd (no_text r.reply.text same r.delivered.text (ap (λ x. x.text) (c.shown.memory memory)))
-      by (inr (inr other)) = absurd (no_text r.reply.text same r.delivered.text (c.shown.other other.0 other.1).1.0)
+      by (inr (inr other)) = absurd (no_text r.reply.text same r.delivered.text (c.shown.other other.0 other.1).1)
   not_written r same (inr (inl d)) = absurd (no_text r.reply.text same r.delivered.text (ap (λ x. x.text) d.is))
   not_written r same (inr (inr w)) = by w.outcome w.is
     where
