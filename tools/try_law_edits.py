@@ -12,10 +12,11 @@ doesn't hold of it, and then has these lines:
     new: TEXT             stands in its place, with as many lines as it needs; further pairs apply to what the earlier ones made
 
 The edit is applied to a copy of the sources, and the laws that it names are checked there, with the libraries below as sources, so none of
-them has to be built. The functions of these are left out (tools/definitions_alone.py). Edits of different definitions are tried together: such an
-edit counts as refused where the check refuses a lemma on which the law rests, and which itself rests on what this edit changes and on nothing that
-another one does. What this doesn't show is tried again in smaller groups, and at last by itself. A check begins with what one check of all
-laws that are named, without any edit, has kept. An edit comes to one of these:
+them has to be built. The functions of these that no law and no type needs are left out (tools/definitions_alone.py). Edits are tried together
+where no definition that one of them changes rests on one that another changes: such an edit counts as refused where the check refuses a lemma
+on which the law rests, and which itself rests on what this edit changes and on nothing that another one does. What this doesn't show is tried
+again in smaller groups, and at last by itself. A check begins with what one check of all laws that are named, without any edit, has kept. An
+edit comes to one of these:
 
     REFUSED       none of the laws that it names is proved
     NOT REFUSED   one of them is proved: the law says too little
@@ -78,7 +79,7 @@ class LawEdit:
 
     def __init__(self, crate, file, top):
         self.crate, self.name = crate.name, os.path.splitext(os.path.basename(file))[0]
-        self.texts, self.functions, self.changes, self.rests, self.why = {}, {}, set(), {}, None
+        self.texts, self.functions, self.changes, self.under, self.rests, self.why = {}, {}, set(), set(), {}, None
         lines = rtlib.text_of(file).split("\n")
         self.laws = [it.removeprefix("law: ").strip() for it in lines if it.startswith("law: ")]
         unknown = [it for it in self.laws if it not in laws_of(crate)]
@@ -144,7 +145,7 @@ def definition_pairs(edit):
 
 
 def read_rests(lemmas, crate, edits):
-    """Finds what the laws that edits name may rest on, and which definitions each edit changes."""
+    """Finds what the laws that edits name may rest on, which definitions each edit changes, and what these rest on."""
     laws = laws_of(crate)
     rests = {law: lemmas.of_law(crate.name, laws[law]) for law in dict.fromkeys(law for it in edits for law in it.laws)}
     for edit in edits:
@@ -152,14 +153,16 @@ def read_rests(lemmas, crate, edits):
         for path, old, _ in definition_pairs(edit):
             place = (rtlib.text_of(f"{lemmas.top}/{path}") or "").find(old)
             edit.changes |= {(path, lemmas.at(path, it)) for it in (place, place + len(old) - 1) if not old.startswith("use ")}
+        edit.under = lemmas.below(edit.changes)
 
 
 def grouped(edits):
-    """Edits in groups, in each of which no two change the same definition or the same line."""
+    """Edits in groups, in each of which no two change the same line, or a definition on which what the other one changes rests: each lemma
+    that rests on that rests on both."""
     groups = []
     for edit in edits:
         for group in groups:
-            if len(group) < TOGETHER and not any(edit.changes & it.changes or lines_of(edit) & lines_of(it) for it in group):
+            if len(group) < TOGETHER and not any(edit.changes & it.under or it.changes & edit.under or lines_of(edit) & lines_of(it) for it in group):
                 group.append(edit)
                 break
         else:
