@@ -3,6 +3,7 @@ use acpiroute_lib::{
     Argument, Arguments, Asked, Asking, Evaluation, Flags, Interrupts, Profile, Question, Request,
     parse,
 };
+use aml_meaning::Nesting;
 use ar_space::PathText;
 use route_report::Mode;
 use std::alloc::{AllocError, Global};
