@@ -350,11 +350,11 @@ TRIED = """# What came of the edits of this folder
 UNTRIED = "not tried yet"
 
 
-def note(crate, edits, found):
+def note(crate, names, found):
     """Writes what came of edits into the table that stands with them."""
     rows = noted(crate) | {name: f"{came}: {said}" for name, (came, said) in found.items()}
     with open(f"{crate.folder}/definitions/tried.md", "w", encoding="utf-8") as it:
-        it.write(TRIED + "".join(f"| `{edit.name}` | {rows.get(edit.name, UNTRIED)} |\n" for edit in edits))
+        it.write(TRIED + "".join(f"| `{name}` | {rows.get(name, UNTRIED)} |\n" for name in names))
 
 
 def noted(crate):
@@ -400,7 +400,7 @@ def try_crate(top, crate, edits, words, kept):
         if not lanes.in_one(lambda copies, _: is_seeded(copies[0], crate, laws, kept), None):
             return 0
 
-        lock = threading.Lock()
+        lock, names = threading.Lock(), [it.name for it in edits_of(crate, top)]
 
         def tried(copies, group):
             for it in copies:
@@ -417,7 +417,7 @@ def try_crate(top, crate, edits, words, kept):
                 all_found[edit.name] = came, said
                 print(f"{crate.name}/{edit.name}: {came}: {said}", flush=True)
                 if "--note" in words:
-                    note(crate, edits_of(crate, top), all_found)
+                    note(crate, names, all_found)
 
         for _ in lanes.each(tried, groups):
             pass
