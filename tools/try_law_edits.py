@@ -326,8 +326,9 @@ def code_of(edit, copy):
 def is_seeded(copy, crate, laws, kept):
     """Checks some laws without any edit, unless the folder has them; tells whether all are proved."""
     os.makedirs(kept, exist_ok=True)
-    mark, sum = f"{kept}/proved-{crate.name}", f"{copy.sum(crate.name)} {' '.join(sorted(laws))}"
-    if rtlib.text_of(mark) == sum:
+    mark, sum = f"{kept}/proved-{crate.name}", copy.sum(crate.name)
+    was, *proved = (rtlib.text_of(mark) or "").split() or [""]
+    if was == sum and set(laws) <= set(proved):
         return True
     lines, _ = copy.checked(crate.name, [laws_of(crate)[it] for it in laws], kept)
     if not has_verdict(lines) or unproved(crate.name, lines):
@@ -335,7 +336,7 @@ def is_seeded(copy, crate, laws, kept):
         print("".join(f"    {it[:200]}\n" for it in [it for it in lines if ": error" in it][:8]), end="", flush=True)
         return False
     with open(mark, "w", encoding="utf-8") as it:
-        it.write(sum)
+        it.write(f"{sum} {' '.join(sorted({*laws, *(proved if was == sum else [])}))}")
     return True
 
 
