@@ -259,18 +259,24 @@ class Lemmas:
             found.setdefault(name, set()).update(names_in(line))
         return found, self.imported(text)
 
+    @functools.lru_cache(maxsize=None)
+    def direct(self, file, name):
+        """The definitions and lemmas that one names itself; of a type's file all."""
+        blocks, files = self.blocks(file)
+        found = []
+        for it in [file, *files]:
+            others = self.blocks(it)[0].keys()
+            found += [(it, other) for other in (others if it.endswith(".rt") else blocks[name] & others)]
+        return found
+
     def below(self, start):
         """All definitions and lemmas that some of them may rest on, with these."""
         seen, todo = set(), list(start)
         while todo:
-            file, name = todo.pop()
-            if (file, name) in seen:
-                continue
-            seen.add((file, name))
-            blocks, files = self.blocks(file)
-            for it in [file, *files]:
-                others = self.blocks(it)[0]
-                todo += [(it, other) for other in (others if it.endswith(".rt") else blocks[name] & set(others))]
+            it = todo.pop()
+            if it not in seen:
+                seen.add(it)
+                todo += self.direct(*it)
         return seen
 
     @functools.lru_cache(maxsize=None)

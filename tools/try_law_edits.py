@@ -34,6 +34,7 @@ edit comes to one of these:
 
 NAME is a law crate, or the name of an edit; without one, all edits are tried. Run it at the top of a checkout."""
 import concurrent.futures
+import functools
 import hashlib
 import os
 import queue
@@ -45,7 +46,7 @@ import tempfile
 import threading
 
 sys.dont_write_bytecode = True
-from definitions_alone import Lemmas, leave_definitions
+from definitions_alone import Lemmas, files_below, leave_definitions
 from try_edits import PREFIX, function_at, module_of, rt, rtlib
 from usage import answer_help
 
@@ -62,6 +63,7 @@ def law_crates(top):
     return [it for it in rtlib.crates_below(top) if os.path.isdir(f"{it.folder}/definitions")]
 
 
+@functools.lru_cache(maxsize=None)
 def laws_of(crate):
     """The public functions of a law crate, each with its path below the crate."""
     found = {}
@@ -213,13 +215,12 @@ class Copy:
         ran = subprocess.run([*rtlib.guarded(), rtlib.RATTLE, "check", *words], **how)
         return ran.stdout.rstrip("\n").split("\n"), ran.returncode
 
-    def sum(self):
-        """What a check of the copy rests on."""
+    def sum(self, name):
+        """What a check of a crate of the copy rests on."""
         found = hashlib.sha256((rtlib.text_of(f"{rtlib.KIT}/WHAT") or "").encode())
-        for at, folders, names in os.walk(f"{self.folder}/crates"):
-            folders.sort()
-            for name in sorted(it for it in names if it.endswith((".rt", ".antt"))):
-                found.update(f"{os.path.relpath(at, self.folder)}/{name}".encode() + (rtlib.text_of(f"{at}/{name}") or "").encode())
+        for crate in sorted([*self.crates[name].below(), self.crates[name]], key=lambda it: it.name):
+            for file in files_below(crate.folder, (".rt", ".antt")):
+                found.update(os.path.relpath(file, self.folder).encode() + (rtlib.text_of(file) or "").encode())
         return found.hexdigest()
 
 
@@ -325,8 +326,9 @@ def code_of(edit, copy):
 def is_seeded(copy, crate, laws, kept):
     """Checks some laws without any edit, unless the folder has them; tells whether all are proved."""
     os.makedirs(kept, exist_ok=True)
-    mark, sum = f"{kept}/proved-{crate.name}", f"{copy.sum()} {' '.join(sorted(laws))}"
-    if rtlib.text_of(mark) == sum:
+    mark, sum = f"{kept}/proved-{crate.name}", copy.sum(crate.name)
+    was, *proved = (rtlib.text_of(mark) or "").split() or [""]
+    if was == sum and set(laws) <= set(proved):
         return True
     lines, _ = copy.checked(crate.name, [laws_of(crate)[it] for it in laws], kept)
     if not has_verdict(lines) or unproved(crate.name, lines):
@@ -334,7 +336,7 @@ def is_seeded(copy, crate, laws, kept):
         print("".join(f"    {it[:200]}\n" for it in [it for it in lines if ": error" in it][:8]), end="", flush=True)
         return False
     with open(mark, "w", encoding="utf-8") as it:
-        it.write(sum)
+        it.write(f"{sum} {' '.join(sorted({*laws, *(proved if was == sum else [])}))}")
     return True
 
 
@@ -350,11 +352,11 @@ TRIED = """# What came of the edits of this folder
 UNTRIED = "not tried yet"
 
 
-def note(crate, edits, found):
+def note(crate, names, found):
     """Writes what came of edits into the table that stands with them."""
     rows = noted(crate) | {name: f"{came}: {said}" for name, (came, said) in found.items()}
     with open(f"{crate.folder}/definitions/tried.md", "w", encoding="utf-8") as it:
-        it.write(TRIED + "".join(f"| `{edit.name}` | {rows.get(edit.name, UNTRIED)} |\n" for edit in edits))
+        it.write(TRIED + "".join(f"| `{name}` | {rows.get(name, UNTRIED)} |\n" for name in names))
 
 
 def noted(crate):
@@ -400,7 +402,7 @@ def try_crate(top, crate, edits, words, kept):
         if not lanes.in_one(lambda copies, _: is_seeded(copies[0], crate, laws, kept), None):
             return 0
 
-        lock = threading.Lock()
+        lock, names = threading.Lock(), [it.name for it in edits_of(crate, top)]
 
         def tried(copies, group):
             for it in copies:
@@ -417,7 +419,7 @@ def try_crate(top, crate, edits, words, kept):
                 all_found[edit.name] = came, said
                 print(f"{crate.name}/{edit.name}: {came}: {said}", flush=True)
                 if "--note" in words:
-                    note(crate, edits_of(crate, top), all_found)
+                    note(crate, names, all_found)
 
         for _ in lanes.each(tried, groups):
             pass
