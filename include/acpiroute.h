@@ -27,7 +27,7 @@
  *     pointer
  *     alignment of the stack       16                      8                        8
  *     frame pointers, endbr64      no                      yes                      yes
- *     code and constants           1.2 MB                  1.1 MB                   0.5 MB
+ *     code and constants           2.6 MB                  2.5 MB                   0.9 MB
  *
  *   Where the red zone is used, nothing may run on the stack of a call while it lasts: an interrupt handler that does spoils
  *   values of the call, which then ends in an exception, or in an answer that is wrong. A library for programs is not for a
@@ -40,7 +40,7 @@
  * Nothing is kept between two calls, and there is no global state: any number of threads may make calls at once, each over its
  * own buffers. Everything that is handed in stays the caller's. A call reads no file, prints nothing, and touches no register.
  *
- * Give a call 128 KiB of stack: at most 91 KiB were measured. `levels` of the settings (or the option `--levels`) bounds what reading
+ * Give a call 128 KiB of stack: at most 97 KiB were measured. `levels` of the settings (or the option `--levels`) bounds what reading
  * nested terms takes of it, and nothing else, and 16 KiB are too few whatever the setting: docs/EMBEDDING.md, "What it costs". A call takes
  * as much memory as the tables ask for. The option `--steps` bounds how many terms an evaluation begins, and neither time nor memory; the
  * option `--accesses` bounds the accesses of registers.
