@@ -2,7 +2,7 @@
  * What the calls of a static library cost; calls.py runs it.
  *
  *     calls configure MACHINE pic|apic    routes a machine over registers that hold what was written to them, and 0 before
- *     calls eval MACHINE                  evaluates \M000, with 1,000,000,000 steps
+ *     calls eval MACHINE [OPTIONS]        evaluates \M000, with 1,000,000,000 steps and these options, in one word
  *
  * The first prints the numbers of accesses, calls and allocations, the most bytes of memory at once, the bytes of stack, and the
  * microseconds of all calls, the least of 20 times; the second the bytes of stack, and the line of errors.
@@ -89,7 +89,7 @@ static struct acpiroute_access record[4096];
 static struct acpiroute_reply reply;
 
 static uint32_t configure(size_t length, struct acpiroute_wanted *wanted) {
-    struct acpiroute_settings settings = {1000000, strcmp(words[3], "pic") == 0 ? ACPIROUTE_PIC : ACPIROUTE_APIC, 0, 0};
+    struct acpiroute_settings settings = {1000000, strcmp(words[3], "pic") == 0 ? ACPIROUTE_PIC : ACPIROUTE_APIC, 0, 0, 0, 0};
     uint32_t no_avoid = 0;
     return acpiroute_configure(&settings, &no_avoid, 0, machine.at, machine.length, record, length, text, sizeof text, line, sizeof line,
                                &reply, wanted);
@@ -118,7 +118,9 @@ static void *measure(void *unused) {
     size_t length = 0;
     (void)unused;
     if (strcmp(words[1], "eval") == 0) {
-        const char *options = "--steps 1000000000 \\M000";
+        const char *more = words[3] != NULL ? words[3] : "";
+        char options[256];
+        snprintf(options, sizeof options, "--steps 1000000000 %s%s\\M000", more, *more != '\0' ? " " : "");
         acpiroute_eval((const uint8_t *)options, strlen(options), machine.at, machine.length, text, sizeof text, line, sizeof line, &reply);
         printf("%" PRIu64 " ", stack_used(top));
         fwrite(line, 1, reply.line_length, stdout);

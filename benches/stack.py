@@ -4,7 +4,8 @@
     benches/stack.py [PROGRAM | LIBRARY.a]
 
 For each kind of term, 32 control methods call one another, each through as many terms of this kind, one inside the other, as are
-taken. The last one ends the evaluation by Fatal, so that the terms around the calls need not give the values that are wanted there.
+taken; and then 4 of them do the same with the setting `--calls 4 --levels 8`. The last one ends the evaluation by Fatal, so that the terms
+around the calls need not give the values that are wanted there.
 A program is run on the first of them with ever smaller stacks, and the least one on which it ends without a signal is printed, in KiB,
 to the nearest 16. With none named, it is the built one in crates/acpiroute/out. Of a library that tools/kernel_library.py makes,
 `acpiroute_eval` is called, and it is printed how far down its stack was written to, in KiB. In the kinds of fields, the calls are those
@@ -23,7 +24,8 @@ sys.dont_write_bytecode = True
 from usage import answer_help, file_there, program_there
 
 PROGRAM = pathlib.Path(__file__).parent.parent / "crates/acpiroute/out/acpiroute"
-CALLS = 32
+# How many calls there may be, and the options that say so: the default, and the setting of a caller with little stack.
+SETTINGS = ((32, []), (4, ["--calls", "4", "--levels", "8"]))
 
 
 def with_length(code, body):
@@ -109,28 +111,28 @@ def nested(wrap, depth, inner):
 FATAL = b"\x5B\x32\x00\x00\x00\x00\x00\x00"
 
 
-def calls(wrap, depth, last=lambda x: x):
-    """A table of methods, each of which calls the next one inside so many terms."""
+def calls(wrap, count, depth, last=lambda x: x):
+    """A table of so many methods, each of which calls the next one inside so many terms."""
     table = method(b"ID__", 1, b"\xA4\x68")
-    for n in range(CALLS - 1):
+    for n in range(count - 1):
         table += method(b"M%03d" % n, 0, nested(wrap, depth, last(b"M%03d" % (n + 1))))
-    return table + method(b"M%03d" % (CALLS - 1), 0, FATAL)
+    return table + method(b"M%03d" % (count - 1), 0, FATAL)
 
 
-def fields(wrap, depth, access):
+def fields(wrap, count, depth, access):
     """A table of devices: an access to the register of one calls its `_ADR`, which makes an access to the next one's."""
     register = lambda n: b"\x5C\x2F\x03PCI0D%03dREG_" % n
-    asked = lambda n: FATAL if n == CALLS - 1 else nested(wrap, depth, access(register(n + 1)))
+    asked = lambda n: FATAL if n == count - 1 else nested(wrap, depth, access(register(n + 1)))
     region = b"\x5B\x80SPC_\x02\x00\x0A\x04" + with_length(b"\x5B\x81", b"SPC_\x03REG_\x20")
-    table = b"".join(with_length(b"\x5B\x82", b"D%03d" % n + method(b"_ADR", 0, asked(n)) + region) for n in range(1, CALLS))
+    table = b"".join(with_length(b"\x5B\x82", b"D%03d" % n + method(b"_ADR", 0, asked(n)) + region) for n in range(1, count))
     bridge = with_length(b"\x5B\x82", b"PCI0" + b"\x08_HID\x0C\x41\xD0\x0A\x03" + table)
     return bridge + method(b"M000", 0, asked(0))
 
 
-def devices(depth):
+def devices(count, depth):
     """A table of devices one inside the other, the innermost of which has a region whose offset the methods say, each through Else."""
     region = b"\x5B\x80SPC_\x00M000\x01"
-    return calls(either, 63) + nested(lambda x: with_length(b"\x5B\x82", b"DEV_" + x), depth, region)
+    return calls(either, count, 63 if count == 32 else 7) + nested(lambda x: with_length(b"\x5B\x82", b"DEV_" + x), depth, region)
 
 
 def table(signature, revision, body):
@@ -150,31 +152,32 @@ def machine(aml):
     return ("rsdp 1000\n" + "".join(f"mem {at:X} {it.hex()}\n" for at, it in parts)).encode()
 
 
-def ended(program, text, kib):
+def ended(program, options, text, kib):
     """How a run on so small a stack ended: its status, negative for a signal, and its line of errors."""
     limit = lambda: resource.setrlimit(resource.RLIMIT_STACK, (kib * 1024, kib * 1024))
-    done = subprocess.run([program, "eval", "--steps", "1000000000", "\\M000"], input=text, capture_output=True, preexec_fn=limit)
+    words = [program, "eval", "--steps", "1000000000", *options, "\\M000"]
+    done = subprocess.run(words, input=text, capture_output=True, preexec_fn=limit)
     return done.returncode, done.stderr.decode().strip()
 
 
-def least(program, text):
+def least(program, options, text):
     low, high = 16, 16384
     while high - low > 16:
         middle = (low + high) // 2
-        if ended(program, text, middle)[0] < 0:
+        if ended(program, options, text, middle)[0] < 0:
             low = middle
         else:
             high = middle
     return high
 
 
-def deepest(tried, make):
+def deepest(tried, count, options, make):
     """The deepest nesting that is taken, and its text."""
     for depth in range(64, 0, -1):
-        text = machine(make(depth))
-        if tried.ended(text) == "refused 77":
+        text = machine(make(count, depth))
+        if tried.ended(options, text) == "refused 77":
             return depth, text
-    return 0, machine(make(0))
+    return 0, machine(make(count, 0))
 
 
 class Program:
@@ -183,11 +186,11 @@ class Program:
     def __init__(self, name):
         self.name = program_there(name)
 
-    def ended(self, text):
-        return ended(self.name, text, 65536)[1]
+    def ended(self, options, text):
+        return ended(self.name, options, text, 65536)[1]
 
-    def taken(self, text):
-        return least(self.name, text)
+    def taken(self, options, text):
+        return least(self.name, options, text)
 
 
 class Library:
@@ -196,25 +199,26 @@ class Library:
     def __init__(self, name, folder):
         self.host, self.text = calls_of_library.built(file_there(name), folder), f"{folder}/machine.txt"
 
-    def said(self, text):
+    def said(self, options, text):
         with open(self.text, "wb") as it:
             it.write(text)
-        return subprocess.run([self.host, "eval", self.text], capture_output=True, text=True, check=True).stdout.split(None, 1)
+        words = [self.host, "eval", self.text, " ".join(options)]
+        return subprocess.run(words, capture_output=True, text=True, check=True).stdout.split(None, 1)
 
-    def ended(self, text):
-        return self.said(text)[1].strip()
+    def ended(self, options, text):
+        return self.said(options, text)[1].strip()
 
-    def taken(self, text):
-        return -(-int(self.said(text)[0]) // 1024)
+    def taken(self, options, text):
+        return -(-int(self.said(options, text)[0]) // 1024)
 
 
 def cases():
-    """Each kind of term, with its table for a depth."""
-    found = [(name, lambda depth, wrap=wrap: calls(wrap, depth)) for name, wrap in KINDS.items()]
-    found += [(name, lambda depth, wrap=wrap: calls(wrap, depth, buffer)) for name, wrap in ELEMENTS.items()]
+    """Each kind of term, with its table for so many calls and a depth."""
+    found = [(name, lambda count, depth, wrap=wrap: calls(wrap, count, depth)) for name, wrap in KINDS.items()]
+    found += [(name, lambda count, depth, wrap=wrap: calls(wrap, count, depth, buffer)) for name, wrap in ELEMENTS.items()]
     accesses = (("read", lambda it: it), ("stored to", lambda it: b"\x70\x00" + it), ("counted", lambda it: b"\x75" + it))
     for what, access in accesses:
-        found.append((f"Else, and fields {what}", lambda depth, access=access: fields(either, depth, access)))
+        found.append((f"Else, and fields {what}", lambda count, depth, access=access: fields(either, count, depth, access)))
     return [*found, ("Else, called from devices", devices)]
 
 
@@ -224,8 +228,11 @@ def main():
     with tempfile.TemporaryDirectory() as folder:
         tried = Library(name, folder) if name.endswith(".a") else Program(name)
         for kind, make in cases():
-            depth, text = deepest(tried, make)
-            print(f"{kind:28} {depth} deep: {tried.taken(text)} KiB", flush=True)
+            said = []
+            for count, options in SETTINGS:
+                depth, text = deepest(tried, count, options, make)
+                said.append(f"{count} calls, {depth} deep: {tried.taken(options, text)} KiB")
+            print(f"{kind:28}", "; ".join(said), flush=True)
 
 
 if __name__ == "__main__":

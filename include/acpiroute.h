@@ -27,7 +27,7 @@
  *     pointer
  *     alignment of the stack       16                      8                        8
  *     frame pointers, endbr64      no                      yes                      yes
- *     code and constants           1.2 MB                  1.1 MB                   0.5 MB
+ *     code and constants           2.6 MB                  2.5 MB                   0.9 MB
  *
  *   Where the red zone is used, nothing may run on the stack of a call while it lasts: an interrupt handler that does spoils
  *   values of the call, which then ends in an exception, or in an answer that is wrong. A library for programs is not for a
@@ -40,8 +40,10 @@
  * Nothing is kept between two calls, and there is no global state: any number of threads may make calls at once, each over its
  * own buffers. Everything that is handed in stays the caller's. A call reads no file, prints nothing, and touches no register.
  *
- * Give a call 128 KiB of stack: at most 91 KiB were measured. It takes as much memory as the tables ask for. The option `--steps`
- * bounds how many terms an evaluation begins, and neither time nor memory; the option `--accesses` bounds the accesses of registers.
+ * Give a call 128 KiB of stack: at most 97 KiB were measured. `levels` of the settings (or the option `--levels`) bounds what reading
+ * nested terms takes of it, and nothing else, and 16 KiB are too few whatever the setting: docs/EMBEDDING.md, "What it costs". A call takes
+ * as much memory as the tables ask for. The option `--steps` bounds how many terms an evaluation begins, and neither time nor memory; the
+ * option `--accesses` bounds the accesses of registers.
  */
 #ifndef ACPIROUTE_H
 #define ACPIROUTE_H
@@ -199,16 +201,27 @@ struct acpiroute_wanted {
  */
 enum { ACPIROUTE_PIC = 0, ACPIROUTE_APIC = 1, ACPIROUTE_WIDE = 2 };
 
-/* How a machine is configured. */
+/* How a machine is configured. Each number counts, so set all of them; those that an initializer leaves out are 0. */
 struct acpiroute_settings {
     /* The budget of steps for each table and each evaluation, from 1 to 1,000,000,000. */
     uint64_t steps;
-    /* ACPIROUTE_PIC or ACPIROUTE_APIC, or one of them with ACPIROUTE_WIDE added. */
+    /* ACPIROUTE_PIC or ACPIROUTE_APIC; for the wide profile with `| ACPIROUTE_WIDE`. */
     uint8_t mode;
     /* 1 where no link is to be set, and else 0. */
     uint8_t dry;
     /* 1 where the report is to have the lines for a kernel, as with the option `--kernel`, and else 0. */
     uint8_t kernel;
+    /*
+     * How many calls may be made one inside another, as with the option `--calls`: 1 to 32, and 0 for 32. A call is a control method,
+     * `_OSI`, or an evaluation of `_SEG`, `_BBN` or `_ADR`, so give at least 2. With fewer than 32, a deeper call is refused by number 144;
+     * with 32, by number 71.
+     */
+    uint8_t calls;
+    /*
+     * How many terms may be one inside another in a table or in the body of a control method, as with the option `--levels`: 1 to 64, and
+     * 0 for 64. With fewer than 64, a deeper term is refused by number 144; with 64, by number 33.
+     */
+    uint8_t levels;
 };
 
 /*

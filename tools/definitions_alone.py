@@ -1,8 +1,9 @@
 """What a law of the law crates rests on: its definitions and lemmas, without the functions of the libraries below it.
 
-`leave_definitions` takes the functions out of a copy of a library's sources: a law calls none of them, and a check of the law is five times
-as short without them. Types stay, with the functions of those traits that a type needs (`==`, `<`, printing, conversions of refusals), and
-what these and constants call. `Lemmas` follows the names in definitions and proofs, and tells which of them a law may rest on."""
+`leave_definitions` takes the functions out of a copy of a library's sources: a law calls few of them, and a check of the law is five times
+as short without the others. Types stay, with the functions of those traits that a type needs (`==`, `<`, printing, conversions of refusals).
+What these, constants and laws call stays, too, and an `impl` of any other trait where something that stays names its type. What is proved
+of functions goes, but for those that laws call. `Lemmas` follows the names in definitions and proofs, and tells which of them a law may rest on."""
 import functools
 import os
 import re
@@ -11,11 +12,14 @@ import shutil
 
 HEAD = re.compile(r"^( *)(?:pub(?:\([a-z]+\))? )?(?:const )?fn (\w+)")
 BLOCK = re.compile(r"(?:pub(?:\([a-z]+\))? )?(?:impl|trait)\b")
-# impls of traits that no type needs
-IMPL = re.compile(
-    r"(?m)^(?:(?:///|#\[).*\n)*impl(?:<[^{\n]*>)? (?:Space|Iterator|ArgumentCounts|TermReader|Before) for [^{]*\{\n(?:[^}\n].*\n|\n)*\}\n"
-)
+TRAIT = re.compile(r"(?m)^(?:pub(?:\([a-z]+\))? )?trait (\w+)")
+IMPL = re.compile(r"^impl(?:<[^{]*?>)? ((?:\w+::)*\w+)(?:<[^{]*?>)? for (?:&(?:'\w+ )?(?:mut )?)?(?:\w+::)*(\w+)")
+CLAUSE = re.compile(r" +(?:requires|ensures|ghost)\b")
 USE = re.compile(r"(?m)^ *(?:pub(?:\([a-z]+\))? )?use (\w+)[^;]*;\n")
+# the files of what is proved of a function
+PROOFS = {"Answers.antt", "Invariants.antt", "Proof.antt"}
+# traits of std that no type needs, as those that these libraries declare
+NEEDLESS = {"Iterator", "Read", "Write"}
 
 
 def text_of(file):
@@ -36,19 +40,43 @@ class Function:
     def __init__(self, lines, head, block):
         at = HEAD.match(lines[head])
         self.name, self.begin = at[2], head
-        is_inside = bool(at[1])
-        is_of_trait = is_inside and re.search(r"\btrait\b", block.split("{")[0].split("<")[0])
+        self.is_inside = bool(at[1])
+        is_of_trait = self.is_inside and re.search(r"\btrait\b", block.split("{")[0].split("<")[0])
         ends = (f"{at[1]}}}", f"{at[1]}{{}}")
-        self.end = head if is_of_trait else next(it for it in range(head, len(lines)) if lines[it] in ends)
-        while self.begin and lines[self.begin - 1].startswith((f"{at[1]}///", f"{at[1]}#[")):
-            self.begin -= 1
+        self.end = next(it for it in range(head, len(lines)) if lines[it] in ends or (is_of_trait and lines[it].endswith(";")))
+        self.begin = begin_of(lines, head, at[1])
         # a type needs it, or a trait names it
-        self.stays = is_inside and bool(is_of_trait or " for " in block)
-        self.body = "\n".join(lines[self.body_begins(lines, head) : self.end + 1])
+        self.stays = self.is_inside and bool(is_of_trait or " for " in block)
+        self.text = "\n".join(without_clauses(lines[head : self.end + 1], at[1]))
+        self.body = self.text if is_of_trait else "\n".join(body_of(lines[head : self.end + 1], at[1]))
 
-    def body_begins(self, lines, head):
-        found = (it for it in range(head, self.end + 1) if lines[it].strip() == "{" or (it == head and lines[it].endswith("{")))
-        return next(found, self.end)
+
+def without_clauses(lines, indent):
+    """A function's head and body: behind clauses the body begins on a line of its own."""
+    clause = next((number for number, line in enumerate(lines) if number and CLAUSE.match(line)), None)
+    return lines if clause is None else lines[:clause] + body_of(lines, indent)
+
+
+def body_of(lines, indent):
+    own = (number for number, line in enumerate(lines) if line in (f"{indent}{{", f"{indent}{{}}"))
+    return lines[next(own, next((number for number, line in enumerate(lines) if line.endswith("{")), 0)) :]
+
+
+class Impl:
+    """An `impl` of a trait that no type needs: it stays only where a function that stays names its type."""
+
+    def __init__(self, lines, head):
+        self.trait, self.type = IMPL.match(lines[head])[1].rpartition("::")[2], IMPL.match(lines[head])[2]
+        self.begin = begin_of(lines, head, "")
+        self.end = next(it for it in range(head, len(lines)) if lines[it] == "}" or lines[it].endswith("{}"))
+        self.text = "\n".join(lines[head : self.end + 1])
+
+
+def begin_of(lines, head, indent):
+    """Where the remarks and attributes of an item begin."""
+    while head and lines[head - 1].startswith((f"{indent}///", f"{indent}#[")):
+        head -= 1
+    return head
 
 
 def functions_in(lines):
@@ -66,57 +94,107 @@ class Library:
 
     def __init__(self, folder, below):
         self.folder, self.below = folder, below
-        self.lines = {it: IMPL.sub("", text_of(it)).split("\n") for it in files_below(f"{folder}/src", ".rt")}
+        self.lines = {it: text_of(it).split("\n") for it in files_below(f"{folder}/src", ".rt")}
         self.functions = {it: functions_in(lines) for it, lines in self.lines.items()}
-        self.bodies = {}
-        for it in self.all():
-            self.bodies.setdefault(it.name, []).append(it.body)
-        self.kept = set()
+        self.impls, self.kept, self.all_gone = {}, set(), None
+
+    def find_impls(self, traits):
+        """Finds the `impl`s of these traits. Their functions stay or go with them."""
+        for file, lines in self.lines.items():
+            heads = (number for number, line in enumerate(lines) if IMPL.match(line))
+            found = [it for it in (Impl(lines, head) for head in heads) if it.trait in traits]
+            self.impls[file] = found
+            inside = {line for it in found for line in range(it.begin, it.end + 1)}
+            self.functions[file] = [it for it in self.functions[file] if it.begin not in inside]
 
     def all(self):
         return [it for found in self.functions.values() for it in found]
 
+    def named(self, name, lead):
+        """The functions that a call may mean: a method behind `.`, a function of no type where nothing stands before the name."""
+        return [it for it in self.all() if it.name == name and (lead == "::" or it.is_inside == (lead == "."))]
+
     def first_needed(self):
         """The texts that call functions which have to stay: bodies of functions that types need, and constants."""
         constants = [line for lines in self.lines.values() for line in lines if re.match(r"(?:pub(?:\([a-z]+\))? )?(?:const|static) ", line)]
-        return [it.body for it in self.all() if it.stays] + constants
+        return [it.text for it in self.all() if it.stays] + constants
 
-    def gone(self):
-        return {it.name for it in self.all() if not it.stays} - self.kept - {it.name for it in self.all() if it.stays}
+    def stay(self, items):
+        """Keeps some items; returns the texts of those that were not kept before."""
+        new = [it for it in items if it not in self.kept]
+        self.kept.update(new)
+        return [(self, it.text) for it in new]
+
+    def gone(self, libraries):
+        """The names of functions that are gone, and of no other one: of its own, and of those below that it hands on."""
+        if self.all_gone is None:
+            stay = {it.name for it in self.all() if self.keeps(it)}
+            self.all_gone = {it.name for it in self.all()} - stay
+            handed_on = (use for lines in self.lines.values() for use in USE.finditer("\n".join(lines)) if use[0].startswith("pub use"))
+            for use in handed_on:
+                if use[1] in libraries:
+                    self.all_gone |= names_used(use[0]) & libraries[use[1]].gone(libraries) - stay
+        return self.all_gone
+
+    def keeps(self, item):
+        return item in self.kept or getattr(item, "stays", False)
 
 
-def keep_what_is_called(libraries):
-    todo = [(it, text) for it in libraries.values() for text in it.first_needed()]
+def keep_what_is_called(libraries, todo):
+    """Keeps what some texts call, each the text of a library, and what they name needs."""
+    impls = [(it, impl) for it in libraries.values() for found in it.impls.values() for impl in found]
     while todo:
         library, text = todo.pop()
-        for lead, name in set(re.findall(r"(\.|::|)\b(\w+)\(", re.sub(r"//.*", "", text))):
-            others = [] if not lead and name in library.bodies else [libraries[it] for it in library.below if it in libraries]
-            for it in [library, *others]:
-                if name in it.bodies and name not in it.kept:
-                    it.kept.add(name)
-                    todo += [(it, body) for body in it.bodies[name]]
+        text = re.sub(r"//.*", "", text)
+        for lead, name in set(re.findall(r"(::|\.(?=\w+(?:\(|::<))|\b(?=\w+(?:\(|::<)))(\w+)", text)):
+            own = library.named(name, lead)
+            others = [] if not lead and own else [libraries[it] for it in library.below if it in libraries]
+            todo += library.stay(own)
+            for it in others:
+                todo += it.stay(it.named(name, lead))
+        names = set(re.findall(r"\w+", text))
+        for it, impl in impls:
+            todo += it.stay([impl] if impl.type in names else [])
 
 
-def leave_definitions(crates):
-    """Takes the functions out of these crates' sources, and all that is proved of functions."""
-    libraries = {it.name: Library(it.folder, [dep.name for dep in it.deps]) for it in crates}
-    keep_what_is_called(libraries)
+def leave_definitions(crates, law_crate=None):
+    """Takes the functions out of these crates' sources, and all that is proved of functions, but for what a law calls."""
+    libraries = {it.name: Library(it.folder, [dep.name for dep in it.below()]) for it in crates}
+    traits = NEEDLESS | {name for it in libraries.values() for lines in it.lines.values() for name in TRAIT.findall("\n".join(lines))}
+    for it in libraries.values():
+        it.find_impls(traits)
+    if law_crate:
+        laws = Library(law_crate.folder, list(libraries))
+        keep_what_is_called(libraries, [(laws, it.body) for it in laws.all()])
+    proved = {name: {it.name for it in library.kept if isinstance(it, Function)} for name, library in libraries.items()}
+    keep_what_is_called(libraries, [(it, text) for it in libraries.values() for text in it.first_needed()])
     for name, library in libraries.items():
         for file, lines in library.lines.items():
-            gone = {line for it in library.functions[file] if not it.stays and it.name not in library.kept for line in range(it.begin, it.end + 1)}
+            items = [*library.functions[file], *library.impls[file]]
+            gone = {line for it in items if not library.keeps(it) for line in range(it.begin, it.end + 1)}
             text = "\n".join(line for number, line in enumerate(lines) if number not in gone)
             with open(file, "w", encoding="utf-8") as it:
                 it.write(USE.sub(lambda use: without_names(use, libraries, name), text))
         for at, _, names in os.walk(f"{library.folder}/proofs", topdown=False):
-            if {"Answers.antt", "Invariants.antt", "Proof.antt"} & set(names):
+            # (the folder of a function, and not that of the crate or of a module, whose lemmas may stand in files of these names)
+            if PROOFS & set(names) and "Lib.antt" not in names and os.path.basename(at) not in proved[name]:
                 shutil.rmtree(at)
+
+
+def names_used(use):
+    return {last_name(it) for it in re.findall(r"[\w:]+(?: as \w+)?", use)}
+
+
+def last_name(used):
+    return used.split(" as ")[0].rpartition("::")[2]
 
 
 def without_names(use, libraries, own):
     """A `use` without the names of functions that are gone."""
-    gone = libraries[use[1] if use[1] in libraries else own].gone()
-    text = re.sub(r"\{([^{}]*)\}", lambda it: "{" + ", ".join(name for name in re.findall(r"[\w:]+(?: as \w+)?", it[1]) if name not in gone) + "}", use[0])
-    last = re.search(r"(\w+);\n$", text)
+    gone = libraries[use[1] if use[1] in libraries else own].gone(libraries)
+    names = r"[\w:]+(?: as \w+)?"
+    text = re.sub(r"\{([^{}]*)\}", lambda it: "{" + ", ".join(name for name in re.findall(names, it[1]) if last_name(name) not in gone) + "}", use[0])
+    last = re.search(r"(\w+)(?: as \w+)?;\n$", text)
     return "" if re.search(r"\{\s*\}", text) or (last and last[1] in gone) else text
 
 
@@ -181,19 +259,29 @@ class Lemmas:
             found.setdefault(name, set()).update(names_in(line))
         return found, self.imported(text)
 
+    @functools.lru_cache(maxsize=None)
+    def direct(self, file, name):
+        """The definitions and lemmas that one names itself; of a type's file all."""
+        blocks, files = self.blocks(file)
+        found = []
+        for it in [file, *files]:
+            others = self.blocks(it)[0].keys()
+            found += [(it, other) for other in (others if it.endswith(".rt") else blocks[name] & others)]
+        return found
+
     def below(self, start):
         """All definitions and lemmas that some of them may rest on, with these."""
         seen, todo = set(), list(start)
         while todo:
-            file, name = todo.pop()
-            if (file, name) in seen:
-                continue
-            seen.add((file, name))
-            blocks, files = self.blocks(file)
-            for it in [file, *files]:
-                others = self.blocks(it)[0]
-                todo += [(it, other) for other in (others if it.endswith(".rt") else blocks[name] & set(others))]
+            it = todo.pop()
+            if it not in seen:
+                seen.add(it)
+                todo += self.direct(*it)
         return seen
+
+    @functools.lru_cache(maxsize=None)
+    def below_one(self, file, name):
+        return self.below([(file, name)])
 
     def of_law(self, crate, path):
         """What a law may rest on: the names in its contract, in its attributes, and in its proof."""

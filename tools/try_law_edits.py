@@ -1,10 +1,10 @@
 #!/usr/bin/env python3
-"""try_law_edits.py [--others] [--code] [--check] [--lanes N] [--kept FOLDER] [--note] [NAME..]:
+"""try_law_edits.py [--others] [--code] [--check] [--lanes N] [--kept FOLDER] [--note] [--left] [NAME..]:
 tries edits of definitions that a law has to refuse.
 
-A law of `aml_laws`, `aml_spelling` or `machine_laws` is about definitions of the crates below, which no edit of the law's own crate can
-change. So these edits stand in crates/LAWS/definitions/NAME.md. Such a file says what is wrong with the definition and why the law doesn't
-hold of it, and then has these lines:
+A law of `aml_laws`, `aml_spelling`, `machine_laws` or `recorded_laws` is about definitions of the crates below, which no edit of its own crate
+can change. So these edits stand in crates/LAWS/definitions/NAME.md. Such a file says what is wrong with the definition and why the law
+doesn't hold of it, and then has these lines:
 
     law: NAME             a law of this crate that has to refuse the edit; one at least
     file: crates/..       a file of specs/, src/ or proofs/ of a crate below
@@ -12,10 +12,11 @@ hold of it, and then has these lines:
     new: TEXT             stands in its place, with as many lines as it needs; further pairs apply to what the earlier ones made
 
 The edit is applied to a copy of the sources, and the laws that it names are checked there, with the libraries below as sources, so none of
-them has to be built. The functions of these are left out (tools/definitions_alone.py). Edits of different definitions are tried together: such an
-edit counts as refused where the check refuses a lemma on which the law rests, and which itself rests on what this edit changes and on nothing that
-another one does. What this doesn't show is tried again in smaller groups, and at last by itself. A check begins with what one check of all
-laws that are named, without any edit, has kept. An edit comes to one of these:
+them has to be built. The functions of these that no law and no type needs are left out (tools/definitions_alone.py). Edits are tried together
+where no definition that one of them changes rests on one that another changes: such an edit counts as refused where the check refuses a lemma
+on which the law rests, and which itself rests on what this edit changes and on nothing that another one does. What this doesn't show is tried
+again in smaller groups, and at last by itself. A check begins with what one check of all laws that are named, without any edit, has kept. An
+edit comes to one of these:
 
     REFUSED       none of the laws that it names is proved
     NOT REFUSED   one of them is proved: the law says too little
@@ -29,9 +30,11 @@ laws that are named, without any edit, has kept. An edit comes to one of these:
 --lanes N  tries so many at a time; 1 if it isn't given. Each takes one to four GB
 --kept FOLDER  keeps there what the check without edits proved, for the next run over the same sources
 --note     writes what came of each edit to crates/LAWS/definitions/tried.md; the rows of edits that were not tried stay
+--left     tries just those of which that table doesn't tell yet what came of them
 
 NAME is a law crate, or the name of an edit; without one, all edits are tried. Run it at the top of a checkout."""
 import concurrent.futures
+import functools
 import hashlib
 import os
 import queue
@@ -40,15 +43,16 @@ import shutil
 import subprocess
 import sys
 import tempfile
+import threading
 
 sys.dont_write_bytecode = True
-from definitions_alone import Lemmas, leave_definitions
+from definitions_alone import Lemmas, files_below, leave_definitions
 from try_edits import PREFIX, function_at, module_of, rt, rtlib
 from usage import answer_help
 
 
 # how many edits are tried together at most
-TOGETHER = 24
+TOGETHER = 48
 
 
 # ---- the edits
@@ -59,6 +63,7 @@ def law_crates(top):
     return [it for it in rtlib.crates_below(top) if os.path.isdir(f"{it.folder}/definitions")]
 
 
+@functools.lru_cache(maxsize=None)
 def laws_of(crate):
     """The public functions of a law crate, each with its path below the crate."""
     found = {}
@@ -76,7 +81,7 @@ class LawEdit:
 
     def __init__(self, crate, file, top):
         self.crate, self.name = crate.name, os.path.splitext(os.path.basename(file))[0]
-        self.texts, self.functions, self.changes, self.rests, self.why = {}, {}, set(), {}, None
+        self.texts, self.functions, self.changes, self.under, self.rests, self.why = {}, {}, set(), set(), {}, None
         lines = rtlib.text_of(file).split("\n")
         self.laws = [it.removeprefix("law: ").strip() for it in lines if it.startswith("law: ")]
         unknown = [it for it in self.laws if it not in laws_of(crate)]
@@ -142,7 +147,7 @@ def definition_pairs(edit):
 
 
 def read_rests(lemmas, crate, edits):
-    """Finds what the laws that edits name may rest on, and which definitions each edit changes."""
+    """Finds what the laws that edits name may rest on, which definitions each edit changes, and what these rest on."""
     laws = laws_of(crate)
     rests = {law: lemmas.of_law(crate.name, laws[law]) for law in dict.fromkeys(law for it in edits for law in it.laws)}
     for edit in edits:
@@ -150,14 +155,16 @@ def read_rests(lemmas, crate, edits):
         for path, old, _ in definition_pairs(edit):
             place = (rtlib.text_of(f"{lemmas.top}/{path}") or "").find(old)
             edit.changes |= {(path, lemmas.at(path, it)) for it in (place, place + len(old) - 1) if not old.startswith("use ")}
+        edit.under = lemmas.below(edit.changes)
 
 
 def grouped(edits):
-    """Edits in groups, in each of which no two change the same definition or the same line."""
+    """Edits in groups, in each of which no two change the same line, or a definition on which what the other one changes rests: each lemma
+    that rests on that rests on both."""
     groups = []
     for edit in edits:
         for group in groups:
-            if len(group) < TOGETHER and not any(edit.changes & it.changes or lines_of(edit) & lines_of(it) for it in group):
+            if len(group) < TOGETHER and not any(edit.changes & it.under or it.changes & edit.under or lines_of(edit) & lines_of(it) for it in group):
                 group.append(edit)
                 break
         else:
@@ -180,7 +187,7 @@ class Copy:
         rt.copy_crates(top, self.folder)
         self.crates = {it.name: it for it in rtlib.crates_below(self.folder)}
         if law_crate:
-            leave_definitions(self.crates[law_crate].below())
+            leave_definitions(self.crates[law_crate].below(), self.crates[law_crate])
 
     def put(self, pairs):
         """Puts texts in place of others; returns the files that they change."""
@@ -208,13 +215,12 @@ class Copy:
         ran = subprocess.run([*rtlib.guarded(), rtlib.RATTLE, "check", *words], **how)
         return ran.stdout.rstrip("\n").split("\n"), ran.returncode
 
-    def sum(self):
-        """What a check of the copy rests on."""
+    def sum(self, name):
+        """What a check of a crate of the copy rests on."""
         found = hashlib.sha256((rtlib.text_of(f"{rtlib.KIT}/WHAT") or "").encode())
-        for at, folders, names in os.walk(f"{self.folder}/crates"):
-            folders.sort()
-            for name in sorted(it for it in names if it.endswith((".rt", ".antt"))):
-                found.update(f"{os.path.relpath(at, self.folder)}/{name}".encode() + (rtlib.text_of(f"{at}/{name}") or "").encode())
+        for crate in sorted([*self.crates[name].below(), self.crates[name]], key=lambda it: it.name):
+            for file in files_below(crate.folder, (".rt", ".antt")):
+                found.update(os.path.relpath(file, self.folder).encode() + (rtlib.text_of(file) or "").encode())
         return found.hexdigest()
 
 
@@ -229,19 +235,19 @@ def unproved(name, lines):
 
 
 def unread(lines, changed):
-    """The first line that says that a definition or a changed file can't be read, if there is one."""
+    """The first line that says that a definition or a changed file can't be read, and the file; nothing where there is none."""
     for line in lines:
         at = re.match(r"(?:\./|\S*/crates/(\w+)/)?((?:src|specs|proofs)/\S+?\.(?:antt|rt)):\d+:\d+: error", line)
         if at and (at[2].startswith("specs/") or f"crates/{at[1]}/{at[2]}" in changed):
-            return line
+            return line, f"crates/{at[1]}/{at[2]}"
     return None
 
 
 # ---- trying
 
 
-def try_group(group, copy, lemmas, others):
-    """What each edit of a group comes to, and what to say of it, by its name."""
+def try_group(group, copy, lemmas, others, tell):
+    """Tries the edits of a group, and tells what each comes to, as soon as a check shows it."""
     laws = laws_of(copy.crates[group[0].crate])
     asked = list(laws) if others else list(dict.fromkeys(law for it in group for law in it.laws))
     changed = copy.put(it for edit in group for it in definition_pairs(edit))
@@ -250,18 +256,30 @@ def try_group(group, copy, lemmas, others):
     finally:
         copy.back()
     found = {it.name: verdict(it, group, lemmas, lines, status, others, changed) for it in group}
+    for it in group:
+        if found[it.name]:
+            tell(it, *found[it.name])
     left = [it for it in group if found[it.name] is None]
+    for part in parts_of(left, group, unread(lines, changed)):
+        if part:
+            try_group(part, copy, lemmas, others, tell)
+
+
+def parts_of(left, group, bad):
+    """What is tried again together: of a file that can't be read each edit by itself, and else in halves where nothing was shown."""
+    own = [it for it in left if bad and bad[1] in {path for path, _, _ in it.pairs}]
+    if own:
+        return [*([it] for it in own), [it for it in left if it not in own]]
     half = (len(left) + 1) // 2
-    for part in [left] if len(left) < len(group) else [left[:half], left[half:]]:
-        found |= try_group(part, copy, lemmas, others) if part else {}
-    return found
+    return [left] if len(left) < len(group) else [left[:half], left[half:]]
 
 
 def verdict(edit, group, lemmas, lines, status, others=False, changed=()):
     """What an edit of a group comes to, or None where the check of the group doesn't show it."""
     bad, is_alone = unread(lines, changed), len(group) == 1
-    if bad or not has_verdict(lines):
-        why = f"it can't be read: {bad[:200]}" if bad else f"the check ended with status {status}: {lines[0][:200]}"
+    is_own = is_alone or (bad and bad[1] in {path for path, _, _ in edit.pairs})
+    if (bad and is_own) or not has_verdict(lines):
+        why = f"it can't be read: {bad[0][:200]}" if bad else f"the check ended with status {status}: {lines[0][:200]}"
         return ("BAD EDIT" if bad or status == 1 else "NOT TRIED", why) if is_alone else None
     refused = [it.rpartition("::")[2] for it in unproved(edit.crate, lines)]
     proved = [it for it in edit.laws if it not in refused]
@@ -282,7 +300,7 @@ def first_of(edit, law, others, lemmas, lines):
         at = re.match(r"(?:\./|\S*/crates/(\w+)/)?(proofs/\S+\.antt):(\d+):\d+: error: `([^`]+)`", line)
         lemma = (f"crates/{at[1] or edit.crate}/{at[2]}", at[4]) if at else None
         if lemma and lemma in edit.rests[law]:
-            rests = lemmas.below([lemma])
+            rests = lemmas.below_one(*lemma)
             if edit.changes & rests and not any(it.changes & rests for it in others):
                 return f"{lemma[0]}:{at[3]}, `{lemma[1]}`"
     return ""
@@ -308,15 +326,17 @@ def code_of(edit, copy):
 def is_seeded(copy, crate, laws, kept):
     """Checks some laws without any edit, unless the folder has them; tells whether all are proved."""
     os.makedirs(kept, exist_ok=True)
-    mark, sum = f"{kept}/proved-{crate.name}", f"{copy.sum()} {' '.join(sorted(laws))}"
-    if rtlib.text_of(mark) == sum:
+    mark, sum = f"{kept}/proved-{crate.name}", copy.sum(crate.name)
+    was, *proved = (rtlib.text_of(mark) or "").split() or [""]
+    if was == sum and set(laws) <= set(proved):
         return True
     lines, _ = copy.checked(crate.name, [laws_of(crate)[it] for it in laws], kept)
     if not has_verdict(lines) or unproved(crate.name, lines):
         print(f"{crate.name}: its laws are not proved without an edit: {', '.join(unproved(crate.name, lines)) or lines[0][:200]}")
+        print("".join(f"    {it[:200]}\n" for it in [it for it in lines if ": error" in it][:8]), end="", flush=True)
         return False
     with open(mark, "w", encoding="utf-8") as it:
-        it.write(sum)
+        it.write(f"{sum} {' '.join(sorted({*laws, *(proved if was == sum else [])}))}")
     return True
 
 
@@ -329,13 +349,19 @@ TRIED = """# What came of the edits of this folder
 """
 
 
-def note(crate, edits, found):
+UNTRIED = "not tried yet"
+
+
+def note(crate, names, found):
     """Writes what came of edits into the table that stands with them."""
-    file = f"{crate.folder}/definitions/tried.md"
-    rows = dict(re.findall(r"(?m)^\| `(\w+)` \| (.*) \|$", rtlib.text_of(file) or ""))
-    rows |= {name: f"{came}: {said}" for name, (came, said) in found.items()}
-    with open(file, "w", encoding="utf-8") as it:
-        it.write(TRIED + "".join(f"| `{edit.name}` | {rows.get(edit.name, 'not tried yet')} |\n" for edit in edits))
+    rows = noted(crate) | {name: f"{came}: {said}" for name, (came, said) in found.items()}
+    with open(f"{crate.folder}/definitions/tried.md", "w", encoding="utf-8") as it:
+        it.write(TRIED + "".join(f"| `{name}` | {rows.get(name, UNTRIED)} |\n" for name in names))
+
+
+def noted(crate):
+    """The rows of the table, by edits."""
+    return dict(re.findall(r"(?m)^\| `(\w+)` \| (.*) \|$", rtlib.text_of(f"{crate.folder}/definitions/tried.md") or ""))
 
 
 class Lanes:
@@ -350,7 +376,7 @@ class Lanes:
 
     def each(self, call, items):
         with concurrent.futures.ThreadPoolExecutor(self.count) as pool:
-            yield from pool.map(lambda it: self.in_one(call, it), items)
+            yield from (it.result() for it in concurrent.futures.as_completed([pool.submit(self.in_one, call, it) for it in items]))
 
     def in_one(self, call, item):
         copies = self.free.get()
@@ -363,9 +389,9 @@ class Lanes:
 def try_crate(top, crate, edits, words, kept):
     """Tries the edits of a law crate; returns how many its laws refused."""
     others, code, count = "--others" in words, "--code" in words, int(value_of(words, "--lanes") or 1)
-    for it in edits:
-        if it.why:
-            print(f"{it.crate}/{it.name}: BAD EDIT: {it.why}", flush=True)
+    all_found = {it.name: ("BAD EDIT", it.why) for it in edits if it.why}
+    for name, (came, why) in all_found.items():
+        print(f"{crate.name}/{name}: {came}: {why}", flush=True)
     edits = [it for it in edits if not it.why]
     laws = list(laws_of(crate)) if others else list(dict.fromkeys(law for it in edits for law in it.laws))
     lemmas = Lemmas(top)
@@ -376,25 +402,27 @@ def try_crate(top, crate, edits, words, kept):
         if not lanes.in_one(lambda copies, _: is_seeded(copies[0], crate, laws, kept), None):
             return 0
 
+        lock, names = threading.Lock(), [it.name for it in edits_of(crate, top)]
+
         def tried(copies, group):
             for it in copies:
                 if it:
                     rt.linked(kept, it.kept)
-            found = try_group(group, copies[0], lemmas, others)
-            told = {it.name: code_of(it, copies[1]) for it in group if code and found[it.name][0] == "REFUSED"}
+            try_group(group, copies[0], lemmas, others, lambda *it: tell(copies[1], *it))
             for it in copies:
                 if it:
                     shutil.rmtree(it.kept)
-            return group, found, told
 
-        all_found = {}
-        for group, found, told in lanes.each(tried, groups):
-            for it in group:
-                came, said = found[it.name]
-                all_found[it.name] = came, said + (f"; {told[it.name]}" if it.name in told else "")
-                print(f"{it.crate}/{it.name}: {came}: {all_found[it.name][1]}", flush=True)
-            if "--note" in words:
-                note(crate, edits_of(crate, top), all_found)
+        def tell(copy, edit, came, said):
+            said += f"; {code_of(edit, copy)}" if code and came == "REFUSED" else ""
+            with lock:
+                all_found[edit.name] = came, said
+                print(f"{crate.name}/{edit.name}: {came}: {said}", flush=True)
+                if "--note" in words:
+                    note(crate, names, all_found)
+
+        for _ in lanes.each(tried, groups):
+            pass
         return len([it for it in all_found.values() if it[0] == "REFUSED" and "NOT PROVED" not in it[1]])
 
 
@@ -428,6 +456,9 @@ def main(words):
         print(f"no law crate and no edit has this name: {', '.join(unknown)}")
         return 2
     edits = [it for it in edits if not names or it.name in names or it.crate in names]
+    if "--left" in words:
+        rows = {it.name: noted(it) for it in crates}
+        edits = [it for it in edits if rows[it.crate].get(it.name, UNTRIED) == UNTRIED]
     crates = [it for it in crates if it.name in [edit.crate for edit in edits]]
     if "--check" in words:
         return look(crates, edits)

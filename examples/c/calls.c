@@ -257,6 +257,10 @@ static void judge_spoiled(const struct question *it) {
     judge_told(&other, ACPIROUTE_MALFORMED);
     other = *it, other.settings.kernel = 2;
     judge_told(&other, ACPIROUTE_MALFORMED);
+    other = *it, other.settings.calls = 33;
+    judge_told(&other, ACPIROUTE_MALFORMED);
+    other = *it, other.settings.levels = 65;
+    judge_told(&other, ACPIROUTE_MALFORMED);
 }
 
 /* Pins. */
@@ -356,7 +360,7 @@ static const char *text_of(const char *name) {
 }
 
 static struct question over(const char *name, command *command, const char *options, struct bytes input) {
-    return (struct question){name, command, options, NULL, {1000000, ACPIROUTE_APIC, 0, 0}, {0}, 0, {0}, 0, input, NULL, 0, ""};
+    return (struct question){name, command, options, NULL, {1000000, ACPIROUTE_APIC, 0, 0, 0, 0}, {0}, 0, {0}, 0, input, NULL, 0, ""};
 }
 
 /* A text with each line left out that begins so. */

@@ -52,7 +52,7 @@ struct asked {
 };
 
 static struct asked asked_by(int count, char **words) {
-    struct asked asked = {{1000000, ACPIROUTE_APIC, 0, 0}, {0}, 0};
+    struct asked asked = {{1000000, ACPIROUTE_APIC, 0, 0, 0, 0}, {0}, 0};
     for (int i = 2; i < count; i++) {
         if (strcmp(words[i], "dry") == 0) {
             asked.settings.dry = 1;

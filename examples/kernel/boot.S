@@ -100,6 +100,6 @@ pointers:    .skip 4096
 directories: .skip 4 * 4096
     .globl stack_bottom, stack_top
 stack_bottom:
-    .skip 8 << 20                       # what docs/EMBEDDING.md asks for
+    .skip (128 + 16) << 10              # 128 KiB for a call (docs/EMBEDDING.md), 16 for the kernel and its interrupts
 stack_top:
     .section .note.GNU-stack, "", @progbits

@@ -73,9 +73,9 @@ struct tables { uint64_t rsdp; struct acpiroute_part parts[320]; size_t count; }
 struct fixed_ports { uint16_t timer, events; };
 struct fixed_ports tables_at(struct tables *tables, uint64_t rsdp);
 
-/* routing.c: the run of the library, and where it routes each pin. */
+/* routing.c: the run of the library by its settings, and where it routes each pin. */
 enum spoil { NOT_SPOILED, SPOILED };
-void routing_run(const struct tables *machine, int is_apic, enum spoil spoil);
+void routing_run(const struct tables *machine, const struct acpiroute_settings *settings, enum spoil spoil);
 struct route { int is_found; struct line line; };
 /* That of a pin (0 for A) of a device on a bus that has a routing table, and that of the System Control Interrupt. */
 struct route route_of(unsigned bus, unsigned device, unsigned pin);

@@ -2,6 +2,9 @@
  * Boots, routes, and tries on each device that the interrupt of the report is the one that comes. The words of the command line:
  *
  *     apic        the I/O APICs are used, and else the 8259 controllers
+ *     wide        the AML is evaluated in the wide profile, and else in the core one
+ *     few         calls may be 4 deep and terms 16 levels, and else 32 and 64
+ *     no-levels   terms may be one level deep, so the run has to be refused
  *     no-sse      SSE instructions are undefined; else they are enabled
  *     wrong       tries the interrupt after that of the report, so everything has to fail
  *     spoil       changes an entry of the record, so the run has to be stopped
@@ -51,6 +54,22 @@ static uint64_t stack_used(void) {
     return (uint64_t)(stack_top - at);
 }
 
+/* How the machine is configured. With `kernel` the report has the lines `trigger` and `bus`, as the run for the pins has them. */
+static struct acpiroute_settings settings_asked(void) {
+    struct acpiroute_settings settings = {.steps = 1000000, .mode = ACPIROUTE_PIC, .kernel = 1, .calls = 32, .levels = 64};
+    if (is_asked("apic"))
+        settings.mode = ACPIROUTE_APIC;
+    if (is_asked("wide"))
+        settings.mode |= ACPIROUTE_WIDE;
+    if (is_asked("few")) {
+        settings.calls = 4;
+        settings.levels = 16;
+    }
+    if (is_asked("no-levels"))
+        settings.levels = 1;
+    return settings;
+}
+
 void kernel_main(const struct start_info *given) {
     memset(stack_bottom, 0xA5, (size_t)((uint8_t *)__builtin_frame_address(0) - 512 - stack_bottom));
     struct start_info info = *given;
@@ -67,8 +86,11 @@ void kernel_main(const struct start_info *given) {
     say("stack: %u bytes", stack_used());
 
     ticks_start();
-    routing_run(&machine, is_asked("apic"), is_asked("spoil") ? SPOILED : NOT_SPOILED);
+    struct acpiroute_settings settings = settings_asked();
+    routing_run(&machine, &settings, is_asked("spoil") ? SPOILED : NOT_SPOILED);
     say("interrupts of the timer meanwhile: %u; stack: %u bytes", ticks_stop(), stack_used());
+    if (stack_used() == (uint64_t)(stack_top - stack_bottom))
+        stop("the stack is too small");
 
     if (is_asked("apic"))
         io_apic_start();

@@ -8,8 +8,7 @@ static const struct tables *machine;
 enum { MOST_ACCESSES = 4096, MOST_PINS = 4096 };
 /* What `_OSI` says yes to: many tables set their links in another way for an operating system that they don't know. */
 static const uint8_t osi[] = "Windows 2012\nWindows 2015";
-/* With `kernel` the report has the lines `trigger` and `bus`, as the run for the pins has them. */
-static struct acpiroute_settings settings = {.steps = 1000000, .mode = ACPIROUTE_APIC, .kernel = 1};
+static struct acpiroute_settings settings;
 static struct acpiroute_access record[MOST_ACCESSES];
 static size_t record_length;
 static uint8_t report[1 << 18], fault[4096];
@@ -132,14 +131,14 @@ static void find_io_apics(void) {
     }
 }
 
-void routing_run(const struct tables *tables, int is_apic, enum spoil spoil) {
+void routing_run(const struct tables *tables, const struct acpiroute_settings *given, enum spoil spoil) {
     machine = tables;
-    settings.mode = is_apic ? ACPIROUTE_APIC : ACPIROUTE_PIC;
+    settings = *given;
     uint64_t base = memory_use.most_bytes = memory_use.bytes, allocations = memory_use.allocations;
     run(spoil);
     say("measured: %u accesses, %u calls, %u us, the longest %u us, %u allocations, at most %u bytes", (uint64_t)record_length,
         measured.calls, measured.time, measured.longest, memory_use.allocations - allocations, memory_use.most_bytes - base);
     print_report();
-    if (is_apic)
+    if (settings.mode & ACPIROUTE_APIC)
         find_io_apics();
 }

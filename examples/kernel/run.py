@@ -5,13 +5,14 @@ Builds the kernel of this folder over a static library of acpiroute, boots it in
 `apic`, and checks what it says: on each device the interrupt that the report names comes, and no other, and so does the SCI.
 
 LIBRARY is one that tools/kernel_library.py makes: libacpiroute_kernel.a, or libacpiroute_kernel_no_sse.a, over which the kernel
-runs with SSE instructions undefined. Interrupts come on the stack of the library's calls, a thousand in a second; the kernel's stack is aligned to 8 bytes; and the processor is QEMU's `qemu64`, with what
-every x86-64 processor has, but for two boots on `max`. --cpu names another one.
+runs with SSE instructions undefined. Interrupts come on the stack of the library's calls, a thousand in a second; the kernel's
+stack has 144 KiB and is aligned to 8 bytes; and the processor is QEMU's `qemu64`, with what every x86-64 processor has, but for
+two boots on `max`. --cpu names another one. Some boots evaluate in the wide profile, or with at most 4 calls and 16 levels of terms.
 
 Boots that have to fail are among them: where the kernel tries the interrupt after that of the report, each device has to fail;
-where it changes an entry of its record, the run has to be stopped; where SSE instructions are undefined under a library that has
-some, there has to be an exception; and on q35 with a second root bus the tables of QEMU 7.2 name other interrupts than its
-hardware raises for that bus, so the device there has to fail, and only it.
+where it changes an entry of its record, the run has to be stopped; where terms may be one level deep, it has to be refused; where
+SSE instructions are undefined under a library that has some, there has to be an exception; and on q35 with a second root bus the
+tables of QEMU 7.2 name other interrupts than its hardware raises for that bus, so the device there has to fail, and only it.
 
 --show prints what the kernel says, and --only takes the boots whose names have this text. It needs gcc for x86-64, and
 qemu-system-x86_64 with SeaBIOS (Debian: qemu-system-x86). The last line is `N passed, M failed`, and the exit status is 0 where
@@ -46,6 +47,7 @@ SECOND_BUS_OF_PORTS = ["edu,addr=3", "pxb-pcie,id=x,bus_nr=128,addr=5", "pcie-ro
 NONE_BAD, ALL_BAD = "no device is bad", "each device is bad"
 BAD_ON_SECOND_BUS = "the devices from bus 80 on are bad"
 NOT_OF_THIS_RUN, AN_EXCEPTION = "stopped: the record is not of this run", "stopped: an exception"
+REFUSED = "refused 144"
 MACHINES = [
     ("pc", "pc", 1, SLOTS, NONE_BAD),
     ("pc, 2 processors", "pc", 2, SLOTS, NONE_BAD),
@@ -68,6 +70,10 @@ def boots(cpu, more_words):
             name = f"{machine}, {mode}, the interrupt after that of the report"
             yield Boot(name, machine, 1, SLOTS, f"{mode} wrong{more_words}", cpu, ALL_BAD)
         yield Boot(f"{machine}, pic, a spoiled record", machine, 1, SLOTS, f"pic spoil{more_words}", cpu, NOT_OF_THIS_RUN)
+        for mode in ("pic", "apic"):
+            yield Boot(f"{machine}, {mode}, the wide profile", machine, 1, SLOTS, f"{mode} wide{more_words}", cpu, NONE_BAD)
+            yield Boot(f"{machine}, {mode}, 4 calls and 16 levels", machine, 1, SLOTS, f"{mode} few{more_words}", cpu, NONE_BAD)
+        yield Boot(f"{machine}, pic, one level", machine, 1, SLOTS, f"pic no-levels{more_words}", cpu, REFUSED)
         yield Boot(f"{machine}, pic, the processor max", machine, 1, SLOTS, f"pic{more_words}", "max", NONE_BAD)
         if not more_words:
             yield Boot(f"{machine}, pic, SSE undefined", machine, 1, SLOTS, f"pic no-sse{more_words}", cpu, AN_EXCEPTION)
@@ -113,7 +119,7 @@ def devices_in(said):
 
 
 def is_as_wanted(boot, status, said):
-    if boot.wanted in (NOT_OF_THIS_RUN, AN_EXCEPTION):
+    if boot.wanted in (NOT_OF_THIS_RUN, AN_EXCEPTION, REFUSED):
         return status == BAD and boot.wanted in said
     devices = devices_in(said)
     if "stopped" in said or len(devices) < 2 or f"tried {len(devices) - 1} devices" not in said:

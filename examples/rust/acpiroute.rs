@@ -69,6 +69,8 @@ pub struct Settings {
     pub mode: u8,
     pub dry: u8,
     pub kernel: u8,
+    pub calls: u8,
+    pub levels: u8,
 }
 
 /// A part of the machine's memory in which tables stand.

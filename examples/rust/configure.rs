@@ -99,7 +99,7 @@ fn run() -> Result<u8, String> {
     let name = words.next().ok_or("a machine text is wanted")?;
     let dry = words.next().is_some_and(|word| word == "dry");
     let machine = std::fs::read(&name).map_err(|error| format!("{name}: {error}"))?;
-    let settings = Settings { steps: 1_000_000, mode: APIC, dry: u8::from(dry), kernel: 0 };
+    let settings = Settings { steps: 1_000_000, mode: APIC, dry: u8::from(dry), kernel: 0, calls: 0, levels: 0 };
     let mut chipset = Chipset::reset();
     let told = |code| format!("the call came out as {code}");
     let (text, line, status) = configure(&mut chipset, &machine, &settings).map_err(told)?;

@@ -11,7 +11,7 @@ use Rattle.ar_space.specs.declared.refusal.EvaluationFault.TheVariants.{ObjectLi
 use Rattle.aml_meaning.specs.State.{State}
 use Rattle.acpi_machine.specs.Loading.{few_texts, table_loaded, each_loaded, all_loaded, loaded_tables}
 use Rattle.ar_tables.specs.declared.tables.Tables.{Tables}
-use Rattle.aml_meaning.specs.declared.profile.Profile.{Profile}
+use Rattle.aml_meaning.specs.declared.settings.EvaluationSettings.{EvaluationSettings}
 use Rattle.aml_meaning.specs.Predefined.{predefined, fresh_as}
 use Rattle.acpi_explain.specs.Refused.{AreAnswered, IsHowFar}
 use Rattle.acpi_explain.specs.Stages.{IsTable}
@@ -33,23 +33,23 @@ module _ {S : Type 0} (accesses : Accesses S) (steps : ℕ) where
   unfolding loaded_tables all_loaded each_loaded settle ◌>>=◌ go_on
   from_all t osi start world after r few is h = rw (few, is) h
 
-  table_found : (found : Option ℕ) (profile : Profile) (t : Tables) (osi : List (List ℕ)) (space : S) (world after : State S) → few_texts osi ≡ Ok tt → predefined (fresh_as profile t.width osi space) ≡ (Ok tt, world)
-      → IsHowFar (table_loaded accesses steps) (t.dsdt ∷ t.ssdts) world after found → IsTable accesses profile t steps osi space found
-  table_found None profile t osi space world after few is h = λ _. (after, from_all t osi (fresh_as profile t.width osi space) world after (Ok tt) few is (each_all (t.dsdt ∷ t.ssdts) world after h))
-  table_found (Some n) profile t osi space world after few is h = record {
+  table_found : (found : Option ℕ) (settings : EvaluationSettings) (t : Tables) (osi : List (List ℕ)) (space : S) (world after : State S) → few_texts osi ≡ Ok tt → predefined (fresh_as settings t.width osi space) ≡ (Ok tt, world)
+      → IsHowFar (table_loaded accesses steps) (t.dsdt ∷ t.ssdts) world after found → IsTable accesses settings t steps osi space found
+  table_found None settings t osi space world after few is h = λ _. (after, from_all t osi (fresh_as settings t.width osi space) world after (Ok tt) few is (each_all (t.dsdt ∷ t.ssdts) world after h))
+  table_found (Some n) settings t osi space world after few is h = record {
     world = world;
     is_world = is;
     after = after;
     refusal = h.0;
     table = h.1;
     is_first = h.2;
-    is_run = from_all t osi (fresh_as profile t.width osi space) world after (Err h.0) few is
+    is_run = from_all t osi (fresh_as settings t.width osi space) world after (Err h.0) few is
         (ap (λ xs. each_loaded accesses steps xs world) h.2.are_all ∙ each_to h.2.earlier h.1 h.2.later world h.2.there after h.0 h.2.are_answered h.2.is_refused);
   }
 
   -- `_OSI` is to know too many texts, and no table is loaded; or it isn't
-  pub too_many : (profile : Profile) (t : Tables) (osi : List (List ℕ)) (space : S) → 64 < length osi → IsTable accesses profile t steps osi space None
-  too_many profile t osi space many = λ few. absurd (never (nat_lt 64 (length osi)) ((Decides-ltb 64 (length osi)).1 many) few)
+  pub too_many : (settings : EvaluationSettings) (t : Tables) (osi : List (List ℕ)) (space : S) → 64 < length osi → IsTable accesses settings t steps osi space None
+  too_many settings t osi space many = λ few. absurd (never (nat_lt 64 (length osi)) ((Decides-ltb 64 (length osi)).1 many) few)
     where
       never : (b : Bool) → b ≡ true → (if b then Err (refusal.Evaluation ObjectLimit) else Ok (tt {0})) ≡ Ok tt → ⊥
       never true h few = cc few
@@ -62,7 +62,7 @@ module _ {S : Type 0} (accesses : Accesses S) (steps : ℕ) where
       go true h = let many : 64 < length osi = (Decides-ltb 64 (length osi)).0 h in absurd (omega arith)
       go false h = ap (λ b. if b then Err (refusal.Evaluation ObjectLimit) else Ok tt) h
 
-  pub tables_found : {E : Type 0} (r : Result (Option ℕ) E) (profile : Profile) (t : Tables) (osi : List (List ℕ)) (space : S) (world after : State S) → length osi ≤ 64 → predefined (fresh_as profile t.width osi space) ≡ (Ok tt, world)
-      → IfOk r (IsHowFar (table_loaded accesses steps) (t.dsdt ∷ t.ssdts) world after) → IfOk r (IsTable accesses profile t steps osi space)
-  tables_found (Ok found) profile t osi space world after few is h = table_found found profile t osi space world after (few_enough osi few) is h
-  tables_found (Err e) profile t osi space world after few is h = tt
+  pub tables_found : {E : Type 0} (r : Result (Option ℕ) E) (settings : EvaluationSettings) (t : Tables) (osi : List (List ℕ)) (space : S) (world after : State S) → length osi ≤ 64 → predefined (fresh_as settings t.width osi space) ≡ (Ok tt, world)
+      → IfOk r (IsHowFar (table_loaded accesses steps) (t.dsdt ∷ t.ssdts) world after) → IfOk r (IsTable accesses settings t steps osi space)
+  tables_found (Ok found) settings t osi space world after few is h = table_found found settings t osi space world after (few_enough osi few) is h
+  tables_found (Err e) settings t osi space world after few is h = tt

@@ -9,7 +9,7 @@ use Rattle.ar_space.specs.declared.refusal.RoutingFault.TheVariants.{Avoided, Mi
 use Rattle.ar_tables.specs.declared.mode.Mode.{Mode}
 use Rattle.ar_tables.specs.declared.tables.Tables.{Tables}
 use Rattle.aml_path.specs.declared.segment.Seg.{Seg}
-use Rattle.aml_meaning.specs.declared.profile.Profile.{Profile}
+use Rattle.aml_meaning.specs.declared.settings.EvaluationSettings.{EvaluationSettings}
 use Rattle.aml_meaning.specs.Given as given
 use Rattle.aml_meaning.specs.Predefined.{fresh_as, predefined}
 use Rattle.aml_meaning.specs.State.{State}
@@ -65,19 +65,19 @@ module _ {S : Type 0} (accesses : Accesses S) where
 
   -- The table with this number, the DSDT being 0, is refused; those before it are loaded, from a world in which nothing is declared. So
   -- is loading all.
-  pub record IsTableRefused (profile : Profile) (t : Tables) (steps : ℕ) (osi : List (List ℕ)) (space : S) (number : ℕ) : Type 0 where
+  pub record IsTableRefused (settings : EvaluationSettings) (t : Tables) (steps : ℕ) (osi : List (List ℕ)) (space : S) (number : ℕ) : Type 0 where
     pub world : State S
-    pub is_world : predefined (fresh_as profile t.width osi space) ≡ (Ok tt, world)
+    pub is_world : predefined (fresh_as settings t.width osi space) ≡ (Ok tt, world)
     pub after : State S
     pub refusal : Refusal
     pub table : List ℕ
     pub is_first : IsFirstRefused (table_loaded accesses steps) (t.dsdt ∷ t.ssdts) number table world after refusal
-    pub is_run : loaded_tables accesses t steps osi (fresh_as profile t.width osi space) ≡ (Err refusal, after)
+    pub is_run : loaded_tables accesses t steps osi (fresh_as settings t.width osi space) ≡ (Err refusal, after)
 
   -- which table is refused; where none is, all are loaded, unless `_OSI` is to know too many texts
-  abbrev pub IsTable : Profile → Tables → ℕ → List (List ℕ) → S → Option ℕ → Type 0
-  IsTable profile t steps osi space None = few_texts osi ≡ Ok tt → (after : State S) × (loaded_tables accesses t steps osi (fresh_as profile t.width osi space) ≡ (Ok tt, after))
-  IsTable profile t steps osi space (Some number) = IsTableRefused profile t steps osi space number
+  abbrev pub IsTable : EvaluationSettings → Tables → ℕ → List (List ℕ) → S → Option ℕ → Type 0
+  IsTable settings t steps osi space None = few_texts osi ≡ Ok tt → (after : State S) × (loaded_tables accesses t steps osi (fresh_as settings t.width osi space) ≡ (Ok tt, after))
+  IsTable settings t steps osi space (Some number) = IsTableRefused settings t steps osi space number
 
   -- ---- initializing
 

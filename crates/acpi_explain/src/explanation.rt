@@ -52,7 +52,10 @@ impl Explanation {
         ensures { IfOk result (IsExplanation refusal stage (shown_access refusal last) evaluation.steps) }
     {
         let access = shown_access(&refusal, last);
-        let help = help_lines(alloc, &help_for(refusal.number(), evaluation.profile))?;
+        let help = help_lines(
+            alloc,
+            &help_for(refusal.number(), evaluation.settings.profile),
+        )?;
         let traced = trace_text(alloc, trace, &stage, evaluation.steps)?;
         let text = refused_text(alloc, &refusal, &help, &stage, &traced, access)?;
         Ok(Explanation {

@@ -15,7 +15,7 @@ pub struct Help {
 }
 
 /// All refusals, in the order of their numbers.
-const ROWS: [Help; 58] = [
+const ROWS: [Help; 59] = [
     Help {
         number: 1,
         name: "NoRegister",
@@ -305,6 +305,11 @@ const ROWS: [Help; 58] = [
         number: 143,
         name: "TextTooLong",
         help: "give the tables alone, in place of a dump of the memory",
+    },
+    Help {
+        number: 144,
+        name: "DepthSetting",
+        help: "raise --calls or --levels: calls (with _OSI, _SEG, _BBN and _ADR) or terms nest deeper than these allow",
     },
 ];
 

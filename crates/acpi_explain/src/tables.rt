@@ -7,7 +7,7 @@ ghost use Rattle.acpi_explain.specs.Stages.{IsTable};
 
 use crate::halt::is_refused;
 use aml_interp::load;
-use aml_meaning::{Profile, World};
+use aml_meaning::{EvaluationSettings, World};
 use aml_objects::Octets;
 use ar_space::{Refusal, Space};
 use ar_tables::{Table, Tables};
@@ -80,18 +80,18 @@ fn refused_number<S: Space>(
 /// Those before it are loaded, and it is refused in the world that they leave.
 pub fn refused_table<S: Space + Drop>(
     alloc: Global,
-    profile: Profile,
+    settings: EvaluationSettings,
     tables: &Tables,
     space: S,
     steps: u64,
     osi: Vec<Octets>,
 ) -> Result<Option<usize>, AllocError>
-    ensures { IfOk result (IsTable S.accesses profile tables.now steps osi.items space) }
+    ensures { IfOk result (IsTable S.accesses settings tables.now steps osi.items space) }
 {
     if osi.len() > MAX_TEXTS {
         return Ok(None);
     }
-    match World::with_profile(alloc, profile, tables.width, osi, space) {
+    match World::with_settings(alloc, settings, tables.width, osi, space) {
         Ok(mut world) => {
             let number = refused_number(alloc, &mut world, tables, steps);
             // (by a call: what a scope drops at its end is dropped part by part, and long to prove)

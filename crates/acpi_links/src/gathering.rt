@@ -127,7 +127,6 @@ pub(crate) fn gathering(
     ensures posed { IfOk result (λ g. g.problem ≡ problem_of avoid.now sci g.links g.pins) }
     ensures fits { IfOk result (λ g. Fits g.problem) }
     ensures few_wired { IfOk result (λ g. length g.problem.wired ≤ 4096) }
-    ensures few_pins { IfOk result (λ g. length g.pins ≤ 4096) }
     ensures same_pins { IfOk result (λ g. g.pins ≡ pins.items) }
     ensures same_links { IfOk result (λ g. g.links ≡ links.items) }
 {

@@ -10,7 +10,7 @@ mod mode;
 mod named_tables;
 mod nodes;
 
-pub use aml_meaning::{Profile, Trace, TraceName, TracePlace};
+pub use aml_meaning::{EvaluationSettings, Nesting, Profile, Trace, TraceName, TracePlace};
 pub use ar_tables::Mode;
 pub use buses::{PciBus, prt};
 pub use kind::Kind;

@@ -10,7 +10,7 @@ ghost use Rattle.acpi_machine.specs.Loading.{few_texts, each_loaded, all_loaded,
 
 use crate::machine::Machine;
 use aml_interp::load;
-use aml_meaning::{PassedOver, Profile, Trace, World};
+use aml_meaning::{EvaluationSettings, PassedOver, Profile, Trace, World};
 use aml_objects::Octets;
 use ar_space::{EvaluationFault, Refusal, Space};
 use ar_tables::{Mode, Table, Tables};
@@ -45,30 +45,33 @@ pub fn load_tables<S: Space>(
     ensures space { IfErr result (λ refused. refused.0 ≢ OutOfMemory →
         (loaded_tables S.accesses tables steps osi.items (fresh tables.width osi.items space)).1.space ≡ refused.1) }
 {
-    load_tables_as(alloc, Profile::Core, tables, space, steps, osi)
+    let settings = EvaluationSettings::of(Profile::Core);
+    load_tables_as(alloc, settings, tables, space, steps, osi)
 }
 
-/// As `load_tables`, with the AML evaluated in this profile, which `Machine::profile` shows and nothing changes. It
-/// also decides about exclusive offers and about a `_HID` that is a control method.
+/// As `load_tables`, with the AML evaluated by these settings, which `Machine::profile` and `Machine::nesting` show and
+/// nothing changes: in a profile, which also decides about exclusive offers and about a `_HID` that is a control
+/// method, and within a depth of calls and of terms. `EvaluationSettings::of(Profile::Wide)` are those of the wide
+/// profile.
 pub fn load_tables_as<S: Space>(
     alloc: Global,
-    profile: Profile,
+    settings: EvaluationSettings,
     tables: Tables,
     space: S,
     steps: u64,
     osi: Vec<Octets>,
 ) -> Result<Machine<S>, (Refusal, S)>
     ensures world { IfOk result (λ machine. loaded_tables S.accesses tables steps osi.items
-        (fresh_as profile tables.width osi.items space) ≡ (Ok tt, machine.world)) }
+        (fresh_as settings tables.width osi.items space) ≡ (Ok tt, machine.world)) }
     ensures machine { IfOk result (λ machine. machine ≡ machine_of tables steps machine.world) }
     ensures refusal { IfErr result (λ refused. refused.0 ≢ OutOfMemory →
-        (loaded_tables S.accesses tables steps osi.items (fresh_as profile tables.width osi.items space)).0 ≡
+        (loaded_tables S.accesses tables steps osi.items (fresh_as settings tables.width osi.items space)).0 ≡
         Err refused.0) }
     ensures space { IfErr result (λ refused. refused.0 ≢ OutOfMemory →
-        (loaded_tables S.accesses tables steps osi.items (fresh_as profile tables.width osi.items space)).1.space ≡
+        (loaded_tables S.accesses tables steps osi.items (fresh_as settings tables.width osi.items space)).1.space ≡
         refused.1) }
 {
-    match load_tables_traced(alloc, profile, tables, space, steps, osi) {
+    match load_tables_traced(alloc, settings, tables, space, steps, osi) {
         Ok(machine) => Ok(machine),
         Err((refusal, space, trace, passed)) => {
             drop(trace);
@@ -82,30 +85,30 @@ pub fn load_tables_as<S: Space>(
 /// passed over before.
 pub fn load_tables_traced<S: Space>(
     alloc: Global,
-    profile: Profile,
+    settings: EvaluationSettings,
     tables: Tables,
     space: S,
     steps: u64,
     osi: Vec<Octets>,
 ) -> Result<Machine<S>, (Refusal, S, Trace, PassedOver)>
     ensures world { IfOk result (λ machine. loaded_tables S.accesses tables steps osi.items
-        (fresh_as profile tables.width osi.items space) ≡ (Ok tt, machine.world)) }
+        (fresh_as settings tables.width osi.items space) ≡ (Ok tt, machine.world)) }
     ensures machine { IfOk result (λ machine. machine ≡ machine_of tables steps machine.world) }
     ensures refusal { IfErr result (λ refused. refused.0 ≢ OutOfMemory →
-        (loaded_tables S.accesses tables steps osi.items (fresh_as profile tables.width osi.items space)).0 ≡
+        (loaded_tables S.accesses tables steps osi.items (fresh_as settings tables.width osi.items space)).0 ≡
         Err refused.0) }
     ensures space { IfErr result (λ refused. refused.0 ≢ OutOfMemory →
-        (loaded_tables S.accesses tables steps osi.items (fresh_as profile tables.width osi.items space)).1.space ≡
+        (loaded_tables S.accesses tables steps osi.items (fresh_as settings tables.width osi.items space)).1.space ≡
         refused.1) }
     ensures passed { IfErr result (λ refused. refused.0 ≢ OutOfMemory →
-        (loaded_tables S.accesses tables steps osi.items (fresh_as profile tables.width osi.items space)).1.passed ≡
+        (loaded_tables S.accesses tables steps osi.items (fresh_as settings tables.width osi.items space)).1.passed ≡
         refused.3) }
 {
     match few_texts(&osi) {
         Ok(()) => {}
         Err(refusal) => return Err((refusal, space, Trace::new(alloc), PassedOver::new(alloc))),
     }
-    let mut world = match World::with_profile(alloc, profile, tables.width, osi, space) {
+    let mut world = match World::with_settings(alloc, settings, tables.width, osi, space) {
         Ok(world) => world,
         Err((refusal, space)) => {
             return Err((refusal, space, Trace::new(alloc), PassedOver::new(alloc)));

@@ -5,6 +5,7 @@ use Rattle.ar_tables.specs.declared.mode.Mode.{Mode}
 use Rattle.ar_tables.specs.declared.mode.Mode.TheVariants.{Pic, Apic}
 use Rattle.aml_meaning.specs.declared.profile.Profile.{Profile}
 use Rattle.aml_meaning.specs.declared.profile.Profile.TheVariants.{Core, Wide}
+use Rattle.aml_meaning.specs.declared.settings.Nesting.{Nesting}
 use Rattle.recorded_space.specs.declared.exchange.Exchange.{Exchange}
 use Rattle.recorded_route.specs.declared.ending.Ending.{Ending}
 use Rattle.recorded_route.specs.declared.ending.Ending.TheVariants as ends
@@ -37,12 +38,26 @@ flag_of n = if n == 0 then Some false else (if n == 1 then Some true else None)
 abbrev pub steps_of : ℕ → Option ℕ
 steps_of n = if n == 0 then None else (if nat_lt 1000000000 n then None else Some n)
 
-abbrev settings_with : Option (Profile × Mode) → Option ℕ → Option Bool → Option Bool → Option Settings
-settings_with (Some mode) (Some steps) (Some dry) (Some kernel) = Some (record { profile = mode.0; mode = mode.1; steps = steps; dry = dry; kernel = kernel })
-settings_with _ _ _ _ = None
+abbrev pub calls_of : ℕ → Option ℕ
+calls_of n = if n == 0 then Some 32 else (if nat_lt 32 n then None else Some n)
+
+abbrev pub levels_of : ℕ → Option ℕ
+levels_of n = if n == 0 then Some 64 else (if nat_lt 64 n then None else Some n)
+
+abbrev nesting_with : Option ℕ → Option ℕ → Option Nesting
+nesting_with (Some calls) (Some levels) = Some (record { calls = calls; levels = levels })
+nesting_with _ _ = None
+
+-- how deep calls and terms may be
+abbrev pub nesting_of : ℕ → ℕ → Option Nesting
+nesting_of calls levels = nesting_with (calls_of calls) (levels_of levels)
+
+abbrev settings_with : Option (Profile × Mode) → Option ℕ → Option Bool → Option Bool → Option Nesting → Option Settings
+settings_with (Some mode) (Some steps) (Some dry) (Some kernel) (Some nesting) = Some (record { evaluation = record { profile = mode.0; nesting = nesting }; mode = mode.1; steps = steps; dry = dry; kernel = kernel })
+settings_with _ _ _ _ _ = None
 
 abbrev pub settings_of : CallSettings → Option Settings
-settings_of s = settings_with (mode_of s.mode) (steps_of s.steps) (flag_of s.dry) (flag_of s.kernel)
+settings_of s = settings_with (mode_of s.mode) (steps_of s.steps) (flag_of s.dry) (flag_of s.kernel) (nesting_of s.calls s.levels)
 
 -- a number of the settings or of an entry means nothing
 abbrev pub IsMalformed : CallSettings → List CallAccess → Type 0

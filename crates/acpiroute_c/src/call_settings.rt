@@ -1,8 +1,9 @@
 //! How a machine is configured, as C has it.
 ghost use Rattle.std.specs.Prelude.{◌≡◌};
 ghost use Rattle.acpiroute_c.specs.RecordCalls.{mode_of, flag_of, steps_of, settings_of};
+ghost use Rattle.acpiroute_c.specs.RecordCalls.{calls_of, levels_of, nesting_of};
 
-use acpi_machine::{Mode, Profile};
+use acpi_machine::{EvaluationSettings, Mode, Nesting, Profile};
 use recorded_route::Settings;
 
 /// How a machine is configured.
@@ -17,6 +18,10 @@ pub struct CallSettings {
     pub dry: u8,
     /// 1 where the report is to have the lines for a kernel, and else 0.
     pub kernel: u8,
+    /// How deep calls may nest (control methods, `_OSI`, `_SEG`, `_BBN` and `_ADR`), from 1 to 32; 0 for 32.
+    pub calls: u8,
+    /// How deep terms may nest, from 1 to 64; 0 for 64.
+    pub levels: u8,
 }
 
 /// The profile and the interrupt controllers.
@@ -52,6 +57,39 @@ fn steps_of(steps: u64) -> Option<u64>
     }
 }
 
+fn calls_of(calls: u8) -> Option<usize>
+    ensures { result ≡ calls_of calls }
+{
+    if calls == 0 {
+        Some(32)
+    } else if calls > 32 {
+        None
+    } else {
+        Some(usize::from(calls))
+    }
+}
+
+fn levels_of(levels: u8) -> Option<usize>
+    ensures { result ≡ levels_of levels }
+{
+    if levels == 0 {
+        Some(64)
+    } else if levels > 64 {
+        None
+    } else {
+        Some(usize::from(levels))
+    }
+}
+
+/// How deep calls and terms may be, where both numbers mean something.
+fn nesting_of(calls: u8, levels: u8) -> Option<Nesting>
+    ensures { result ≡ nesting_of calls levels }
+{
+    let calls = calls_of(calls)?;
+    let levels = levels_of(levels)?;
+    Some(Nesting { calls, levels })
+}
+
 /// The settings, where each of them means something.
 pub(crate) fn settings_of(settings: &CallSettings) -> Option<Settings>
     ensures { result ≡ settings_of settings.now }
@@ -60,8 +98,9 @@ pub(crate) fn settings_of(settings: &CallSettings) -> Option<Settings>
     let steps = steps_of(settings.steps)?;
     let dry = flag_of(settings.dry)?;
     let kernel = flag_of(settings.kernel)?;
+    let nesting = nesting_of(settings.calls, settings.levels)?;
     Some(Settings {
-        profile,
+        evaluation: EvaluationSettings { profile, nesting },
         mode,
         steps,
         dry,

@@ -63,7 +63,7 @@ left_passed t steps (Err e) w m is = absurd (cc is)
 found_so : (evaluation : Evaluation) (x : Outcome Tables) (space : Registers) (osi : List (List ℕ)) (m : MachineState Registers) → (x >>= (λ t. machine_with evaluation t space osi)) ≡ Ok m → found_passed evaluation x space osi ≡ m.world.passed
 unfolding machine_with ◌>>=◌
 found_so evaluation (Ok t) space osi m is =
-    left_passed t evaluation.steps (loaded_tables register_accesses t evaluation.steps osi (fresh_as evaluation.profile t.width osi space)).0 (loaded_tables register_accesses t evaluation.steps osi (fresh_as evaluation.profile t.width osi space)).1 m is
+    left_passed t evaluation.steps (loaded_tables register_accesses t evaluation.steps osi (fresh_as evaluation.settings t.width osi space)).0 (loaded_tables register_accesses t evaluation.steps osi (fresh_as evaluation.settings t.width osi space)).1 m is
 found_so evaluation (Err e) space osi m is = absurd (cc is)
 
 said_so : (evaluation : Evaluation) (x : Outcome MachineText) (m : MachineState Registers) → (x >>= (λ s. tables_of s.space.memory s.rsdp >>= (λ t. machine_with evaluation t (registers_of evaluation s.space) s.osi))) ≡ Ok m → said_passed evaluation x ≡ m.world.passed

@@ -113,14 +113,14 @@ module _ {S : Type 0} (accesses : Accesses S) (q : Asking) (t : Tables) (osi : L
   same_world_refusal : (x y : Refusal) (w v : State S) → ◌≡◌ {A = Outcome (Unit {0}) × State S} (Err x, w) (Err y, v) → x ≡ y
   same_world_refusal x y w v h = let same : ◌≡◌ {A = Outcome (Unit {0})} (Err x) (Err y) = ap (λ p. p.0) h in cc same
 
-  pub table_refused : (n : ℕ) (found : Option ℕ) → found ≡ Some n → IsTable accesses q.evaluation.profile t q.evaluation.steps osi before found → IsStageIn accesses (Some phases.Loading) q (Ok t) osi before (Some (stages.Loading n))
+  pub table_refused : (n : ℕ) (found : Option ℕ) → found ≡ Some n → IsTable accesses q.evaluation.settings t q.evaluation.steps osi before found → IsStageIn accesses (Some phases.Loading) q (Ok t) osi before (Some (stages.Loading n))
   table_refused n found same h =
-      let at : IsTableRefused accesses q.evaluation.profile t q.evaluation.steps osi before n = subst (λ f. IsTable accesses q.evaluation.profile t q.evaluation.steps osi before f) same h in
+      let at : IsTableRefused accesses q.evaluation.settings t q.evaluation.steps osi before n = subst (λ f. IsTable accesses q.evaluation.settings t q.evaluation.steps osi before f) same h in
       table_told (Some (stages.Loading n)) (λ x w is. inl (n, refl, at, same_world_refusal at.refusal x at.after w (sym at.is_run ∙ is)))
 
-  pub none_refused : (found : Option ℕ) → found ≡ None → IsTable accesses q.evaluation.profile t q.evaluation.steps osi before found → IsStageIn accesses (Some phases.Loading) q (Ok t) osi before None
+  pub none_refused : (found : Option ℕ) → found ≡ None → IsTable accesses q.evaluation.settings t q.evaluation.steps osi before found → IsStageIn accesses (Some phases.Loading) q (Ok t) osi before None
   none_refused found same h =
-      let at : IsTable accesses q.evaluation.profile t q.evaluation.steps osi before None = subst (λ f. IsTable accesses q.evaluation.profile t q.evaluation.steps osi before f) same h in
+      let at : IsTable accesses q.evaluation.settings t q.evaluation.steps osi before None = subst (λ f. IsTable accesses q.evaluation.settings t q.evaluation.steps osi before f) same h in
       table_told None (λ x w is. inr (
         refl,
         λ few.

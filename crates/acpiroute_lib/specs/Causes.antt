@@ -1,20 +1,24 @@
 -- Why a run ends with status 1.
 use Rattle.std.specs.Prelude.{◌≡◌, ◌⊎◌, ℕ, Bool, true, false, List, [], Option, Some, Err}
+use Rattle.clap.specs.Kinds.{IsAmong}
+use Rattle.clap.specs.declared.error.kind.ErrorKind.{ErrorKind}
 use Rattle.ar_space.specs.declared.refusal.Refusal.{Refusal}
 use Rattle.ar_space.specs.declared.refusal.Refusal.TheVariants.{Input, OutOfMemory}
 use Rattle.ar_space.specs.declared.refusal.InputFault.TheVariants.{ReadFault, WriteFault}
 use Rattle.acpiroute_words.specs.declared.request.Request.{Request}
 use Rattle.acpiroute_words.specs.declared.request.Asked.TheVariants.{For}
-use Rattle.acpiroute_words.specs.CommandLine.{asked_of}
+use Rattle.acpiroute_words.specs.CommandLine.{asked_of, faults_of}
 use Rattle.acpiroute_words.specs.Deliveries.{refusal_told}
 use Rattle.acpiroute_words.specs.Held.{Held, Takes}
 use Rattle.acpiroute_words.specs.Input.{input_of, IsInput}
 use Rattle.acpiroute_lib.specs.Passed.{told_passed}
-use Rattle.acpiroute_lib.specs.Runs.{IsAnswerOver}
+use Rattle.acpiroute_lib.specs.Runs.{IsAnswerOver, IsHelp}
 
--- the refusal that the command of the words answers over the input; where that is too long, the refusal of its length
+-- the refusal that the command of the words, in which nothing is wrong, answers over the input; where that is too long, the refusal of
+-- its length
 pub record IsOwnRefusal (words : List (List ℕ)) (input : List ℕ) (r : Refusal) : Type 0 where
   pub request : Request
+  pub no_fault : faults_of words ≡ []
   pub asked : asked_of words ≡ Some (For request)
   pub answers : IsAnswerOver request (input_of input) (Err r)
 
@@ -24,10 +28,12 @@ IsCause words read_failed true input r = r ≡ Input WriteFault
 IsCause words true false input r = r ≡ Input ReadFault
 IsCause words false false input r = (r ≡ OutOfMemory) ⊎ IsOwnRefusal words input r
 
--- the lines before that of a refusal: none where a write failed, else those of what the command of the words passes over
+-- the lines before that of a refusal: those of what the command of the words passes over, where nothing is wrong with them; none where
+-- they ask for help, which can fail to be written
 abbrev pub IsPassed : List (List ℕ) → Bool → Bool → List ℕ → List ℕ → Type 0
-IsPassed words read_failed true input passed = passed ≡ []
-IsPassed words read_failed false input passed = (q : Request) × (asked_of words ≡ Some (For q)) × (passed ≡ told_passed q read_failed input)
+IsPassed words read_failed write_failed input passed =
+    ((q : Request) × (faults_of words ≡ []) × (asked_of words ≡ Some (For q)) × (passed ≡ told_passed q read_failed input))
+    ⊎ ((write_failed ≡ true) × ((k : ErrorKind) × IsHelp k × IsAmong k (faults_of words)) × (passed ≡ []))
 
 -- a run tells a refusal for such a cause, by its line on the errors, the last there
 pub record TellsCause (words : List (List ℕ)) (left : Option (List ℕ)) (read_failed write_failed : Bool) (errors errors2 : Held) : Type 0 where

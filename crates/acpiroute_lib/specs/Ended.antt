@@ -62,7 +62,7 @@ module _ {S : Type 0} (accesses : Accesses S) where
 
   -- tables are loaded over a register space, where `_OSI` knows these texts
   abbrev pub loaded_over : Asking → Tables → List (List ℕ) → S → Outcome (Unit {0}) × State S
-  loaded_over q t osi before = loaded_tables accesses t q.evaluation.steps osi (fresh_as q.evaluation.profile t.width osi before)
+  loaded_over q t osi before = loaded_tables accesses t q.evaluation.steps osi (fresh_as q.evaluation.settings t.width osi before)
 
   -- The run of `route`, or of `eval`: tables are found and loaded, the machine is initialized, and then asked. The first refusal ends it.
   -- It leaves the register space as its accesses made it.

@@ -33,7 +33,7 @@ machine_left t steps w (Err e) = Err e
 -- the tables, loaded over a register space and evaluated like this, where `_OSI` knows these texts
 unfoldable pub machine_with : Evaluation → Tables → Registers → List (List ℕ) → Outcome (MachineState Registers)
 machine_with evaluation t space osi =
-    let l = loaded_tables register_accesses t evaluation.steps osi (fresh_as evaluation.profile t.width osi space) in machine_left t evaluation.steps l.1 l.0
+    let l = loaded_tables register_accesses t evaluation.steps osi (fresh_as evaluation.settings t.width osi space) in machine_left t evaluation.steps l.1 l.0
 
 -- the machine of a machine text: the image of its tables is its memory, and its bytes are the
 -- register space

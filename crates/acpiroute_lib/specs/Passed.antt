@@ -21,7 +21,7 @@ use Rattle.acpiroute_lib.specs.Machines.{Registers, register_accesses, registers
 -- ---- in loading: nothing, where the text or its tables are refused
 
 abbrev pub tables_passed : Evaluation → Tables → Registers → List (List ℕ) → PassedOver
-tables_passed evaluation t space osi = (loaded_tables register_accesses t evaluation.steps osi (fresh_as evaluation.profile t.width osi space)).1.passed
+tables_passed evaluation t space osi = (loaded_tables register_accesses t evaluation.steps osi (fresh_as evaluation.settings t.width osi space)).1.passed
 
 abbrev pub found_passed : Evaluation → Outcome Tables → Registers → List (List ℕ) → PassedOver
 found_passed evaluation (Ok t) space osi = tables_passed evaluation t space osi

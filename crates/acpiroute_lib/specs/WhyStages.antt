@@ -73,7 +73,7 @@ module _ {S : Type 0} (accesses : Accesses S) where
   -- this table is refused by e; or `_OSI` is to know too many texts, and no table is loaded
   abbrev pub IsLoadingStage : Asking → Tables → List (List ℕ) → S → Refusal → Option Stage → Type 0
   IsLoadingStage q t osi before e stage =
-      ((n : ℕ) × (stage ≡ Some (stages.Loading n)) × (h : IsTableRefused accesses q.evaluation.profile t q.evaluation.steps osi before n) × (h.refusal ≡ e))
+      ((n : ℕ) × (stage ≡ Some (stages.Loading n)) × (h : IsTableRefused accesses q.evaluation.settings t q.evaluation.steps osi before n) × (h.refusal ≡ e))
       ⊎ ((stage ≡ None) × (few_texts osi ≢ Ok tt))
 
   -- this call of initializing is

@@ -23,9 +23,10 @@ pub fn route_has_one_answer()
     a_machine_has_one_report_with_options::<Registers>();
 }
 
-/// A run whose status is 1 tells a refusal by its line on the errors: `refused 142` where a write to the output
-/// failed; else `refused 141` where a read failed; else want of memory, or the refusal that the command answers over
-/// the whole input.
+/// A run whose status is 1 tells a refusal by its line on the errors, behind the lines of what was passed over before:
+/// `refused 142` where a write to the output failed; else `refused 141` where a read failed; else want of memory, or
+/// the refusal that the command answers over the whole input, where nothing is wrong with the words. Where the words ask
+/// for help, nothing was passed over, and only its write can fail.
 pub fn a_refusal_of_a_run_has_its_cause()
     ensures { (words : List (List ℕ)) (left : Option (List ℕ)) (read_failed : Bool) (status : ℕ)
         (output output2 errors errors2 : Held) →

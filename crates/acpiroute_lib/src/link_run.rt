@@ -103,7 +103,7 @@ fn loaded_lines(
     let evaluation = asking.evaluation;
     match load_tables_as(
         alloc,
-        evaluation.profile,
+        evaluation.settings,
         tables,
         space,
         evaluation.steps,

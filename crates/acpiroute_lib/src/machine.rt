@@ -56,7 +56,7 @@ fn machine_with(
 {
     match load_tables_traced(
         alloc,
-        evaluation.profile,
+        evaluation.settings,
         tables,
         space,
         evaluation.steps,

@@ -52,7 +52,7 @@ fn table_stage<S: Space + Drop>(
     let evaluation = asking.evaluation;
     let found = refused_table(
         alloc,
-        evaluation.profile,
+        evaluation.settings,
         tables,
         space,
         evaluation.steps,
@@ -98,7 +98,7 @@ fn call_stage<S: Space + Drop>(
     let evaluation = asking.evaluation;
     match load_tables_as(
         alloc,
-        evaluation.profile,
+        evaluation.settings,
         tables,
         space,
         evaluation.steps,
@@ -156,7 +156,7 @@ fn object_stage<S: Space + Drop>(
     let evaluation = asking.evaluation;
     match load_tables_as(
         alloc,
-        evaluation.profile,
+        evaluation.settings,
         tables,
         space,
         evaluation.steps,

@@ -72,7 +72,7 @@ fn watched_tables(
     let evaluation = asking.evaluation;
     match load_tables_traced(
         alloc,
-        evaluation.profile,
+        evaluation.settings,
         tables,
         first_watch(evaluation, space),
         evaluation.steps,
@@ -135,7 +135,7 @@ fn filled_tables(
     let evaluation = asking.evaluation;
     match load_tables_as(
         alloc,
-        evaluation.profile,
+        evaluation.settings,
         tables,
         space,
         evaluation.steps,

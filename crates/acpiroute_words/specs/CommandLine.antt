@@ -7,7 +7,9 @@ use Rattle.clap.specs.declared.builder.action.ArgAction.TheVariants.{SetTrue}
 use Rattle.clap.specs.declared.error.kind.ErrorKind.TheVariants as kind
 use Rattle.ar_tables.specs.declared.mode.Mode.{Mode}
 use Rattle.aml_meaning.specs.declared.profile.Profile.{Profile}
-use Rattle.acpiroute_words.specs.Values.{◌>>=◌, interrupts_named, mode_named, profile_named, arguments_named, steps_named, accesses_named, is_true}
+use Rattle.aml_meaning.specs.declared.settings.Nesting.{Nesting}
+use Rattle.aml_meaning.specs.declared.settings.EvaluationSettings.{EvaluationSettings}
+use Rattle.acpiroute_words.specs.Values.{◌>>=◌, interrupts_named, mode_named, profile_named, arguments_named, steps_named, calls_named, levels_named, accesses_named, is_true}
 use Rattle.acpiroute_words.specs.declared.arguments.Argument.{Argument}
 use Rattle.acpiroute_words.specs.declared.request.Request.TheVariants as request
 use Rattle.acpiroute_words.specs.declared.request.Question.TheVariants as question
@@ -36,6 +38,12 @@ steps_rule = value_rule (codes "steps")
 abbrev pub profile_rule : Rule
 profile_rule = value_rule (codes "profile")
 
+abbrev pub calls_rule : Rule
+calls_rule = value_rule (codes "calls")
+
+abbrev pub levels_rule : Rule
+levels_rule = value_rule (codes "levels")
+
 abbrev pub accesses_rule : Rule
 accesses_rule = value_rule (codes "accesses")
 
@@ -62,11 +70,19 @@ first_route_app = with_rule (with_rule (with_rule (with_rule (new_app (codes "ro
 abbrev pub second_route_app : App
 second_route_app = with_rule (with_rule (with_rule first_route_app spare_rule) spread_rule) kernel_rule
 
+-- `route`, without the options that say how deep calls and terms may be
+abbrev pub third_route_app : App
+third_route_app = with_rule (with_rule second_route_app profile_rule) accesses_rule
+
 abbrev pub route_app : App
-route_app = with_rule (with_rule second_route_app profile_rule) accesses_rule
+route_app = with_rule (with_rule third_route_app calls_rule) levels_rule
+
+-- `names`, without the options that say how deep calls and terms may be
+abbrev pub first_names_app : App
+first_names_app = with_rule (with_rule (with_rule (new_app (codes "names")) steps_rule) profile_rule) accesses_rule
 
 abbrev pub names_app : App
-names_app = with_rule (with_rule (with_rule (new_app (codes "names")) steps_rule) profile_rule) accesses_rule
+names_app = with_rule (with_rule first_names_app calls_rule) levels_rule
 
 -- a path, and then at most seven arguments
 abbrev pub path_rule : Rule
@@ -75,12 +91,16 @@ path_rule = record (new_rule (codes "path")) { value_names = 1; required = true 
 abbrev pub arguments_rule : Rule
 arguments_rule = record (new_rule (codes "arguments")) { value_names = 1; range = Some (record { start_inclusive = 1; end_inclusive = 7 }) }
 
--- `eval`, without its path and its arguments
+-- `eval`, without its path, its arguments, and the options that say how deep calls and terms may be
 abbrev pub first_eval_app : App
 first_eval_app = with_rule (with_rule (with_rule (with_rule (new_app (codes "eval")) mode_rule) steps_rule) profile_rule) accesses_rule
 
+-- `eval`, without its path and its arguments
+abbrev pub second_eval_app : App
+second_eval_app = with_rule (with_rule first_eval_app calls_rule) levels_rule
+
 abbrev pub eval_app : App
-eval_app = with_rule (with_rule first_eval_app path_rule) arguments_rule
+eval_app = with_rule (with_rule second_eval_app path_rule) arguments_rule
 
 abbrev pub check_app : App
 check_app = new_app (codes "check")
@@ -105,8 +125,11 @@ second_why_app = with_rule (with_rule (with_rule first_why_app spare_rule) sprea
 abbrev pub third_why_app : App
 third_why_app = with_rule (with_rule second_why_app profile_rule) accesses_rule
 
+abbrev pub fourth_why_app : App
+fourth_why_app = with_rule (with_rule third_why_app calls_rule) levels_rule
+
 abbrev pub why_app : App
-why_app = with_rule (with_rule (with_rule (with_rule third_why_app registers_rule) question_rule) question_path_rule) arguments_rule
+why_app = with_rule (with_rule (with_rule (with_rule fourth_why_app registers_rule) question_rule) question_path_rule) arguments_rule
 
 -- `acpiroute`, which wants a command, and has a version
 abbrev pub bare_app : App
@@ -129,16 +152,38 @@ profile_of rows = profile_named (first_of (codes "profile") rows)
 abbrev pub accesses_of : List Row → Option (Option ℕ)
 accesses_of rows = accesses_named (first_of (codes "accesses") rows)
 
-unfoldable pub evaluation_by : Option Profile → Option ℕ → Option (Option ℕ) → Option Evaluation
-evaluation_by maybe_profile maybe_steps maybe_accesses = do
+abbrev pub calls_of : List Row → Option ℕ
+calls_of rows = calls_named (first_of (codes "calls") rows)
+
+abbrev pub levels_of : List Row → Option ℕ
+levels_of rows = levels_named (first_of (codes "levels") rows)
+
+unfoldable pub nesting_by : Option ℕ → Option ℕ → Option Nesting
+nesting_by maybe_calls maybe_levels = do
+  calls ← maybe_calls
+  levels ← maybe_levels
+  Some (record { calls = calls; levels = levels })
+
+unfoldable pub settings_by : Option Profile → Option Nesting → Option EvaluationSettings
+settings_by maybe_profile maybe_nesting = do
   profile ← maybe_profile
+  nesting ← maybe_nesting
+  Some (record { profile = profile; nesting = nesting })
+
+-- what AML is evaluated with
+abbrev pub settings_of : List Row → Option EvaluationSettings
+settings_of rows = settings_by (profile_of rows) (nesting_by (calls_of rows) (levels_of rows))
+
+unfoldable pub evaluation_by : Option EvaluationSettings → Option ℕ → Option (Option ℕ) → Option Evaluation
+evaluation_by maybe_settings maybe_steps maybe_accesses = do
+  settings ← maybe_settings
   steps ← maybe_steps
   accesses ← maybe_accesses
-  Some (record { profile = profile; steps = steps; accesses = accesses })
+  Some (record { settings = settings; steps = steps; accesses = accesses })
 
 -- how AML is evaluated
 abbrev pub evaluation_of : List Row → Option Evaluation
-evaluation_of rows = evaluation_by (profile_of rows) (steps_of rows) (accesses_of rows)
+evaluation_of rows = evaluation_by (settings_of rows) (steps_of rows) (accesses_of rows)
 
 abbrev pub path_of : List Row → Option Text
 path_of rows = first_of (codes "path") rows

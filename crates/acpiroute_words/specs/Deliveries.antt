@@ -25,11 +25,11 @@ abbrev pub reply_of : List ℕ → Outcome Written → Reply
 reply_of passed (Ok answer) = record { text = answer.text; line = passed; status = status_of answer.completion }
 reply_of passed (Err r) = record { text = []; line = refusal_told passed r; status = 1 }
 
--- A reply, delivered. Where a write to the output failed, the line is that of the fault, and the status is 1. Where a write to
--- the errors failed, nothing else is changed by it.
+-- A reply, delivered. Where a write to the output failed, the line of the fault stands behind its lines, and the status is 1. Where a write
+-- to the errors failed, nothing else is changed by it.
 pub record Delivered (r : Reply) (status : ℕ) (output output2 errors errors2 : Held) : Type 0 where
   pub text : Takes output output2 r.text
-  pub line : Takes errors errors2 (if output2.has_failed then error_line (Input WriteFault) else r.line)
+  pub line : Takes errors errors2 (if output2.has_failed then r.line ++ error_line (Input WriteFault) else r.line)
   pub status_is : status ≡ (if output2.has_failed then 1 else r.status)
 
 -- an answer is told as it is; memory may run out for the line of a refusal

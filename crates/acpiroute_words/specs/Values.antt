@@ -49,6 +49,26 @@ steps_named (Some t) = do
   n ← number t
   within_steps n
 
+-- how many calls may be made one inside another
+abbrev pub within_calls : ℕ → Option ℕ
+within_calls n = if nat_le 1 n && nat_le n 32 then Some n else None
+
+abbrev pub calls_named : Option Text → Option ℕ
+calls_named None = Some 32
+calls_named (Some t) = do
+  n ← number t
+  within_calls n
+
+-- how many terms may be one inside another
+abbrev pub within_levels : ℕ → Option ℕ
+within_levels n = if nat_le 1 n && nat_le n 64 then Some n else None
+
+abbrev pub levels_named : Option Text → Option ℕ
+levels_named None = Some 64
+levels_named (Some t) = do
+  n ← number t
+  within_levels n
+
 -- a bound of accesses, and none where none is given
 abbrev pub accesses_named : Option Text → Option (Option ℕ)
 accesses_named None = Some None

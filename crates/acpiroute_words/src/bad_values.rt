@@ -4,7 +4,9 @@ ghost use Rattle.std.specs.Prelude.{◌≡◌, IfOk};
 ghost use Rattle.clap.specs.Words.{kind_of};
 
 use crate::command_line::{eval_command, names_command, route_command};
-use crate::values::{accesses_named, argument, mode_named, profile_named, steps_named};
+use crate::values::{
+    accesses_named, argument, calls_named, levels_named, mode_named, profile_named, steps_named,
+};
 use crate::why_words::why_command;
 use clap::error::ErrorKind;
 use clap::{ArgMatches, Command, Error};
@@ -68,6 +70,30 @@ fn bad_accesses<'a>(matches: &ArgMatches<'a>) -> Option<BadValue<'a>> {
     })
 }
 
+fn bad_calls<'a>(matches: &ArgMatches<'a>) -> Option<BadValue<'a>> {
+    let value = matches.get_str("calls")?;
+    if calls_named(Some(value)).is_some() {
+        return None;
+    }
+    Some(BadValue {
+        value,
+        option: "--calls <N>",
+        takes: "a number from 1 to 32",
+    })
+}
+
+fn bad_levels<'a>(matches: &ArgMatches<'a>) -> Option<BadValue<'a>> {
+    let value = matches.get_str("levels")?;
+    if levels_named(Some(value)).is_some() {
+        return None;
+    }
+    Some(BadValue {
+        value,
+        option: "--levels <N>",
+        takes: "a number from 1 to 64",
+    })
+}
+
 fn bad_argument<'a>(
     alloc: Global,
     matches: &ArgMatches<'a>,
@@ -113,6 +139,8 @@ fn first_bad<'a>(
         .or_else(|| bad_steps(matches))
         .or_else(|| bad_profile(matches))
         .or_else(|| bad_accesses(matches))
+        .or_else(|| bad_calls(matches))
+        .or_else(|| bad_levels(matches))
     {
         Some(bad) => Ok(Some(bad)),
         None => match bad_argument(alloc, matches)? {

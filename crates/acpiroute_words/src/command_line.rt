@@ -1,145 +1,34 @@
 //! The command line: one level of commands, whose values are plain texts for clap and read here.
 ghost use Rattle.std.specs.Prelude.{◌≡◌, IfOk, IfErr, Some, map, option_map, false, codes};
-ghost use Rattle.clap.specs.Words.{app_of, new_app, rows_of, rule_of, found_of, subcommand_rows_of, FailsBy};
+ghost use Rattle.clap.specs.Words.{app_of, new_app, rows_of, found_of, subcommand_rows_of, FailsBy};
 ghost use Rattle.clap.specs.declared.builder.command.Command.TheViews.{out-Command as fields_of};
-ghost use Rattle.acpiroute_words.specs.CommandLine.{app, bare_app, first_route_app, second_route_app, route_app};
-ghost use Rattle.acpiroute_words.specs.CommandLine.{names_app, first_eval_app, eval_app, check_app, mode_rule, steps_rule};
-ghost use Rattle.acpiroute_words.specs.CommandLine.{profile_rule, accesses_rule, dry_rule, avoid_rule};
-ghost use Rattle.acpiroute_words.specs.CommandLine.{spare_rule, spread_rule, path_rule, arguments_rule, evaluation_by, evaluation_of};
-ghost use Rattle.acpiroute_words.specs.CommandLine.{kernel_rule, flags_of};
-ghost use Rattle.acpiroute_words.specs.CommandLine.{route_with, route_by, route_of, names_of, eval_of, eval_with};
-ghost use Rattle.acpiroute_words.specs.CommandLine.{parsed_command, parsed_subcommand, clap_faults, command_of};
-ghost use Rattle.acpiroute_words.specs.CommandLine.{faults_of, asked_of};
+ghost use Rattle.acpiroute_words.specs.CommandLine.{app, bare_app, first_route_app, second_route_app};
+ghost use Rattle.acpiroute_words.specs.CommandLine.{third_route_app, route_app, nesting_by, settings_by};
+ghost use Rattle.acpiroute_words.specs.CommandLine.{first_names_app, names_app, first_eval_app, second_eval_app};
+ghost use Rattle.acpiroute_words.specs.CommandLine.{eval_app, check_app, evaluation_by, evaluation_of, settings_of};
+ghost use Rattle.acpiroute_words.specs.CommandLine.{flags_of, route_with, route_by, route_of, names_of, eval_of};
+ghost use Rattle.acpiroute_words.specs.CommandLine.{eval_with, parsed_command, parsed_subcommand, clap_faults};
+ghost use Rattle.acpiroute_words.specs.CommandLine.{command_of, faults_of, asked_of};
 
 use crate::arguments::Arguments;
 use crate::bad_values::bad_value;
 use crate::help_texts;
 use crate::interrupts::Interrupts;
+use crate::options::{
+    accesses_arg, arguments_arg, avoid_arg, calls_arg, dry_arg, kernel_arg, levels_arg, mode_arg,
+    path_arg, profile_arg, spare_arg, spread_arg, steps_arg,
+};
 use crate::request::{Asked, Evaluation, Flags, Request};
 use crate::values::{
-    accesses_named, arguments_named, interrupts_named, is_true, mode_named, profile_named,
-    steps_named,
+    accesses_named, arguments_named, calls_named, interrupts_named, is_true, levels_named,
+    mode_named, profile_named, steps_named,
 };
 use crate::why_words::{why_command, why_of};
-use aml_meaning::Profile;
+use aml_meaning::{EvaluationSettings, Nesting, Profile};
 use ar_space::PathText;
-use clap::{Arg, ArgAction, ArgMatches, Command, Error};
+use clap::{ArgMatches, Command, Error};
 use route_report::Mode;
 use std::alloc::{AllocError, Global};
-
-pub(crate) fn mode_arg<'a>(alloc: Global) -> Arg<'a>
-    ensures rule { rule_of result ≡ mode_rule }
-    ensures local { result.global ≡ false }
-{
-    Arg::new(alloc, "mode").long("mode").value_name("MODE").help(
-        "Which interrupt controllers are used: apic or pic, by default apic",
-    )
-}
-
-pub(crate) fn steps_arg<'a>(alloc: Global) -> Arg<'a>
-    ensures rule { rule_of result ≡ steps_rule }
-    ensures local { result.global ≡ false }
-{
-    Arg::new(alloc, "steps").long("steps").value_name("N").help(
-        "The budget of steps, from 1 to 1000000000, by default 1000000",
-    )
-}
-
-pub(crate) fn profile_arg<'a>(alloc: Global) -> Arg<'a>
-    ensures rule { rule_of result ≡ profile_rule }
-    ensures local { result.global ≡ false }
-{
-    Arg::new(alloc, "profile")
-        .long("profile")
-        .value_name("PROFILE")
-        .help("How much of AML is evaluated: core or wide, by default core")
-}
-
-pub(crate) fn accesses_arg<'a>(alloc: Global) -> Arg<'a>
-    ensures rule { rule_of result ≡ accesses_rule }
-    ensures local { result.global ≡ false }
-{
-    Arg::new(alloc, "accesses")
-        .long("accesses")
-        .value_name("N")
-        .help(
-            "How many accesses of registers are made, each further one refused as 2; by default all",
-        )
-}
-
-pub(crate) fn dry_arg<'a>(alloc: Global) -> Arg<'a>
-    ensures rule { rule_of result ≡ dry_rule }
-    ensures local { result.global ≡ false }
-{
-    Arg::new(alloc, "dry")
-        .long("dry")
-        .action(ArgAction::SetTrue)
-        .help("Set no link device")
-}
-
-pub(crate) fn avoid_arg<'a>(alloc: Global) -> Arg<'a>
-    ensures rule { rule_of result ≡ avoid_rule }
-    ensures local { result.global ≡ false }
-{
-    Arg::new(alloc, "avoid")
-        .long("avoid")
-        .value_name("LIST")
-        .help(
-            "Interrupts that no link device is given: 1 to 255 decimal numbers, separated by commas, as 3,4,7",
-        )
-}
-
-pub(crate) fn spare_arg<'a>(alloc: Global) -> Arg<'a>
-    ensures rule { rule_of result ≡ spare_rule }
-    ensures local { result.global ≡ false }
-{
-    Arg::new(alloc, "spare")
-        .long("spare")
-        .action(ArgAction::SetTrue)
-        .help("Give no link device an interrupt that the _CRS of another present device has")
-}
-
-pub(crate) fn spread_arg<'a>(alloc: Global) -> Arg<'a>
-    ensures rule { rule_of result ≡ spread_rule }
-    ensures local { result.global ≡ false }
-{
-    Arg::new(alloc, "spread")
-        .long("spread")
-        .action(ArgAction::SetTrue)
-        .help("Let link devices share interrupts as little as they can")
-}
-
-pub(crate) fn kernel_arg<'a>(alloc: Global) -> Arg<'a>
-    ensures rule { rule_of result ≡ kernel_rule }
-    ensures local { result.global ≡ false }
-{
-    Arg::new(alloc, "kernel")
-        .long("kernel")
-        .action(ArgAction::SetTrue)
-        .help("Write how interrupts are triggered, and the bus of each routing table, for a kernel")
-}
-
-fn path_arg<'a>(alloc: Global) -> Arg<'a>
-    ensures rule { rule_of result ≡ path_rule }
-    ensures local { result.global ≡ false }
-{
-    Arg::new(alloc, "path")
-        .value_name("PATH")
-        .required(true)
-        .help("The path of an object, as \\_SB_.PCI0._PRT")
-}
-
-pub(crate) fn arguments_arg<'a>(alloc: Global) -> Arg<'a>
-    ensures rule { rule_of result ≡ arguments_rule }
-    ensures local { result.global ≡ false }
-{
-    Arg::new(alloc, "arguments")
-        .value_name("N")
-        .num_args(1..=7)
-        .help(
-            "The arguments of a control method, at most 7: decimal numbers below 2^64, s:TEXT for a string, b:HEX for a buffer",
-        )
-}
 
 /// `route`, without its options.
 fn bare_route_command<'a>(alloc: Global) -> Command<'a>
@@ -176,8 +65,10 @@ fn second_route_command<'a>(alloc: Global) -> Result<Command<'a>, AllocError>
         .arg(kernel_arg(alloc))
 }
 
-pub(crate) fn route_command<'a>(alloc: Global) -> Result<Command<'a>, AllocError>
-    ensures app { IfOk result (λ c. app_of c ≡ route_app) }
+/// `route`, without the options that say how deep calls and terms may be.
+#[inline(never)]
+fn third_route_command<'a>(alloc: Global) -> Result<Command<'a>, AllocError>
+    ensures app { IfOk result (λ c. app_of c ≡ third_route_app) }
     ensures local { IfOk result (λ c. (fields_of c).has_globals ≡ false) }
 {
     second_route_command(alloc)?
@@ -185,8 +76,18 @@ pub(crate) fn route_command<'a>(alloc: Global) -> Result<Command<'a>, AllocError
         .arg(accesses_arg(alloc))
 }
 
-pub(crate) fn names_command<'a>(alloc: Global) -> Result<Command<'a>, AllocError>
-    ensures app { IfOk result (λ c. app_of c ≡ names_app) }
+pub(crate) fn route_command<'a>(alloc: Global) -> Result<Command<'a>, AllocError>
+    ensures app { IfOk result (λ c. app_of c ≡ route_app) }
+    ensures local { IfOk result (λ c. (fields_of c).has_globals ≡ false) }
+{
+    third_route_command(alloc)?
+        .arg(calls_arg(alloc))?
+        .arg(levels_arg(alloc))
+}
+
+/// `names`, without the options that say how deep calls and terms may be.
+fn first_names_command<'a>(alloc: Global) -> Result<Command<'a>, AllocError>
+    ensures app { IfOk result (λ c. app_of c ≡ first_names_app) }
     ensures local { IfOk result (λ c. (fields_of c).has_globals ≡ false) }
 {
     Command::new(alloc, "names")
@@ -195,6 +96,15 @@ pub(crate) fn names_command<'a>(alloc: Global) -> Result<Command<'a>, AllocError
         .arg(steps_arg(alloc))?
         .arg(profile_arg(alloc))?
         .arg(accesses_arg(alloc))
+}
+
+pub(crate) fn names_command<'a>(alloc: Global) -> Result<Command<'a>, AllocError>
+    ensures app { IfOk result (λ c. app_of c ≡ names_app) }
+    ensures local { IfOk result (λ c. (fields_of c).has_globals ≡ false) }
+{
+    first_names_command(alloc)?
+        .arg(calls_arg(alloc))?
+        .arg(levels_arg(alloc))
 }
 
 /// `eval`, without its options.
@@ -209,7 +119,7 @@ fn bare_eval_command<'a>(alloc: Global) -> Command<'a>
         .after_help(help_texts::EVAL)
 }
 
-/// `eval`, without its path and its arguments.
+/// `eval`, without its path, its arguments, and the options that say how deep calls and terms may be.
 fn first_eval_command<'a>(alloc: Global) -> Result<Command<'a>, AllocError>
     ensures app { IfOk result (λ c. app_of c ≡ first_eval_app) }
     ensures local { IfOk result (λ c. (fields_of c).has_globals ≡ false) }
@@ -221,11 +131,21 @@ fn first_eval_command<'a>(alloc: Global) -> Result<Command<'a>, AllocError>
         .arg(accesses_arg(alloc))
 }
 
+/// `eval`, without its path and its arguments.
+fn second_eval_command<'a>(alloc: Global) -> Result<Command<'a>, AllocError>
+    ensures app { IfOk result (λ c. app_of c ≡ second_eval_app) }
+    ensures local { IfOk result (λ c. (fields_of c).has_globals ≡ false) }
+{
+    first_eval_command(alloc)?
+        .arg(calls_arg(alloc))?
+        .arg(levels_arg(alloc))
+}
+
 pub(crate) fn eval_command<'a>(alloc: Global) -> Result<Command<'a>, AllocError>
     ensures app { IfOk result (λ c. app_of c ≡ eval_app) }
     ensures local { IfOk result (λ c. (fields_of c).has_globals ≡ false) }
 {
-    first_eval_command(alloc)?
+    second_eval_command(alloc)?
         .arg(path_arg(alloc))?
         .arg(arguments_arg(alloc))
 }
@@ -271,23 +191,54 @@ fn matches<'a>(alloc: Global, words: &'a [&'a str]) -> Result<ArgMatches<'a>, Er
     command(alloc)?.try_get_matches_from(words)
 }
 
-/// How AML is evaluated, where its profile, its steps and a bound of accesses are said.
+/// How deep calls and terms may be, where both are said.
+#[tactic(auto, unfolding(crate::specs::CommandLine::nesting_by))]
+fn nesting_by(calls: Option<usize>, levels: Option<usize>) -> Option<Nesting>
+    ensures { result ≡ nesting_by calls levels }
+{
+    let calls = calls?;
+    let levels = levels?;
+    Some(Nesting { calls, levels })
+}
+
+/// What AML is evaluated with, where its profile is said, and how deep.
+#[tactic(auto, unfolding(crate::specs::CommandLine::settings_by))]
+fn settings_by(profile: Option<Profile>, nesting: Option<Nesting>) -> Option<EvaluationSettings>
+    ensures { result ≡ settings_by profile nesting }
+{
+    let profile = profile?;
+    let nesting = nesting?;
+    Some(EvaluationSettings { profile, nesting })
+}
+
+/// How AML is evaluated, where its settings, its steps and a bound of accesses are said.
 #[tactic(auto, unfolding(crate::specs::CommandLine::evaluation_by))]
 fn evaluation_by(
-    profile: Option<Profile>,
+    settings: Option<EvaluationSettings>,
     steps: Option<u64>,
     accesses: Option<Option<u64>>,
 ) -> Option<Evaluation>
-    ensures { result ≡ evaluation_by profile steps accesses }
+    ensures { result ≡ evaluation_by settings steps accesses }
 {
-    let profile = profile?;
+    let settings = settings?;
     let steps = steps?;
     let accesses = accesses?;
     Some(Evaluation {
-        profile,
+        settings,
         steps,
         accesses,
     })
+}
+
+/// What the options say that AML is evaluated with.
+#[tactic(auto, using(crate::proofs::Getters::first_text))]
+fn settings_of(matches: &ArgMatches<'_>) -> Option<EvaluationSettings>
+    ensures { result ≡ settings_of (rows_of (found_of matches.now)) }
+{
+    let profile = profile_named(matches.get_str("profile"));
+    let calls = calls_named(matches.get_str("calls"));
+    let levels = levels_named(matches.get_str("levels"));
+    settings_by(profile, nesting_by(calls, levels))
 }
 
 /// How the options say that AML is evaluated.
@@ -295,10 +246,9 @@ fn evaluation_by(
 fn evaluation_of(matches: &ArgMatches<'_>) -> Option<Evaluation>
     ensures { result ≡ evaluation_of (rows_of (found_of matches.now)) }
 {
-    let profile = profile_named(matches.get_str("profile"));
     let steps = steps_named(matches.get_str("steps"));
     let accesses = accesses_named(matches.get_str("accesses"));
-    evaluation_by(profile, steps, accesses)
+    evaluation_by(settings_of(matches), steps, accesses)
 }
 
 /// What the options of `route` say.

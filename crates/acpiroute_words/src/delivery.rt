@@ -23,8 +23,8 @@ fn put_all<W: Sink>(writer: &mut W, text: &[u8]) -> Result<(), Failed>
     Ok(())
 }
 
-/// Delivers a text, a line and a status. Where a write to the output fails, the line is that of the fault and the
-/// status 1; where a write to the errors fails, nothing else changes.
+/// Delivers a text, lines for the errors, and a status. Where a write to the output fails, the line of the fault stands
+/// behind the lines, and the status is 1; where a write to the errors fails, nothing else changes.
 pub fn deliver<W: Sink, E: Sink>(
     text: &[u8],
     line: &[u8],
@@ -38,12 +38,14 @@ pub fn deliver<W: Sink, E: Sink>(
         (W.held writer.old) (W.held writer.new) (E.held errors.old) (E.held errors.new) }
 {
     let wrote = put_all(writer, text);
-    if wrote.is_err() {
-        let _ = put_all(errors, b"refused 142\n");
-        return 1;
+    let told = put_all(errors, line);
+    if wrote.is_ok() {
+        return status;
     }
-    let _ = put_all(errors, line);
-    status
+    if told.is_ok() {
+        let _ = put_all(errors, b"refused 142\n");
+    }
+    1
 }
 
 /// The line of a refusal.

@@ -14,6 +14,7 @@ mod help_texts;
 mod input;
 mod interrupts;
 pub mod laws;
+mod options;
 mod passed_lines;
 mod put;
 mod refusal_text;

@@ -2,15 +2,15 @@
 
 use crate::arguments::Arguments;
 use crate::interrupts::Interrupts;
-use aml_meaning::Profile;
+use aml_meaning::EvaluationSettings;
 use ar_space::PathText;
 use route_report::Mode;
 
 /// How AML is evaluated.
 #[derive(Clone, Copy, Debug)]
 pub struct Evaluation {
-    /// In which profile.
-    pub profile: Profile,
+    /// In which profile, and how deep.
+    pub settings: EvaluationSettings,
     /// The budget of steps for each table and each evaluation, from 1 to 1,000,000,000.
     pub steps: u64,
     /// How many accesses of registers are made in all, each further one being refused as `Device`; all of them where

@@ -6,6 +6,7 @@ ghost use Rattle.acpiroute_words.specs.Values.{number, number_from, with_digit, 
 ghost use Rattle.acpiroute_words.specs.Values.{bytes_of_digits, interrupt, interrupts, few_interrupts};
 ghost use Rattle.acpiroute_words.specs.Values.{interrupts_listed, interrupts_named, mode_named, profile_named};
 ghost use Rattle.acpiroute_words.specs.Values.{steps_named, within_steps, accesses_named, is_true};
+ghost use Rattle.acpiroute_words.specs.Values.{calls_named, within_calls, levels_named, within_levels};
 
 use crate::arguments::{Argument, ArgumentBytes, Arguments};
 use crate::interrupts::Interrupts;
@@ -254,6 +255,46 @@ pub(crate) fn steps_named(text: Option<&str>) -> Option<u64>
     match text {
         None => Some(1_000_000),
         Some(text) => within_steps(number(text)?),
+    }
+}
+
+fn within_calls(n: u64) -> Option<usize>
+    ensures { result ≡ within_calls n }
+{
+    if 1 <= n && n <= 32 {
+        Some(n as usize)
+    } else {
+        None
+    }
+}
+
+/// How many calls may be made one inside another, from 1 to 32; 32 where none is given.
+pub(crate) fn calls_named(text: Option<&str>) -> Option<usize>
+    ensures { result ≡ calls_named (option_map (λ s. s.now) text.entry) }
+{
+    match text {
+        None => Some(32),
+        Some(text) => within_calls(number(text)?),
+    }
+}
+
+fn within_levels(n: u64) -> Option<usize>
+    ensures { result ≡ within_levels n }
+{
+    if 1 <= n && n <= 64 {
+        Some(n as usize)
+    } else {
+        None
+    }
+}
+
+/// How many terms may be one inside another, from 1 to 64; 64 where none is given.
+pub(crate) fn levels_named(text: Option<&str>) -> Option<usize>
+    ensures { result ≡ levels_named (option_map (λ s. s.now) text.entry) }
+{
+    match text {
+        None => Some(64),
+        Some(text) => within_levels(number(text)?),
     }
 }
 

@@ -3,15 +3,17 @@ ghost use Rattle.std.specs.Prelude.{◌≡◌, IfOk, false, codes, None, Some};
 ghost use Rattle.clap.specs.Words.{app_of, new_app, rows_of, rule_of, found_of};
 ghost use Rattle.clap.specs.declared.builder.command.Command.TheViews.{out-Command as fields_of};
 ghost use Rattle.acpiroute_words.specs.CommandLine.{registers_rule, question_rule, question_path_rule};
-ghost use Rattle.acpiroute_words.specs.CommandLine.{first_why_app, second_why_app, third_why_app, why_app};
+ghost use Rattle.acpiroute_words.specs.CommandLine.{first_why_app, second_why_app, third_why_app};
+ghost use Rattle.acpiroute_words.specs.CommandLine.{fourth_why_app, why_app};
 ghost use Rattle.acpiroute_words.specs.CommandLine.{told_of, why_with, why_evaluated, has_route_options};
 ghost use Rattle.acpiroute_words.specs.CommandLine.{why_asked, why_of};
 
-use crate::command_line::{
-    accesses_arg, arguments_arg, avoid_arg, dry_arg, eval_of, kernel_arg, mode_arg, profile_arg,
-    route_of, spare_arg, spread_arg, steps_arg,
-};
+use crate::command_line::{eval_of, route_of};
 use crate::help_texts;
+use crate::options::{
+    accesses_arg, arguments_arg, avoid_arg, calls_arg, dry_arg, kernel_arg, levels_arg, mode_arg,
+    profile_arg, spare_arg, spread_arg, steps_arg,
+};
 use crate::request::{Asked, Asking, Question, Request};
 use crate::values::is_true;
 use clap::{Arg, ArgAction, ArgMatches, Command};
@@ -78,7 +80,8 @@ fn second_why_command<'a>(alloc: Global) -> Result<Command<'a>, AllocError>
         .arg(kernel_arg(alloc))
 }
 
-/// `why`, with the options of `route` alone.
+/// `why`, without the options that say how deep calls and terms may be.
+#[inline(never)]
 fn third_why_command<'a>(alloc: Global) -> Result<Command<'a>, AllocError>
     ensures app { IfOk result (λ c. app_of c ≡ third_why_app) }
     ensures local { IfOk result (λ c. (fields_of c).has_globals ≡ false) }
@@ -88,11 +91,21 @@ fn third_why_command<'a>(alloc: Global) -> Result<Command<'a>, AllocError>
         .arg(accesses_arg(alloc))
 }
 
+/// `why`, with the options of `route` alone.
+fn fourth_why_command<'a>(alloc: Global) -> Result<Command<'a>, AllocError>
+    ensures app { IfOk result (λ c. app_of c ≡ fourth_why_app) }
+    ensures local { IfOk result (λ c. (fields_of c).has_globals ≡ false) }
+{
+    third_why_command(alloc)?
+        .arg(calls_arg(alloc))?
+        .arg(levels_arg(alloc))
+}
+
 pub(crate) fn why_command<'a>(alloc: Global) -> Result<Command<'a>, AllocError>
     ensures app { IfOk result (λ c. app_of c ≡ why_app) }
     ensures local { IfOk result (λ c. (fields_of c).has_globals ≡ false) }
 {
-    third_why_command(alloc)?
+    fourth_why_command(alloc)?
         .arg(registers_arg(alloc))?
         .arg(question_arg(alloc))?
         .arg(question_path_arg(alloc))?

@@ -224,7 +224,7 @@ module _ {S : Type 0} (accesses : Accesses S) (ev : Task → Run S Flow) where
   abbrev pub called : Callee → ℕ → List Value → Run S Flow
   called (callee.Method p body) depth vs = invoked ev depth p body vs
   called callee.Osi depth vs = do
-    few ← settle (shallow depth)
+    few ← lift (shallow depth)
     v ← lift (osi_answered vs)
     give (flow.Value v)
 

@@ -105,8 +105,8 @@ impl Activation {
         }
     }
 
-    /// Another share of the same list, at the same byte. It takes no memory, and is refused as `OutOfMemory` where no more
-    /// shares can be counted.
+    /// Another share of the same list, at the same byte. It takes no memory, and is refused as `OutOfMemory` where no
+    /// more shares can be counted.
     #[tactic(auto, using(ar_space::proofs::Outcomes::answering))]
     pub(crate) fn share(&self) -> Result<Activation, Refusal>
         ensures { Answers result (Ok self.now) }

@@ -1,12 +1,12 @@
 //! What an object answers that is a part of an address (ACPI 6.5, 5.5.2.4): one more call is made, of those that may
 //! be made one inside another.
-ghost use Rattle.std.specs.Prelude.{◌≡◌, ◌≤◌, [], IfOk, Ok};
+ghost use Rattle.std.specs.Prelude.{◌≡◌, ◌≤◌, ◌<◌, ◌-◌, [], IfOk, Ok};
 ghost use Rattle.ar_space.specs.Change.{Does, settle};
 ghost use Rattle.ar_space.specs.Outcome.{Answers, NotMemory};
 ghost use Rattle.aml_meaning.specs.Meaning.{meaning};
 ghost use Rattle.aml_meaning.specs.Readings.{absolute};
 ghost use Rattle.aml_meaning.specs.Invocations.{invocation_found};
-ghost use Rattle.aml_meaning.specs.FieldCalls.{answer_within};
+ghost use Rattle.aml_meaning.specs.FieldCalls.{answer_within, answer_over, asked};
 ghost use Rattle.aml_meaning.specs.Regions.{integer_only};
 ghost use Rattle.aml_frames.specs.Addresses.{Asks};
 ghost use Rattle.aml_frames.specs.Uses.{asking};
@@ -50,6 +50,24 @@ fn answer<S: Space>(run: &Running<S>, calls: usize, found: Invocation) -> Result
     if calls == 0 {
         return Err(Refusal::Evaluation(EvaluationFault::CallDepth));
     }
+    run.world.shallow(calls_left(calls))?;
+    answer_allowed(run, calls, found)
+}
+
+/// What was found answers, where one more call may be made: so many may with it.
+#[tactic(auto, using(crate::proofs::Addressing::answering))]
+fn answer_allowed<S: Space>(
+    run: &Running<S>,
+    calls: usize,
+    found: Invocation,
+) -> Result<Asked, Refusal>
+    requires { 0 < calls }
+    ensures memory { NotMemory result }
+    ensures few { IfOk result (λ a. asked_weight a ≤ part_weight calls) }
+    ensures means { Asks S.accesses (meaning S.accesses) result run.now
+        (answer_over S.accesses (meaning S.accesses) (calls - 1)
+        (asked (answer_within S.accesses (meaning S.accesses) (calls - 1))) found) run.now }
+{
     match found {
         Invocation::Value(value) => known(run, value),
         Invocation::Field(field) => Ok(Asked::Waits(Waited::Field(calls - 1, field))),

@@ -1,9 +1,8 @@
 //! Calls of control methods (ACPI 6.5, 5.5.2 and 20.2.5: MethodInvocation).
-ghost use Rattle.std.specs.Prelude.{◌≡◌, ◌≤◌, ◌<◌, ◌+◌, ◌-◌, IfOk, OnOk, slice_index_or};
-ghost use Rattle.ar_space.specs.Outcome.{Answers, NotMemory};
+ghost use Rattle.std.specs.Prelude.{◌≡◌, ◌≤◌, ◌<◌, ◌+◌, ◌-◌, IfOk, slice_index_or};
 ghost use Rattle.aml_objects.specs.declared.value.Value.TheVariants.{Uninitialized};
 ghost use Rattle.aml_meaning.specs.Meaning.{meaning};
-ghost use Rattle.aml_meaning.specs.Invocations.{shallow, frame_arguments, invoked};
+ghost use Rattle.aml_meaning.specs.Invocations.{frame_arguments, invoked};
 ghost use Rattle.aml_frames.specs.declared.frames.Frame.TheVariants as frames;
 ghost use Rattle.aml_frames.specs.Entering.{Enters};
 ghost use Rattle.aml_frames.specs.Follow.{called, entered_then, arguments_left, behind_arguments, resumed, ends, Leads};
@@ -19,11 +18,8 @@ use crate::tracing::told_path;
 use aml_meaning::{Flow, Running};
 use aml_objects::{Body, Value};
 use aml_path::Path;
-use ar_space::{EvaluationFault, Refusal, Space};
+use ar_space::{Refusal, Space};
 use std::alloc::Global;
-
-/// How many control methods may be called one inside another.
-const MAX_DEPTH: usize = 32;
 
 /// A call whose arguments that are left stand next: the first of them is evaluated, or the call is made.
 #[tactic(auto, using(crate::proofs::Stepping::calls))]
@@ -96,7 +92,7 @@ fn begin_callee<S: Space>(
     match call.callee {
         Callee::Method(path, body) => begin_body(alloc, run, act, path, body, &done),
         Callee::Osi => {
-            shallow(act.depth())?;
+            run.world.shallow(act.depth())?;
             let value = run.world.osi(&done)?;
             Ok(Next::Flow(Flow::Value(value)))
         }
@@ -161,7 +157,7 @@ pub(crate) fn enter<S: Space>(
         (invoked (meaning S.accesses) depth called.0 called.1 arguments.now) run.old }
 {
     let (path, body) = called;
-    shallow(depth)?;
+    run.world.shallow(depth)?;
     let marks = run.world.body_marks(alloc, &path, &body);
     let marks = told_path(alloc, &mut run.world, &path, marks)?;
     let node = run.world.scope(&path).node;
@@ -169,18 +165,6 @@ pub(crate) fn enter<S: Space>(
     let entered = Activation::new(body, marks, method, node, depth + 1);
     run.world.open_frame(frame_arguments(arguments))?;
     Ok(entered)
-}
-
-fn shallow(depth: usize) -> Result<(), Refusal>
-    ensures answer { Answers result (shallow depth) }
-    ensures few { OnOk result (depth < 32) }
-    ensures memory { NotMemory result }
-{
-    if depth < MAX_DEPTH {
-        Ok(())
-    } else {
-        Err(Refusal::Evaluation(EvaluationFault::CallDepth))
-    }
 }
 
 /// The slots of a frame for these arguments.

@@ -76,8 +76,8 @@ pub struct Package {
     pub done: Elements,
 }
 
-/// An operand of a declaration of a region, of a buffer field or of fields of a bank, while it is evaluated, with what was read and
-/// evaluated before it.
+/// An operand of a declaration of a region, of a buffer field or of fields of a bank, while it is evaluated, with
+/// what was read and evaluated before it.
 #[derive(Clone, Copy, Debug)]
 pub enum DeclarationPart {
     /// The offset of an operation region with so many levels below it: its address space, and where its name stands.

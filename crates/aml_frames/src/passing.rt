@@ -1,5 +1,6 @@
-//! Items that the wide profile passes over: at module level a list goes on behind an item that is refused. What the item
-//! left behind of the list, the scope and the place in it, is given up, so that each item is kept with a share of its list.
+//! Items that the wide profile passes over: at module level a list goes on behind an item that is refused. What the
+//! item left behind of the list, the scope and the place in it, is given up, so that each item is kept with a share
+//! of its list.
 ghost use Rattle.std.specs.Prelude.{◌≡◌, ◌+◌, ◌<◌, [], ◌∷◌, ◌++◌, true, OnOk, OnErr, IfOk, IfErr};
 ghost use Rattle.ar_space.specs.Change.{stop};
 ghost use Rattle.ar_space.specs.Outcome.{NotMemory};

@@ -452,8 +452,8 @@ fn run_in<S: Space>(
     }
 }
 
-/// A refusal, which is handed on: what waits is given up, and each call that is being evaluated ends, up to an item of a
-/// list that is passed over. Where there is none, the trace tells the terms that were being evaluated.
+/// A refusal, which is handed on: what waits is given up, and each call that is being evaluated ends, up to an item
+/// of a list that is passed over. Where there is none, the trace tells the terms that were being evaluated.
 #[cold]
 fn unwind<S: Space>(
     alloc: Global,

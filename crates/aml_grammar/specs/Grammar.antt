@@ -1,6 +1,9 @@
 -- The grammar of terms (ACPI 6.5, 20.2.5): what stands in each position, and how its bytes are read.
-use Rattle.std.specs.Prelude.{◌≡◌, ℕ, zero, suc, ◌+◌, List, [], ◌∷◌, ◌++◌, length, Bool, true, false, Option, Some, None, Ok, Err, nat_le, ◌==◌, ◌&&◌, ◌||◌, if◌then◌else◌}
+use Rattle.std.specs.Prelude.{◌≡◌, ℕ, zero, suc, ◌+◌, List, [], ◌∷◌, ◌++◌, length, Bool, true, false, Option, Some, None, Ok, Err, nat_le, nat_lt, ◌==◌, ◌&&◌, ◌||◌, if◌then◌else◌}
 use Rattle.ar_space.specs.declared.refusal.Refusal.{Refusal}
+use Rattle.ar_space.specs.declared.refusal.Refusal.TheVariants as refusals
+use Rattle.ar_space.specs.declared.refusal.EvaluationFault.TheVariants.{DepthSetting}
+use Rattle.ar_space.specs.declared.refusal.TermFault.{TermFault}
 use Rattle.ar_space.specs.declared.refusal.TermFault.TheVariants.{BadOpcode, TooDeep, NotInBody}
 use Rattle.ar_space.specs.Outcome.{Outcome}
 use Rattle.ar_space.specs.Change.{give, settle, ◌>>=◌}
@@ -393,3 +396,32 @@ with_arities (Err e, s) = Err e
 
 abbrev pub table_reading : List ℕ → List Arity → Outcome (List Tree × List Arity)
 table_reading bs arities = with_arities (term_list by_arities bs [] false arities)
+
+-- ---- whole lists within the levels that a setting allows
+
+-- a setting allows fewer levels, and never more
+abbrev pub levels_allowed : ℕ → ℕ
+levels_allowed levels = if nat_lt levels max_depth then levels else max_depth
+
+unfoldable pub term_list_within : ℕ → Counting → List ℕ → List Seg → Bool → List Arity → Outcome (List Tree) × State
+term_list_within levels counting bs scope body arities = items (term_at counting (levels_allowed levels)) positions.ListItem scope (outermost body) (beginning bs arities)
+
+-- a term that is too deep for fewer levels is deeper than the setting allows; fewer: whether there are fewer
+abbrev pub fault_within : Bool → TermFault → ℕ → Refusal
+fault_within true TooDeep offset = refusals.Evaluation DepthSetting
+fault_within fewer fault offset = refusals.Term fault offset
+
+abbrev pub refusal_within : ℕ → Refusal → Refusal
+refusal_within levels (refusals.Term fault offset) = fault_within (nat_lt levels max_depth) fault offset
+refusal_within levels e = e
+
+abbrev pub within : {A : Type 0} → ℕ → Outcome A → Outcome A
+within levels (Ok a) = Ok a
+within levels (Err e) = Err (refusal_within levels e)
+
+-- the trees of a list within so many levels, or its first fault from left to right
+abbrev pub reading_within : ℕ → List ℕ → List Seg → Bool → List Arity → Outcome (List Tree)
+reading_within levels bs scope body arities = within levels (term_list_within levels by_arities bs scope body arities).0
+
+abbrev pub table_reading_within : ℕ → List ℕ → List Arity → Outcome (List Tree × List Arity)
+table_reading_within levels bs arities = within levels (with_arities (term_list_within levels by_arities bs [] false arities))

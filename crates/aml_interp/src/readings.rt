@@ -6,12 +6,12 @@ ghost use Rattle.aml_marked.specs.Marked.{trees_by};
 ghost use Rattle.aml_meaning.specs.Calling.{table_terms};
 
 use aml_meaning::WorldState;
-use aml_terms::{Marks, scan_table};
+use aml_terms::{Marks, scan_table_within};
 use ar_space::Refusal;
 use std::alloc::Global;
 
 /// The marks of a table, given without its header; the names that it declares take their arguments from now on. It is
-/// refused as `scan_table` refuses it, and then nothing changes.
+/// refused as `scan_table_within` refuses it, within the levels that the world allows, and then nothing changes.
 #[tactic(auto, using(crate::proofs::Tables::table_read))]
 pub(crate) fn read_table<S>(
     alloc: Global,
@@ -20,8 +20,9 @@ pub(crate) fn read_table<S>(
 ) -> Result<Marks, Refusal>
     ensures { Does (seen (λ m. trees_of (trees_by m bytes.now)) result) world.new (table_terms bytes.now) world.old }
 {
+    let levels = world.nesting().levels;
     let mut arities = world.take_arities(alloc);
-    let marks = scan_table(alloc, bytes, &mut arities);
+    let marks = scan_table_within(alloc, levels, bytes, &mut arities);
     world.set_arities(arities);
     marks
 }

@@ -12,7 +12,6 @@ use Rattle.aml_objects.specs.declared.value.Reference.{Reference}
 use Rattle.aml_objects.specs.declared.value.Reference.TheVariants as reference
 use Rattle.aml_objects.specs.declared.object.Element.{Element}
 use Rattle.aml_objects.specs.declared.object.Element.TheVariants as element
-use Rattle.aml_meaning.specs.declared.profile.Profile.{Profile}
 use Rattle.aml_meaning.specs.declared.name_use.NameUse.{NameUse}
 use Rattle.aml_meaning.specs.declared.name_use.NameUse.TheVariants as uses
 use Rattle.aml_meaning.specs.Given.{Given, Nothing, Integer, Text, Bytes, Package, Named, Reference as Unnamed, Givens, none, more}
@@ -20,7 +19,7 @@ use Rattle.aml_meaning.specs.State.{State}
 use Rattle.aml_meaning.specs.Run.{Run}
 use Rattle.aml_meaning.specs.Importing.{reference_to, imported_by, each_imported, elements_imported, package_imported, taken_back, imported, all_imported}
 use Rattle.aml_meaning.specs.Exporting.{text_exported, bytes_exported, path_of, reference_exported, value_exported, name_use, use_exported, name_exported, held_exported, element_exported, each_exported, elements_exported, package_exported, exported}
-use Rattle.aml_laws.proofs.Together.{IsEnded, Sides, Together, give_together, plain, stop_together, then_together, wrapped_together}
+use Rattle.aml_laws.proofs.Together.{IsEnded, Sides, Together, give_together, plain, stop_together, then_together, wrapped_together, Raise}
 use Rattle.aml_laws.proofs.WorldsTogether.{charge_together, lift_together, objects_together, runs, world_over, worlds}
 use Rattle.aml_laws.proofs.ChangesTogether.{entry_found_together, integer_kept_together}
 use Rattle.aml_laws.proofs.FieldsTogether.{field_given_together}
@@ -64,7 +63,7 @@ taken_back_space : {S : Type 0} (count : ℕ) (p : Outcome Value × State S) →
 taken_back_space count (Ok v, w) = refl
 taken_back_space count (Err e, w) = refl
 
-taken_back_over : {S T : Type 0} (raise : Profile → Profile) (count : ℕ) (r : Outcome Value) (w : State S) (t : T) → taken_back count (r, world_over raise w t) ≡ ((taken_back count (r, w)).0, world_over raise (taken_back count (r, w)).1 t)
+taken_back_over : {S T : Type 0} (raise : Raise) (count : ℕ) (r : Outcome Value) (w : State S) (t : T) → taken_back count (r, world_over raise w t) ≡ ((taken_back count (r, w)).0, world_over raise (taken_back count (r, w)).1 t)
 taken_back_over raise count (Ok v) w t = refl
 taken_back_over raise count (Err e) w t = refl
 

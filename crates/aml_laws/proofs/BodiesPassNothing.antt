@@ -7,7 +7,7 @@ use Rattle.ar_space.specs.Accesses.{Accesses}
 use Rattle.aml_path.specs.declared.segment.Seg.{Seg}
 use Rattle.aml_grammar.specs.Tree.{Trees}
 use Rattle.aml_objects.specs.declared.value.Value.{Value}
-use Rattle.aml_meaning.specs.declared.profile.Profile.{Profile}
+use Rattle.aml_meaning.specs.declared.settings.EvaluationSettings.{EvaluationSettings}
 use Rattle.aml_meaning.specs.Calling.{evaluated, answered}
 use Rattle.aml_meaning.specs.Given.{Given}
 use Rattle.aml_meaning.specs.Invocations.{invoked}
@@ -70,5 +70,5 @@ module _ {S : Type 0} (accesses : Accesses S) where
 no_access : {S : Type 0} → Accesses S
 no_access = record { reads = λ s place width. (Err NoRegister, s); writes = λ s place width value. (Err NoRegister, s) }
 
-pub none_at_first : {S : Type 0} (profile : Profile) (width : IntegerWidth) (osi : List (List ℕ)) (space : S) → (predefined (fresh_as profile width osi space)).1.passed.count ≡ 0
-none_at_first profile width osi space = ap (λ p. p.count) ((predefined_preserves {relation = body_relation no_access 1}).preserves (fresh_as profile width osi space) refl)
+pub none_at_first : {S : Type 0} (settings : EvaluationSettings) (width : IntegerWidth) (osi : List (List ℕ)) (space : S) → (predefined (fresh_as settings width osi space)).1.passed.count ≡ 0
+none_at_first settings width osi space = ap (λ p. p.count) ((predefined_preserves {relation = body_relation no_access 1}).preserves (fresh_as settings width osi space) refl)

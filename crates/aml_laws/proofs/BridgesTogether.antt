@@ -24,11 +24,11 @@ none_behind profiles.Core profiles.Wide = refl
 none_behind profiles.Wide profiles.Core = refl
 none_behind profiles.Wide profiles.Wide = refl
 
-behind_comes : {S T : Type 0} {accesses : Accesses S} {accesses2 : Accesses T} (side : Sides accesses accesses2) (bridge : Option (List Seg)) (w : State S) (t : T) (p : Profile) → w.profile ≡ p → (side.raise profiles.Core ≡ profiles.Core) ⊎ ((e : Refusal) → LeftOut e → side.Ends e) → side.beside.InStep w.space t
-    → Comes side worlds (or_behind w.profile bridge, w) (or_behind (side.raise w.profile) bridge, world_over side.raise w t)
-behind_comes side bridge w t profiles.Wide is core i = inr (inr (t, ap (λ r. (or_behind r bridge, world_over side.raise w t)) (ap side.raise is ∙ side.wide_stays ∙ sym is), i))
-behind_comes side bridge w t profiles.Core is (inl stays) i = inr (inr (t, ap (λ r. (or_behind r bridge, world_over side.raise w t)) (ap side.raise is ∙ stays ∙ sym is), i))
-behind_comes side None w t profiles.Core is (inr ends) i = inr (inr (t, ap (λ o. (o, world_over side.raise w t)) (none_behind (side.raise w.profile) w.profile), i))
+behind_comes : {S T : Type 0} {accesses : Accesses S} {accesses2 : Accesses T} (side : Sides accesses accesses2) (bridge : Option (List Seg)) (w : State S) (t : T) (p : Profile) → w.profile ≡ p → (side.raise.0 profiles.Core ≡ profiles.Core) ⊎ ((e : Refusal) → LeftOut e → side.Ends e) → side.beside.InStep w.space t
+    → Comes side worlds (or_behind w.profile bridge, w) (or_behind (side.raise.0 w.profile) bridge, world_over side.raise w t)
+behind_comes side bridge w t profiles.Wide is core i = inr (inr (t, ap (λ r. (or_behind r bridge, world_over side.raise w t)) (ap side.raise.0 is ∙ side.wide_stays ∙ sym is), i))
+behind_comes side bridge w t profiles.Core is (inl stays) i = inr (inr (t, ap (λ r. (or_behind r bridge, world_over side.raise w t)) (ap side.raise.0 is ∙ stays ∙ sym is), i))
+behind_comes side None w t profiles.Core is (inr ends) i = inr (inr (t, ap (λ o. (o, world_over side.raise w t)) (none_behind (side.raise.0 w.profile) w.profile), i))
 behind_comes side (Some q) w t profiles.Core is (inr ends) i = inr (inl (subst (λ p. IsEnded side.Ends (or_behind p (Some q))) (sym is) (ends (refusal.Evaluation DeepPci) (inr refl))))
 
 module _ {S T : Type 0} {accesses : Accesses S} {accesses2 : Accesses T} {side : Sides accesses accesses2} where

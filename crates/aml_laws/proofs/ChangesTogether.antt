@@ -28,7 +28,7 @@ use Rattle.aml_meaning.specs.TargetTerms.{target_named}
 use Rattle.aml_meaning.specs.Osi.{osi_answered}
 use Rattle.aml_meaning.specs.Operations.{integers_operated, operated, divided_in, integer_operated, operated_on_one, integers_tested, operated_logically, integer_turned, turned, next_integer, integer_before, compared_in, joined_contents, joined, joined_items, joined_resources, to_integer_in, buffer_bytes, new_buffer_of, to_buffer_in, size_held, element_indexed, byte_indexed, indexed, size_in}
 use Rattle.aml_meaning.specs.OperatorTerms.{result_of_two, result_of_one, result_of_test, counted_by}
-use Rattle.aml_meaning.specs.Invocations.{body_terms, named_use, invocation_found}
+use Rattle.aml_meaning.specs.Invocations.{named_use, invocation_found}
 use Rattle.aml_laws.proofs.Together.{Sides, Together, give_together, plain, settle_together, stop_together, then_together}
 use Rattle.aml_laws.proofs.WorldsTogether.{names_together, objects_together, worlds}
 
@@ -216,10 +216,6 @@ module _ {S T : Type 0} {accesses : Accesses S} {accesses2 : Accesses T} {side :
   pub osi_answered_together : (arguments : List Value) → Together side worlds (osi_answered arguments) (osi_answered arguments)
   unfolding osi_answered
   osi_answered_together arguments = plain (λ w. refl) (λ w. refl) (λ w t. refl)
-
-  pub body_terms_together : (q : List Seg) (body : List ℕ) → Together side worlds (body_terms q body) (body_terms q body)
-  unfolding body_terms
-  body_terms_together q body = plain (λ w. refl) (λ w. refl) (λ w t. refl)
 
   -- ---- what is found and called
 

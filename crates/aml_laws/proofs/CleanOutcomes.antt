@@ -1,8 +1,8 @@
--- Outcomes that are no fault of the register space, none of the reader or the writer of a run, and no want of steps. A lemma `x_clean`
--- says so of each outcome of x, whatever the state is.
+-- Outcomes that are no fault of the register space, none of the reader or the writer of a run, no want of steps, and no depth that the
+-- setting doesn't allow. A lemma `x_clean` says so of each outcome of x, whatever the state is.
 use Rattle.std.specs.Prelude.{Bool, true, false, Ok, Err, if◌then◌else◌}
 use Rattle.ar_space.specs.declared.refusal.EvaluationFault.{EvaluationFault}
-use Rattle.ar_space.specs.declared.refusal.EvaluationFault.TheVariants.{OutOfSteps}
+use Rattle.ar_space.specs.declared.refusal.EvaluationFault.TheVariants.{OutOfSteps, DepthSetting}
 use Rattle.ar_space.specs.declared.refusal.InputFault.{InputFault}
 use Rattle.ar_space.specs.declared.refusal.InputFault.TheVariants.{MachineLine}
 use Rattle.ar_space.specs.declared.refusal.Refusal.{Refusal}
@@ -14,15 +14,16 @@ abbrev pub IsOfLine : InputFault → Type 0
 IsOfLine (MachineLine n) = Unit {0}
 IsOfLine _ = ⊥
 
--- no want of steps
-abbrev pub IsNotSpent : EvaluationFault → Type 0
-IsNotSpent OutOfSteps = ⊥
-IsNotSpent _ = Unit {0}
+-- no want of steps, and no depth that the setting doesn't allow
+abbrev pub IsUnset : EvaluationFault → Type 0
+IsUnset OutOfSteps = ⊥
+IsUnset DepthSetting = ⊥
+IsUnset _ = Unit {0}
 
 abbrev pub CleanRefusal : Refusal → Type 0
 CleanRefusal (refusals.Space fault) = ⊥
 CleanRefusal (refusals.Input fault) = IsOfLine fault
-CleanRefusal (refusals.Evaluation fault) = IsNotSpent fault
+CleanRefusal (refusals.Evaluation fault) = IsUnset fault
 CleanRefusal _ = Unit {0}
 
 abbrev pub Clean : {A : Type 0} → Outcome A → Type 0

@@ -25,7 +25,7 @@ use Rattle.aml_objects.specs.declared.value.Value.{Value}
 use Rattle.aml_meaning.specs.Declaring.{no_method, no_method_in}
 use Rattle.aml_meaning.specs.Exporting.{held_or_path, use_of, value_or_path}
 use Rattle.aml_meaning.specs.FieldTerms.{buffer_of, connection_buffer, field_number, further, in_region, region_number, sized}
-use Rattle.aml_meaning.specs.Invocations.{invocation_of, invocation_of_body, invocation_of_object, shallow}
+use Rattle.aml_meaning.specs.Invocations.{invocation_of, invocation_of_body, invocation_of_object}
 use Rattle.aml_meaning.specs.Mutexes.{count_in, count_of_object, once_less, once_more}
 use Rattle.aml_meaning.specs.Operations.{below, made_of, size_of_object, size_of_referent, size_of_value}
 use Rattle.aml_meaning.specs.Osi.{osi_answer}
@@ -204,9 +204,6 @@ invocation_of_object_clean p n _ = tt
 pub invocation_of_clean : (x : Outcome (List Seg × Entry)) → Clean x → Clean (invocation_of x)
 invocation_of_clean (Ok e) c = invocation_of_object_clean e.0 e.1.number e.1.object
 invocation_of_clean (Err e) c = c
-
-pub shallow_clean : (depth : ℕ) → Clean (shallow depth)
-shallow_clean depth = if_clean (nat_lt depth 32) _ _ tt tt
 
 pub osi_answer_clean : (width : IntegerWidth) (texts : List (List ℕ)) (c : Content) → Clean (osi_answer width texts c)
 osi_answer_clean width texts (String text) = tt

@@ -7,7 +7,7 @@ use Rattle.ar_space.specs.Outcome.{Outcome}
 use Rattle.ar_space.specs.Change.{Change, go_on, ◌>>=◌}
 use Rattle.aml_path.specs.declared.segment.Seg.{Seg}
 use Rattle.aml_grammar.specs.declared.arities.Arity.{Arity}
-use Rattle.aml_grammar.specs.Grammar.{table_reading}
+use Rattle.aml_grammar.specs.Grammar.{table_reading_within}
 use Rattle.aml_grammar.specs.Tree.{Tree, Trees}
 use Rattle.aml_objects.specs.declared.object.Element.{Element}
 use Rattle.aml_objects.specs.declared.object.Element.TheVariants as element
@@ -90,7 +90,7 @@ module _ {S : Type 0} where
 
   table_terms_counts : (bytes : List ℕ) → Counts {S = S} (table_terms bytes) (table_terms bytes)
   unfolding table_terms
-  table_terms_counts bytes = direct_counts _ _ (λ w. (terms_kept_counts (table_reading bytes w.arities)).same w) (λ w. (terms_kept_counts (table_reading bytes w.arities)).leads w)
+  table_terms_counts bytes = direct_counts _ _ (λ w. (terms_kept_counts (table_reading_within w.nesting.levels bytes w.arities)).same w) (λ w. (terms_kept_counts (table_reading_within w.nesting.levels bytes w.arities)).leads w)
 
   -- ---- arguments
 

@@ -20,7 +20,7 @@ use Rattle.aml_namespace.proofs.Changes.{released_at}
 use Rattle.aml_laws.proofs.NumbersKept.{numbered_declared, numbered_replaced, numbered_without, numbered_released, numbered_root}
 use Rattle.ar_space.specs.declared.integer_width.IntegerWidth.{IntegerWidth}
 use Rattle.aml_meaning.specs.State.{State}
-use Rattle.aml_meaning.specs.declared.profile.Profile.{Profile}
+use Rattle.aml_meaning.specs.declared.settings.EvaluationSettings.{EvaluationSettings}
 use Rattle.aml_meaning.specs.Predefined.{fresh_as, predefined}
 use Rattle.ar_space.specs.Outcome.{Outcome}
 use Rattle.aml_objects.specs.declared.value.Value.{Value}
@@ -53,8 +53,8 @@ numbered_relation accesses = record {
 pub numbered_stays : {S : Type 0} (accesses : Accesses S) (w v : State S) → Becomes accesses w v → Numbered w.names → Numbered v.names
 numbered_stays accesses w v h n = becomes_preserves (numbered_relation accesses) w v h n
 
-pub numbered_always : {S : Type 0} (accesses : Accesses S) (profile : Profile) (width : IntegerWidth) (osi : List (List ℕ)) (space : S) (v : State S) → Becomes accesses (predefined (fresh_as profile width osi space)).1 v → Numbered v.names
-numbered_always accesses profile width osi space v h = numbered_stays accesses _ v h ((predefined_preserves {relation = numbered_relation accesses}).preserves (fresh_as profile width osi space) numbered_root)
+pub numbered_always : {S : Type 0} (accesses : Accesses S) (settings : EvaluationSettings) (width : IntegerWidth) (osi : List (List ℕ)) (space : S) (v : State S) → Becomes accesses (predefined (fresh_as settings width osi space)).1 v → Numbered v.names
+numbered_always accesses settings width osi space v h = numbered_stays accesses _ v h ((predefined_preserves {relation = numbered_relation accesses}).preserves (fresh_as settings width osi space) numbered_root)
 
 -- a frame that is opened leaves the names as they are
 pub numbered_opened : {S : Type 0} (arguments : List Value) (w : State S) → Numbered w.names → Numbered (opened arguments w).1.names

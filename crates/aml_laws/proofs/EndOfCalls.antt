@@ -7,7 +7,7 @@ use Rattle.ar_space.specs.declared.refusal.Refusal.{Refusal}
 use Rattle.ar_space.specs.declared.refusal.Refusal.TheVariants as refusal
 use Rattle.ar_space.specs.declared.refusal.EvaluationFault.TheVariants.{ObjectLimit}
 use Rattle.ar_space.specs.Outcome.{Outcome}
-use Rattle.ar_space.specs.Change.{Change, settle, go_on, ◌>>=◌}
+use Rattle.ar_space.specs.Change.{Change, go_on, ◌>>=◌}
 use Rattle.aml_path.specs.declared.segment.Seg.{Seg}
 use Rattle.aml_path.specs.Paths.{path_cmp, is_below}
 use Rattle.aml_grammar.specs.Tree.{Trees}
@@ -19,7 +19,7 @@ use Rattle.aml_meaning.specs.State.{State}
 use Rattle.aml_meaning.specs.Run.{Run, lift}
 use Rattle.aml_meaning.specs.Slots.{opened, closed}
 use Rattle.aml_meaning.specs.Tasks.{Task}
-use Rattle.aml_meaning.specs.Invocations.{body_terms, leaving, left, invoked}
+use Rattle.aml_meaning.specs.Invocations.{body_terms, shallow, leaving, left, invoked}
 use Rattle.aml_laws.specs.Calls.{body_frame, NoneBelow}
 use Rattle.aml_laws.proofs.OutsideOfMethods.{retained_apart}
 
@@ -50,13 +50,13 @@ module _ {S : Type 0} (p : List Seg) where
   go_on_refused (Ok a) w b e m k h is = (h a).refused (w, b) e is
   go_on_refused (Err x) w b e m k h is = refl
 
-  settle_body_begins : {A : Type 0} (x : Outcome A) (m : A → Run S Flow) (k : A → Change (State S) ℕ) → ((a : A) → BodyBegins p (m a) (k a)) → BodyBegins p (settle x >>= m) (settle x >>= k)
-  unfolding settle ◌>>=◌
-  settle_body_begins x m k h = record { begun = λ s n is. go_on_begun x s.0 s.1 n m k h is; refused = λ s e is. go_on_refused x s.0 s.1 e m k h is }
-
   body_terms_body_begins : (body : List ℕ) (m : Trees → Run S Flow) (k : Trees → Change (State S) ℕ) → ((a : Trees) → BodyBegins p (m a) (k a)) → BodyBegins p (lift (body_terms p body) >>= m) (body_terms p body >>= k)
   unfolding lift body_terms ◌>>=◌
   body_terms_body_begins body m k h = record { begun = λ s n is. go_on_begun _ s.0 s.1 n m k h is; refused = λ s e is. go_on_refused _ s.0 s.1 e m k h is }
+
+  shallow_body_begins : (depth : ℕ) (m : Unit {0} → Run S Flow) (k : Unit {0} → Change (State S) ℕ) → ((a : Unit {0}) → BodyBegins p (m a) (k a)) → BodyBegins p (lift (shallow depth) >>= m) (shallow depth >>= k)
+  unfolding lift shallow ◌>>=◌
+  shallow_body_begins depth m k h = record { begun = λ s n is. go_on_begun _ s.0 s.1 n m k h is; refused = λ s e is. go_on_refused _ s.0 s.1 e m k h is }
 
   begun_by_cases : (b : Bool) (e : Refusal) (n j c : ℕ) (w v : State S) (m : Run S Flow) → (if◌then◌else◌ {A = Outcome ℕ × State S} b (Err e, w) (Ok j, v)).0 ≡ Ok n
       → NoneBelow (go_on (if◌then◌else◌ {A = Outcome ℕ × State S} b (Err e, w) (Ok j, v)).0 ((if◌then◌else◌ {A = Outcome ℕ × State S} b (Err e, w) (Ok j, v)).1, c) (λ i. leaving p m)).1.0 p
@@ -79,7 +79,7 @@ module _ {S : Type 0} (p : List Seg) where
 
   invoked_body_begins : (ev : Task → Run S Flow) (depth : ℕ) (body : List ℕ) (arguments : List Value) → BodyBegins p (invoked ev depth p body arguments) (body_frame depth p body arguments)
   unfolding invoked body_frame
-  invoked_body_begins ev depth body arguments = settle_body_begins _ _ _ (λ few. body_terms_body_begins body _ _ (λ ts. opened_body_begins _ _))
+  invoked_body_begins ev depth body arguments = shallow_body_begins depth _ _ (λ few. body_terms_body_begins body _ _ (λ ts. opened_body_begins _ _))
 
 pub none_below_after_call : {S : Type 0} (ev : Task → Run S Flow) (depth : ℕ) (p : List Seg) (body : List ℕ) (arguments : List Value) (s : State S × ℕ) (n : ℕ) → (body_frame depth p body arguments s.0).0 ≡ Ok n → NoneBelow (invoked ev depth p body arguments s).1.0 p
 none_below_after_call ev depth p body arguments s n is = (invoked_body_begins p ev depth body arguments).begun s n is

@@ -5,7 +5,7 @@ use Rattle.ar_space.specs.Outcome.{Outcome}
 use Rattle.aml_path.specs.declared.segment.Seg.{Seg}
 use Rattle.aml_grammar.specs.declared.arities.Arity.{Arity}
 use Rattle.aml_grammar.specs.Tree.{Tree, Trees}
-use Rattle.aml_grammar.specs.Grammar.{table_reading}
+use Rattle.aml_grammar.specs.Grammar.{table_reading_within}
 use Rattle.aml_objects.specs.declared.value.Value.{Value}
 use Rattle.aml_objects.specs.declared.entry.NamedObject.{NamedObject}
 use Rattle.aml_meaning.specs.declared.invocation.Invocation.{Invocation}
@@ -33,7 +33,7 @@ module _ {S : Type 0} {listed : Bool} {accesses : Accesses S} {relation : WorldR
 
   table_terms_preserves : (bytes : List ℕ) → Preserves relation (table_terms bytes)
   unfolding table_terms
-  table_terms_preserves bytes = record { preserves = λ w. terms_kept_preserves relation (table_reading bytes w.arities) w }
+  table_terms_preserves bytes = record { preserves = λ w. terms_kept_preserves relation (table_reading_within w.nesting.levels bytes w.arities) w }
 
 module _ {S : Type 0} {accesses : Accesses S} (levels : Levels accesses) where
   at_root_preserves : (ts : Trees) → RunPreserves (levels.at 0) (at_root accesses ts)

@@ -1,23 +1,26 @@
 -- Loading a table and evaluating an object go the same way over two register spaces.
-use Rattle.std.specs.Prelude.{◌≡◌, ℕ, List, [], length, Ok, Err, refl}
+use Rattle.std.specs.Prelude.{◌≡◌, ◌⊎◌, ℕ, List, [], length, Ok, Err, refl}
+use Rattle.std.proofs.Common.{inl, inr, ap, sym, subst, ◌∙◌}
+use Rattle.ar_space.specs.declared.refusal.Refusal.TheVariants as refusal
+use Rattle.ar_space.specs.declared.refusal.EvaluationFault.TheVariants.{DepthSetting}
 use Rattle.ar_space.specs.Accesses.{Accesses}
 use Rattle.ar_space.specs.Outcome.{Outcome}
 use Rattle.aml_path.specs.declared.segment.Seg.{Seg}
 use Rattle.aml_grammar.specs.declared.arities.Arity.{Arity}
 use Rattle.aml_grammar.specs.Tree.{Tree, Trees}
-use Rattle.aml_grammar.specs.Grammar.{table_reading}
+use Rattle.aml_grammar.specs.Grammar.{table_reading_within}
 use Rattle.aml_objects.specs.declared.value.Value.{Value}
 use Rattle.aml_objects.specs.declared.entry.NamedObject.{NamedObject}
 use Rattle.aml_meaning.specs.declared.invocation.Invocation.{Invocation}
 use Rattle.aml_meaning.specs.declared.invocation.Invocation.TheVariants as invocations
 use Rattle.aml_meaning.specs.Given.{Given}
-use Rattle.aml_meaning.specs.declared.profile.Profile.{Profile}
 use Rattle.aml_meaning.specs.State.{State}
 use Rattle.aml_meaning.specs.Predefined as predefined
 use Rattle.aml_meaning.specs.Calling.{terms_kept, table_terms, at_root, table_run, loaded, value_of, called, evaluated, invocation_exported, answer_exported, answered}
 use Rattle.aml_laws.proofs.FieldsTogether.{field_given_together}
 use Rattle.aml_laws.proofs.OperandsTogether.{called_at_together}
-use Rattle.aml_laws.proofs.Together.{Sides, Together, give_together, plain, settle_together, then_together}
+use Rattle.aml_laws.proofs.Together.{Raise, Sides, Together, Comes, IsEnded, give_together, plain, settle_together, then_together}
+use Rattle.aml_laws.proofs.NestingTogether.{table_so}
 use Rattle.aml_laws.proofs.WorldsTogether.{counted_together, ending_together, in_frame_together, lift_together, names_together, objects_together, runs, with_steps_together, world_over, worlds}
 use Rattle.aml_laws.proofs.ChangesTogether.{invocation_found_together, osi_answered_together}
 use Rattle.aml_laws.proofs.OperandsTogether.{field_read_together, method_value_together}
@@ -29,16 +32,25 @@ terms_kept_space : {S : Type 0} (r : Outcome (List Tree × List Arity)) (w : Sta
 terms_kept_space (Ok (ts, after)) w = refl
 terms_kept_space (Err e) w = refl
 
-terms_kept_over : {S T : Type 0} (raise : Profile → Profile) (r : Outcome (List Tree × List Arity)) (w : State S) (t : T) → terms_kept r (world_over raise w t) ≡ ((terms_kept r w).0, world_over raise (terms_kept r w).1 t)
+terms_kept_over : {S T : Type 0} (raise : Raise) (r : Outcome (List Tree × List Arity)) (w : State S) (t : T) → terms_kept r (world_over raise w t) ≡ ((terms_kept r w).0, world_over raise (terms_kept r w).1 t)
 terms_kept_over raise (Ok (ts, after)) w t = refl
 terms_kept_over raise (Err e) w t = refl
 
-module _ {S T : Type 0} {accesses : Accesses S} {accesses2 : Accesses T} {side : Sides accesses accesses2} where
-  -- ---- tables
+-- ---- tables
 
+module _ {S T : Type 0} {accesses : Accesses S} {accesses2 : Accesses T} (side : Sides accesses accesses2) where
+  table_terms_goes : (x y : Outcome (List Tree × List Arity)) (w : State S) (t : T) → (y ≡ x) ⊎ (side.Ends (refusal.Evaluation DepthSetting) × (x ≡ Err (refusal.Evaluation DepthSetting))) → side.beside.InStep w.space t → Comes side worlds (terms_kept x w) (terms_kept y (world_over side.raise w t))
+  table_terms_goes x y w t (inl same) i = inr (inr (t, ap (λ z. terms_kept z (world_over side.raise w t)) same ∙ terms_kept_over side.raise x w t, subst (λ s. side.beside.InStep s t) (sym (terms_kept_space x w)) i))
+  table_terms_goes x y w t (inr set) i = inr (inl (subst (λ (z : Outcome (List Tree × List Arity)). IsEnded side.Ends (terms_kept z w).0) (sym set.1) set.0))
+
+module _ {S T : Type 0} {accesses : Accesses S} {accesses2 : Accesses T} {side : Sides accesses accesses2} where
   table_terms_together : (bytes : List ℕ) → Together side worlds (table_terms bytes) (table_terms bytes)
   unfolding table_terms
-  table_terms_together bytes = plain (λ w. terms_kept_space (table_reading bytes w.arities) w) (λ w. terms_kept_space (table_reading bytes w.arities) w) (λ w t. terms_kept_over side.raise (table_reading bytes w.arities) w t)
+  table_terms_together bytes = record {
+    left_parted = λ w t p. subst (λ s. side.beside.Parted s t) (sym (terms_kept_space (table_reading_within w.nesting.levels bytes w.arities) w)) p;
+    right_parted = λ s w p. subst (λ t. side.beside.Parted s t) (sym (terms_kept_space (table_reading_within w.nesting.levels bytes w.arities) w)) p;
+    goes = λ w t i. table_terms_goes side (table_reading_within w.nesting.levels bytes w.arities) (table_reading_within (side.raise.1 w.nesting).levels bytes w.arities) w t (table_so side bytes w.arities w.nesting side.deepens) i;
+  }
 
 module _ {S T : Type 0} {accesses : Accesses S} {accesses2 : Accesses T} (side : Sides accesses accesses2) where
   at_root_together : (ts : Trees) → Together (level side 0) runs (at_root accesses ts) (at_root accesses2 ts)

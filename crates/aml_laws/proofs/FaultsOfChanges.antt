@@ -1,5 +1,6 @@
 -- Changes whose refusals by a fault of the register space come from their last access, whose refusals for want of steps come where none
--- is left, and that no fault of a reader or a writer refuses. A lemma `x_explains` says so of x.
+-- is left, whose refusals for a depth that the setting doesn't allow come where it allows less than the default, and that no fault of a
+-- reader or a writer refuses. A lemma `x_explains` says so of x.
 use Rattle.std.specs.Prelude.{◌≡◌, ℕ, zero, suc, ◌==◌, ◌-◌, List, [], ◌∷◌, Bool, true, false, Result, Ok, Err, refl, if◌then◌else◌}
 use Rattle.std.proofs.Common.{arith, ap, subst, sym}
 use Rattle.ar_space.specs.declared.refusal.SpaceFault.{SpaceFault}
@@ -29,7 +30,8 @@ use Rattle.aml_laws.specs.Answered as by
 use Rattle.aml_laws.specs.SpaceFaults.{LastFaults}
 use Rattle.aml_laws.specs.SpaceFaults as space_faults
 use Rattle.aml_laws.proofs.Charges.{charge_none, charge_one}
-use Rattle.aml_laws.proofs.CleanOutcomes.{Clean, CleanRefusal, IsNotSpent, IsOfLine}
+use Rattle.aml_laws.proofs.CleanOutcomes.{Clean, CleanRefusal, IsOfLine}
+use Rattle.aml_laws.proofs.SetDepths.{OfSetting, CleanWithin, CleanRefusalWithin, CleanFaultWithin, is_low, clean_within, within_of_setting, branch_of_setting, set_anywhere}
 use Rattle.aml_laws.proofs.CleanChanges.{AllClean}
 use Rattle.aml_laws.proofs.CleanValues.{unit_place_clean}
 
@@ -48,17 +50,17 @@ abbrev pub Spent : {A : Type 0} → Outcome A → ℕ → Type 0
 Spent (Ok a) rest = Unit {0}
 Spent (Err e) rest = SpentRefusal e rest
 
-clean_fault_spent : (f : EvaluationFault) (rest : ℕ) → IsNotSpent f → SpentFault f rest
-clean_fault_spent OutOfSteps rest c = absurd c
-clean_fault_spent _ rest c = tt
+clean_fault_spent : (low : Bool) (f : EvaluationFault) (rest : ℕ) → CleanFaultWithin low f → SpentFault f rest
+clean_fault_spent low OutOfSteps rest c = absurd c
+clean_fault_spent low _ rest c = tt
 
-clean_refusal_spent : (e : Refusal) (rest : ℕ) → CleanRefusal e → SpentRefusal e rest
-clean_refusal_spent (refusals.Evaluation f) rest c = clean_fault_spent f rest c
-clean_refusal_spent _ rest c = tt
+clean_refusal_spent : (low : Bool) (e : Refusal) (rest : ℕ) → CleanRefusalWithin low e → SpentRefusal e rest
+clean_refusal_spent low (refusals.Evaluation f) rest c = clean_fault_spent low f rest c
+clean_refusal_spent low _ rest c = tt
 
-clean_spent : {A : Type 0} (x : Outcome A) (rest : ℕ) → Clean x → Spent x rest
-clean_spent (Ok a) rest c = tt
-clean_spent (Err e) rest c = clean_refusal_spent e rest c
+clean_spent : {A : Type 0} (low : Bool) (x : Outcome A) (rest : ℕ) → CleanWithin low x → Spent x rest
+clean_spent low (Ok a) rest c = tt
+clean_spent low (Err e) rest c = clean_refusal_spent low e rest c
 
 -- where a step is left, whatever the rest is
 unspent_fault : (f : EvaluationFault) (rest : ℕ) → SpentFault f 1 → SpentFault f rest
@@ -98,6 +100,10 @@ faulted_spent : {A : Type 0} (x : Result A SpaceFault) (rest : ℕ) → Spent (f
 faulted_spent (Ok n) rest = tt
 faulted_spent (Err f) rest = tt
 
+faulted_of_setting : {A : Type 0} (x : Result A SpaceFault) → OfSetting (faulted x) false
+faulted_of_setting (Ok n) = tt
+faulted_of_setting (Err f) = tt
+
 -- ---- accesses
 
 module _ {S : Type 0} (accesses : Accesses S) where
@@ -112,10 +118,11 @@ module _ {S : Type 0} (accesses : Accesses S) where
   Explained (Err e) s t = RefusalExplained e s t
 
   -- space: the register space of a state; rest: how many steps are left in it, 1 where no step is asked for, and 0 where that is not
-  -- told
-  pub record Explains {H A : Type 0} (space : H → S) (rest : H → ℕ) (m : Change H A) : Type 0 where
+  -- told; low: whether it allows less depth than the default
+  pub record Explains {H A : Type 0} (space : H → S) (rest : H → ℕ) (low : H → Bool) (m : Change H A) : Type 0 where
     pub explained : (h : H) → Explained (m h).0 (space h) (space (m h).1)
     pub spent : (h : H) → Spent (m h).0 (rest (m h).1)
+    pub set : (h : H) → OfSetting (m h).0 (low (m h).1)
 
 module _ {S : Type 0} {accesses : Accesses S} where
   pub answered_transitive : (s t u : S) → Answered accesses s t → Answered accesses t u → Answered accesses s u
@@ -133,128 +140,148 @@ module _ {S : Type 0} (accesses : Accesses S) where
   further (Ok a) s t u r h = answered_transitive s t u r h
   further (Err e) s t u r h = further_refusal e s t u r h
 
-  clean_refusal : (e : Refusal) (s t : S) → CleanRefusal e → t ≡ s → RefusalExplained accesses e s t
-  clean_refusal (refusals.Space fault) s t apart e = absurd apart
-  clean_refusal (refusals.Input fault) s t apart e = (apart, subst (λ u. Answered accesses s u) (sym e) by.none)
-  clean_refusal _ s t apart e = subst (λ u. Answered accesses s u) (sym e) by.none
+  clean_refusal : (low : Bool) (e : Refusal) (s t : S) → CleanRefusalWithin low e → t ≡ s → RefusalExplained accesses e s t
+  clean_refusal low (refusals.Space fault) s t apart e = absurd apart
+  clean_refusal low (refusals.Input fault) s t apart e = (apart, subst (λ u. Answered accesses s u) (sym e) by.none)
+  clean_refusal low _ s t apart e = subst (λ u. Answered accesses s u) (sym e) by.none
 
-  clean_explained : {A : Type 0} (x : Outcome A) (s t : S) → Clean x → t ≡ s → Explained accesses x s t
-  clean_explained (Ok a) s t c e = subst (λ u. Answered accesses s u) (sym e) by.none
-  clean_explained (Err r) s t c e = clean_refusal r s t c e
+  clean_explained : {A : Type 0} (low : Bool) (x : Outcome A) (s t : S) → CleanWithin low x → t ≡ s → Explained accesses x s t
+  clean_explained low (Ok a) s t c e = subst (λ u. Answered accesses s u) (sym e) by.none
+  clean_explained low (Err r) s t c e = clean_refusal low r s t c e
 
-  module _ {H : Type 0} (space : H → S) (rest : H → ℕ) where
+  module _ {H : Type 0} (space : H → S) (rest : H → ℕ) (low : H → Bool) where
     branch_explained : {A : Type 0} (b : Bool) (s : S) (x y : Outcome A × H) → Explained accesses x.0 s (space x.1) → Explained accesses y.0 s (space y.1) → Explained accesses (if b then x else y).0 s (space (if b then x else y).1)
     branch_explained true s x y f g = f
     branch_explained false s x y f g = g
 
-    go_on_explained : {A B : Type 0} (s : S) (r : Outcome A) (h : H) (k : A → Change H B) → Explained accesses r s (space h) → ((a : A) → Explains accesses space rest (k a)) → Explained accesses (go_on r h k).0 s (space (go_on r h k).1)
+    go_on_explained : {A B : Type 0} (s : S) (r : Outcome A) (h : H) (k : A → Change H B) → Explained accesses r s (space h) → ((a : A) → Explains accesses space rest low (k a)) → Explained accesses (go_on r h k).0 s (space (go_on r h k).1)
     unfolding go_on
     go_on_explained s (Ok a) h k r all = further (k a h).0 s (space h) (space (k a h).1) r ((all a).explained h)
     go_on_explained s (Err e) h k r all = r
 
-    go_on_spent : {A B : Type 0} (r : Outcome A) (h : H) (k : A → Change H B) → Spent r (rest h) → ((a : A) → Explains accesses space rest (k a)) → Spent (go_on r h k).0 (rest (go_on r h k).1)
+    go_on_spent : {A B : Type 0} (r : Outcome A) (h : H) (k : A → Change H B) → Spent r (rest h) → ((a : A) → Explains accesses space rest low (k a)) → Spent (go_on r h k).0 (rest (go_on r h k).1)
     unfolding go_on
     go_on_spent (Ok a) h k r all = (all a).spent h
     go_on_spent (Err e) h k r all = r
 
-module _ {S : Type 0} {accesses : Accesses S} {H : Type 0} {space : H → S} {rest : H → ℕ} where
-  -- a change that makes no access
-  pub direct_explains : {A : Type 0} (m : Change H A) → ((h : H) → Clean (m h).0) → ((h : H) → space (m h).1 ≡ space h) → Explains accesses space rest m
-  direct_explains m c e = record { explained = λ h. clean_explained accesses (m h).0 (space h) (space (m h).1) (c h) (e h); spent = λ h. clean_spent (m h).0 (rest (m h).1) (c h) }
+    go_on_set : {A B : Type 0} (r : Outcome A) (h : H) (k : A → Change H B) → OfSetting r (low h) → ((a : A) → Explains accesses space rest low (k a)) → OfSetting (go_on r h k).0 (low (go_on r h k).1)
+    unfolding go_on
+    go_on_set (Ok a) h k r all = (all a).set h
+    go_on_set (Err e) h k r all = r
 
-  pub give_explains : {A : Type 0} (a : A) → Explains accesses space rest (give a)
+module _ {S : Type 0} {accesses : Accesses S} {H : Type 0} {space : H → S} {rest : H → ℕ} {low : H → Bool} where
+  -- a change that makes no access, which may be refused for a depth that the setting doesn't allow
+  pub direct_or_set_explains : {A : Type 0} (m : Change H A) → ((h : H) → CleanWithin (low (m h).1) (m h).0) → ((h : H) → space (m h).1 ≡ space h) → Explains accesses space rest low m
+  direct_or_set_explains m c e = record {
+    explained = λ h. clean_explained accesses (low (m h).1) (m h).0 (space h) (space (m h).1) (c h) (e h);
+    spent = λ h. clean_spent (low (m h).1) (m h).0 (rest (m h).1) (c h);
+    set = λ h. within_of_setting (low (m h).1) (m h).0 (c h);
+  }
+
+  -- one that is never refused for it
+  pub direct_explains : {A : Type 0} (m : Change H A) → ((h : H) → Clean (m h).0) → ((h : H) → space (m h).1 ≡ space h) → Explains accesses space rest low m
+  direct_explains m c e = direct_or_set_explains m (λ h. clean_within (low (m h).1) (m h).0 (c h)) e
+
+  pub give_explains : {A : Type 0} (a : A) → Explains accesses space rest low (give a)
   unfolding give
   give_explains a = direct_explains _ (λ h. tt) (λ h. refl)
 
-  pub stop_explains : {A : Type 0} (e : Refusal) → CleanRefusal e → Explains accesses {A = A} space rest (stop e)
+  pub stop_explains : {A : Type 0} (e : Refusal) → CleanRefusal e → Explains accesses {A = A} space rest low (stop e)
   unfolding stop
   stop_explains e apart = direct_explains _ (λ h. apart) (λ h. refl)
 
-  pub settle_explains : {A : Type 0} (x : Outcome A) → Clean x → Explains accesses space rest (settle x)
+  pub settle_explains : {A : Type 0} (x : Outcome A) → Clean x → Explains accesses space rest low (settle x)
   unfolding settle
   settle_explains x c = direct_explains _ (λ h. c) (λ h. refl)
 
-  pub then_explains : {A B : Type 0} (m : Change H A) (k : A → Change H B) → Explains accesses space rest m → ((a : A) → Explains accesses space rest (k a)) → Explains accesses space rest (m >>= k)
+  pub then_explains : {A B : Type 0} (m : Change H A) (k : A → Change H B) → Explains accesses space rest low m → ((a : A) → Explains accesses space rest low (k a)) → Explains accesses space rest low (m >>= k)
   unfolding ◌>>=◌
-  then_explains m k f all = record { explained = λ h. go_on_explained accesses space rest (space h) (m h).0 (m h).1 k (f.explained h) all; spent = λ h. go_on_spent accesses space rest (m h).0 (m h).1 k (f.spent h) all }
+  then_explains m k f all = record {
+    explained = λ h. go_on_explained accesses space rest low (space h) (m h).0 (m h).1 k (f.explained h) all;
+    spent = λ h. go_on_spent accesses space rest low (m h).0 (m h).1 k (f.spent h) all;
+    set = λ h. go_on_set accesses space rest low (m h).0 (m h).1 k (f.set h) all;
+  }
 
-  pub either_branch_explains : {A : Type 0} (test : H → Bool) (m k : Change H A) → Explains accesses space rest m → Explains accesses space rest k → Explains accesses space rest (λ h. if test h then m h else k h)
+  pub either_branch_explains : {A : Type 0} (test : H → Bool) (m k : Change H A) → Explains accesses space rest low m → Explains accesses space rest low k → Explains accesses space rest low (λ h. if test h then m h else k h)
   either_branch_explains test m k f g = record {
-    explained = λ h. branch_explained accesses space rest (test h) (space h) (m h) (k h) (f.explained h) (g.explained h);
+    explained = λ h. branch_explained accesses space rest low (test h) (space h) (m h) (k h) (f.explained h) (g.explained h);
     spent = λ h. branch_spent rest (test h) (m h) (k h) (f.spent h) (g.spent h);
+    set = λ h. branch_of_setting low (test h) (m h) (k h) (f.set h) (g.set h);
   }
 
   -- the same where the steps that are left are not told
-  pub explains_untold : {A : Type 0} (m : Change H A) → Explains accesses space rest m → Explains accesses space (λ h. 0) m
-  explains_untold m f = record { explained = f.explained; spent = λ h. spent_with_none (m h).0 }
+  pub explains_untold : {A : Type 0} (m : Change H A) → Explains accesses space rest low m → Explains accesses space (λ h. 0) low m
+  explains_untold m f = record { explained = f.explained; spent = λ h. spent_with_none (m h).0; set = f.set }
 
   -- ---- unit by unit
 
-  read_units_explains : (read : Access → Change H ℕ) → ((u : Access) → Explains accesses space rest (read u)) → (us : List Access) → Explains accesses space rest (read_units read us)
+  read_units_explains : (read : Access → Change H ℕ) → ((u : Access) → Explains accesses space rest low (read u)) → (us : List Access) → Explains accesses space rest low (read_units read us)
   unfolding read_units
   read_units_explains read each [] = give_explains _
   read_units_explains read each (u ∷ us) = then_explains _ _ (each u) (λ unit. then_explains _ _ (read_units_explains read each us) (λ bits. give_explains _))
 
-  pub bits_read_explains : (read : Access → Change H ℕ) → ((u : Access) → Explains accesses space rest (read u)) → (f : FieldUnit) → Explains accesses space rest (bits_read read f)
+  pub bits_read_explains : (read : Access → Change H ℕ) → ((u : Access) → Explains accesses space rest low (read u)) → (f : FieldUnit) → Explains accesses space rest low (bits_read read f)
   unfolding bits_read
   bits_read_explains read each f = then_explains _ _ (read_units_explains read each (units_of f.bit_offset f.bits f.access)) (λ bits. give_explains _)
 
-  pub write_units_explains : (write : Access → Change H (Unit {0})) → ((u : Access) → Explains accesses space rest (write u)) → (us : List Access) → Explains accesses space rest (write_units write us)
+  pub write_units_explains : (write : Access → Change H (Unit {0})) → ((u : Access) → Explains accesses space rest low (write u)) → (us : List Access) → Explains accesses space rest low (write_units write us)
   unfolding write_units
   write_units_explains write each [] = give_explains _
   write_units_explains write each (u ∷ us) = then_explains _ _ (each u) (λ done. write_units_explains write each us)
 
-  kept_by_explains : (rule : UpdateRule) (read : Change H ℕ) → Explains accesses space rest read → Explains accesses space rest (λ h. kept_by rule read h)
-  kept_by_explains Preserve read f = record { explained = f.explained; spent = f.spent }
-  kept_by_explains WriteAsOnes read f = record { explained = λ h. by.none; spent = λ h. tt }
-  kept_by_explains WriteAsZeros read f = record { explained = λ h. by.none; spent = λ h. tt }
+  kept_by_explains : (rule : UpdateRule) (read : Change H ℕ) → Explains accesses space rest low read → Explains accesses space rest low (λ h. kept_by rule read h)
+  kept_by_explains Preserve read f = record { explained = f.explained; spent = f.spent; set = f.set }
+  kept_by_explains WriteAsOnes read f = record { explained = λ h. by.none; spent = λ h. tt; set = λ h. tt }
+  kept_by_explains WriteAsZeros read f = record { explained = λ h. by.none; spent = λ h. tt; set = λ h. tt }
 
-  pub kept_explains : (f : FieldUnit) (u : Access) (read : Change H ℕ) → Explains accesses space rest read → Explains accesses space rest (kept f u read)
+  pub kept_explains : (f : FieldUnit) (u : Access) (read : Change H ℕ) → Explains accesses space rest low read → Explains accesses space rest low (kept f u read)
   unfolding kept
   kept_explains f u read g = record {
-    explained = λ h. branch_explained accesses space rest (u.count == bit_count f.access) (space h) (Ok 0, h) (kept_by f.update read h) by.none ((kept_by_explains f.update read g).explained h);
+    explained = λ h. branch_explained accesses space rest low (u.count == bit_count f.access) (space h) (Ok 0, h) (kept_by f.update read h) by.none ((kept_by_explains f.update read g).explained h);
     spent = λ h. branch_spent rest (u.count == bit_count f.access) (Ok 0, h) (kept_by f.update read h) tt ((kept_by_explains f.update read g).spent h);
+    set = λ h. branch_of_setting low (u.count == bit_count f.access) (Ok 0, h) (kept_by f.update read h) tt ((kept_by_explains f.update read g).set h);
   }
 
 -- ---- the register space, worlds, and worlds with the steps that are left
 
 module _ {S : Type 0} (accesses : Accesses S) where
   abbrev pub SpaceExplains : {A : Type 0} → Change S A → Type 0
-  SpaceExplains m = Explains accesses (λ s. s) (λ s. 1) m
+  SpaceExplains m = Explains accesses (λ s. s) (λ s. 1) (λ s. false) m
 
   abbrev pub WorldExplains : {A : Type 0} → Change (State S) A → Type 0
-  WorldExplains m = Explains accesses (λ w. w.space) (λ w. 1) m
+  WorldExplains m = Explains accesses (λ w. w.space) (λ w. 1) (λ w. is_low w.nesting) m
 
   -- what has steps of its own
   abbrev pub EvaluationExplains : {A : Type 0} → Change (State S) A → Type 0
-  EvaluationExplains m = Explains accesses (λ w. w.space) (λ w. 0) m
+  EvaluationExplains m = Explains accesses (λ w. w.space) (λ w. 0) (λ w. is_low w.nesting) m
 
   abbrev pub RunExplains : {A : Type 0} → Run S A → Type 0
-  RunExplains m = Explains accesses (λ s. s.0.space) (λ s. s.1) m
+  RunExplains m = Explains accesses (λ s. s.0.space) (λ s. s.1) (λ s. is_low s.0.nesting) m
 
-module _ {S : Type 0} {accesses : Accesses S} {rest : State S → ℕ} where
-  pub on_objects_explains : {A : Type 0} (m : Change Objects A) → AllClean m → Explains accesses (λ w. w.space) rest (on_objects m)
+module _ {S : Type 0} {accesses : Accesses S} {rest : State S → ℕ} {low : State S → Bool} where
+  pub on_objects_explains : {A : Type 0} (m : Change Objects A) → AllClean m → Explains accesses (λ w. w.space) rest low (on_objects m)
   unfolding on_objects
   on_objects_explains m c = direct_explains _ (λ w. c.clean w.objects) (λ w. refl)
 
-  pub on_names_explains : {A : Type 0} (m : Change Namespace A) → AllClean m → Explains accesses (λ w. w.space) rest (on_names m)
+  pub on_names_explains : {A : Type 0} (m : Change Namespace A) → AllClean m → Explains accesses (λ w. w.space) rest low (on_names m)
   unfolding on_names
   on_names_explains m c = direct_explains _ (λ w. c.clean w.names) (λ w. refl)
 
 module _ {S : Type 0} {accesses : Accesses S} where
   pub on_space_explains : {A : Type 0} (m : Change S A) → SpaceExplains accesses m → WorldExplains accesses (on_space m)
   unfolding on_space
-  on_space_explains m f = record { explained = λ w. f.explained w.space; spent = λ w. f.spent w.space }
+  on_space_explains m f = record { explained = λ w. f.explained w.space; spent = λ w. f.spent w.space; set = λ w. set_anywhere (m w.space).0 (is_low w.nesting) (f.set w.space) }
 
   pub lift_explains : {A : Type 0} (m : Change (State S) A) → WorldExplains accesses m → RunExplains accesses (lift m)
   unfolding lift
-  lift_explains m f = record { explained = λ s. f.explained s.0; spent = λ s. unspent (m s.0).0 s.1 (f.spent s.0) }
+  lift_explains m f = record { explained = λ s. f.explained s.0; spent = λ s. unspent (m s.0).0 s.1 (f.spent s.0); set = λ s. f.set s.0 }
 
   pub charge_explains : RunExplains accesses charge
   unfolding charge
   charge_explains = record {
-    explained = λ s. branch_explained accesses (λ x. x.0.space) (λ x. x.1) (s.1 == 0) s.0.space (Err (refusals.Evaluation OutOfSteps), s) (Ok tt, (s.0, s.1 - 1)) by.none by.none;
+    explained = λ s. branch_explained accesses (λ x. x.0.space) (λ x. x.1) (λ x. is_low x.0.nesting) (s.1 == 0) s.0.space (Err (refusals.Evaluation OutOfSteps), s) (Ok tt, (s.0, s.1 - 1)) by.none by.none;
     spent = λ s. charge_spent s.0 s.1;
+    set = λ s. branch_of_setting {H = State S × ℕ} (λ x. is_low x.0.nesting) (s.1 == 0) (Err (refusals.Evaluation OutOfSteps), s) (Ok tt, (s.0, s.1 - 1)) tt tt;
   }
 
 -- ---- fields of regions
@@ -270,11 +297,11 @@ module _ {S : Type 0} (accesses : Accesses S) where
 
   read_access_explains : (p : Place) (width : Width) → SpaceExplains accesses (read_access accesses p width)
   unfolding read_access
-  read_access_explains p width = record { explained = λ s. read_explained s (accesses.reads s p width).1 p width (accesses.reads s p width).0 refl; spent = λ s. faulted_spent (accesses.reads s p width).0 1 }
+  read_access_explains p width = record { explained = λ s. read_explained s (accesses.reads s p width).1 p width (accesses.reads s p width).0 refl; spent = λ s. faulted_spent (accesses.reads s p width).0 1; set = λ s. faulted_of_setting (accesses.reads s p width).0 }
 
   write_access_explains : (p : Place) (width : Width) (value : ℕ) → SpaceExplains accesses (write_access accesses p width value)
   unfolding write_access
-  write_access_explains p width value = record { explained = λ s. write_explained s (accesses.writes s p width value).1 p width value (accesses.writes s p width value).0 refl; spent = λ s. faulted_spent (accesses.writes s p width value).0 1 }
+  write_access_explains p width value = record { explained = λ s. write_explained s (accesses.writes s p width value).1 p width value (accesses.writes s p width value).0 refl; spent = λ s. faulted_spent (accesses.writes s p width value).0 1; set = λ s. faulted_of_setting (accesses.writes s p width value).0 }
 
   pub read_unit_explains : (r : Region) (width : Width) (u : Access) → SpaceExplains accesses (read_unit accesses r width u)
   unfolding read_unit

@@ -1,11 +1,11 @@
 -- Where a table, an object or an answer refuses by a fault of the register space, its last access answered with it.
-use Rattle.std.specs.Prelude.{Err, List, Ok, [], length, refl, suc, zero, ℕ, ◌-◌, ◌==◌, ◌^◌, ◌∷◌}
+use Rattle.std.specs.Prelude.{◌≡◌, Err, List, Ok, [], length, refl, suc, zero, ℕ, ◌-◌, ◌==◌, ◌^◌, ◌∷◌}
 use Rattle.ar_space.specs.Accesses.{Accesses}
 use Rattle.ar_space.specs.Change.{Change}
 use Rattle.ar_space.specs.Outcome.{Outcome, seen}
 use Rattle.aml_path.specs.Paths.{Name, resolved}
 use Rattle.aml_path.specs.declared.segment.Seg.{Seg}
-use Rattle.aml_grammar.specs.Grammar.{table_reading}
+use Rattle.aml_grammar.specs.Grammar.{table_reading_within}
 use Rattle.aml_grammar.specs.Tree.{Tree, Trees}
 use Rattle.aml_grammar.specs.declared.arities.Arity.{Arity}
 use Rattle.aml_objects.specs.declared.object.Element.TheVariants as element
@@ -29,15 +29,16 @@ use Rattle.aml_meaning.specs.declared.name_use.NameUse.TheVariants as uses
 use Rattle.aml_meaning.specs.declared.name_use.NameUse.{NameUse}
 use Rattle.aml_laws.proofs.CleanNames.{found_clean}
 use Rattle.aml_laws.proofs.CleanObjects.{buffer_at_clean, elements_at_clean, make_buffer_clean, make_package_clean, make_string_clean, string_at_clean}
-use Rattle.aml_laws.proofs.CleanOutcomes.{Clean, seen_clean}
-use Rattle.aml_laws.proofs.CleanReading.{table_reading_clean}
+use Rattle.aml_laws.proofs.CleanOutcomes.{seen_clean}
+use Rattle.aml_laws.proofs.CleanReading.{table_reading_within_clean}
 use Rattle.aml_laws.proofs.CleanValues.{resolved_clean}
 use Rattle.aml_laws.proofs.CleanWorlds.{use_of_clean}
 use Rattle.aml_laws.proofs.FaultsOfCalls.{called_at_explains, field_read_explains, in_turn_explains, method_value_explains}
-use Rattle.aml_laws.proofs.FaultsOfChanges.{EvaluationExplains, Explained, RunExplains, Spent, WorldExplains, spent_with_none, charge_explains, direct_explains, either_branch_explains, give_explains, lift_explains, on_objects_explains, stop_explains, then_explains}
+use Rattle.aml_laws.proofs.FaultsOfChanges.{EvaluationExplains, Explained, RunExplains, Spent, WorldExplains, spent_with_none, charge_explains, direct_explains, direct_or_set_explains, either_branch_explains, give_explains, lift_explains, on_objects_explains, stop_explains, then_explains}
 use Rattle.aml_laws.proofs.FaultsOfFields.{field_given_explains}
 use Rattle.aml_laws.proofs.FaultsOfOperations.{entry_found_explains, integer_kept_explains, invocation_found_explains, osi_answered_explains}
 use Rattle.aml_laws.proofs.FaultsOfTerms.{meaning_explains}
+use Rattle.aml_laws.proofs.SetDepths.{CleanWithin, OfSetting, few_levels, is_low, low_so, seen_of_setting}
 
 module _ {S : Type 0} (accesses : Accesses S) where
   taken_back_explained : (count : ℕ) (s : S) (x : Outcome Value) (w : State S) → Explained accesses x s w.space → Explained accesses (taken_back {S = S} count (x, w)).0 s (taken_back {S = S} count (x, w)).1.space
@@ -48,6 +49,18 @@ module _ {S : Type 0} (accesses : Accesses S) where
   taken_back_spent count (Ok v) w h = tt
   taken_back_spent count (Err e) w h = h
 
+  taken_back_set : (count : ℕ) (x : Outcome Value) (w : State S) → OfSetting x (is_low w.nesting) → OfSetting (taken_back {S = S} count (x, w)).0 (is_low (taken_back {S = S} count (x, w)).1.nesting)
+  taken_back_set count (Ok v) w h = tt
+  taken_back_set count (Err e) w h = h
+
+terms_kept_clean : {S : Type 0} (x : Outcome (List Tree × List Arity)) (w : State S) → CleanWithin (is_low w.nesting) x → CleanWithin (is_low (terms_kept x w).1.nesting) (terms_kept x w).0
+terms_kept_clean (Ok p) w c = tt
+terms_kept_clean (Err e) w c = c
+
+terms_kept_directly : {S : Type 0} (x : Outcome (List Tree × List Arity)) (w : State S) → (terms_kept x w).1.space ≡ w.space
+terms_kept_directly (Ok p) w = refl
+terms_kept_directly (Err e) w = refl
+
 module _ {S : Type 0} {accesses : Accesses S} where
   opened_explains : (vs : List Value) → EvaluationExplains accesses (opened vs)
   unfolding opened
@@ -55,13 +68,11 @@ module _ {S : Type 0} {accesses : Accesses S} where
 
   -- ---- the terms of a table
 
-  terms_kept_explains : (x : Outcome (List Tree × List Arity)) → Clean x → EvaluationExplains accesses (terms_kept x)
-  terms_kept_explains (Ok p) c = direct_explains _ (λ w. c) (λ w. refl)
-  terms_kept_explains (Err e) c = direct_explains _ (λ w. c) (λ w. refl)
-
   table_terms_explains : (bytes : List ℕ) → EvaluationExplains accesses (table_terms bytes)
   unfolding table_terms
-  table_terms_explains bytes = record { explained = λ w. (terms_kept_explains (table_reading bytes w.arities) (table_reading_clean bytes w.arities)).explained w; spent = λ w. (terms_kept_explains (table_reading bytes w.arities) (table_reading_clean bytes w.arities)).spent w }
+  table_terms_explains bytes = direct_or_set_explains _ (λ w.
+      let read = table_reading_within w.nesting.levels bytes w.arities in
+      terms_kept_clean read w (low_so _ _ read (few_levels w.nesting) (table_reading_within_clean w.nesting.levels bytes w.arities))) (λ w. terms_kept_directly (table_reading_within w.nesting.levels bytes w.arities) w)
 
   -- ---- arguments
 
@@ -95,7 +106,7 @@ module _ {S : Type 0} {accesses : Accesses S} where
 
   imported_explains : (g : given.Given) → WorldExplains accesses (imported g)
   unfolding imported
-  imported_explains g = record { explained = λ w. taken_back_explained accesses (length w.objects) w.space _ _ ((imported_by_explains (package_imported 64) (package_imported_explains 64) g).explained w); spent = λ w. taken_back_spent accesses (length w.objects) _ _ ((imported_by_explains (package_imported 64) (package_imported_explains 64) g).spent w) }
+  imported_explains g = record { explained = λ w. taken_back_explained accesses (length w.objects) w.space _ _ ((imported_by_explains (package_imported 64) (package_imported_explains 64) g).explained w); spent = λ w. taken_back_spent accesses (length w.objects) _ _ ((imported_by_explains (package_imported 64) (package_imported_explains 64) g).spent w); set = λ w. taken_back_set accesses (length w.objects) _ _ ((imported_by_explains (package_imported 64) (package_imported_explains 64) g).set w) }
 
   all_imported_explains : (gs : List given.Given) (done : List Value) → WorldExplains accesses (all_imported gs done)
   unfolding all_imported
@@ -198,15 +209,15 @@ module _ {S : Type 0} (accesses : Accesses S) where
 
   pub with_steps_explains : {A : Type 0} (steps : ℕ) (m : Run S A) → RunExplains accesses m → EvaluationExplains accesses (with_steps steps m)
   unfolding with_steps
-  with_steps_explains steps m h = record { explained = λ w. h.explained (w, steps); spent = λ w. spent_with_none (m (w, steps)).0 }
+  with_steps_explains steps m h = record { explained = λ w. h.explained (w, steps); spent = λ w. spent_with_none (m (w, steps)).0; set = λ w. h.set (w, steps) }
 
   framed_explains : {A : Type 0} (m : Change (State S) A) → EvaluationExplains accesses m → EvaluationExplains accesses (framed m)
   unfolding framed
-  framed_explains m h = record { explained = h.explained; spent = h.spent }
+  framed_explains m h = record { explained = h.explained; spent = h.spent; set = h.set }
 
   pub ending_explains : {A : Type 0} (m : Change (State S) A) → EvaluationExplains accesses m → EvaluationExplains accesses (ending m)
   unfolding ending
-  ending_explains m h = record { explained = h.explained; spent = h.spent }
+  ending_explains m h = record { explained = h.explained; spent = h.spent; set = h.set }
 
   rest_explained : (x : Outcome Value) (rest : ℕ) (s t : S) → Explained accesses x s t → Explained accesses (with_rest x rest) s t
   rest_explained (Ok v) rest s t h = h
@@ -219,7 +230,11 @@ module _ {S : Type 0} (accesses : Accesses S) where
 
   pub evaluated_explains : (p : List Seg) (arguments : List Value) (steps : ℕ) → EvaluationExplains accesses (evaluated accesses p arguments steps)
   unfolding evaluated counted
-  evaluated_explains p arguments steps = record { explained = λ w. rest_explained _ _ w.space _ ((called_explains p arguments).explained (w, steps)); spent = λ w. spent_with_none (with_rest (called accesses p arguments (w, steps)).0 (called accesses p arguments (w, steps)).1.1) }
+  evaluated_explains p arguments steps = record {
+    explained = λ w. rest_explained _ _ w.space _ ((called_explains p arguments).explained (w, steps));
+    spent = λ w. spent_with_none (with_rest (called accesses p arguments (w, steps)).0 (called accesses p arguments (w, steps)).1.1);
+    set = λ w. seen_of_setting _ (called accesses p arguments (w, steps)).0 _ ((called_explains p arguments).set (w, steps));
+  }
 
   pub answered_explains : (p : List Seg) (arguments : List given.Given) (steps : ℕ) → EvaluationExplains accesses (answered accesses p arguments steps)
   unfolding answered

@@ -16,6 +16,7 @@ use Rattle.aml_laws.specs.Answered.{none}
 use Rattle.aml_laws.proofs.Costs.{Costs, turn_pays}
 use Rattle.aml_laws.proofs.FaultsOfCalls.{in_turn_explains, operand_integer_explains}
 use Rattle.aml_laws.proofs.FaultsOfChanges.{Explains, RunExplains, Spent, explains_untold, give_explains, then_explains}
+use Rattle.aml_laws.proofs.SetDepths.{is_low}
 
 module _ {S : Type 0} (accesses : Accesses S) (ev : Task → Run S Flow) (parts : (t : Task) → RunExplains accesses (ev t)) where
   turn_of_explains : (scope : List Seg) (depth : ℕ) (ts : Trees) (b : Bool) → RunExplains accesses (turn_of ev scope depth ts b)
@@ -29,7 +30,7 @@ module _ {S : Type 0} (accesses : Accesses S) (ev : Task → Run S Flow) (parts 
   -- ---- the register space, where the steps that are left are not told
 
   abbrev pub UntoldExplains : {A : Type 0} → Run S A → Type 0
-  UntoldExplains m = Explains accesses (λ s. s.0.space) (λ s. 0) m
+  UntoldExplains m = Explains accesses (λ s. s.0.space) (λ s. 0) (λ s. is_low s.0.nesting) m
 
   after_turn_explains : (o : Option Flow) (m : Run S Flow) → UntoldExplains m → UntoldExplains (after_turn ev o m)
   after_turn_explains None m h = h
@@ -37,7 +38,7 @@ module _ {S : Type 0} (accesses : Accesses S) (ev : Task → Run S Flow) (parts 
 
   turns_explains : (k : ℕ) (scope : List Seg) (depth : ℕ) (c : Tree) (ts : Trees) → UntoldExplains (turns ev k scope depth c ts)
   unfolding turns stop
-  turns_explains zero scope depth c ts = record { explained = λ s. none; spent = λ s. refl }
+  turns_explains zero scope depth c ts = record { explained = λ s. none; spent = λ s. refl; set = λ s. tt }
   turns_explains (suc k) scope depth c ts = then_explains _ _ (explains_untold _ (turn_explains scope depth c ts)) (λ f. after_turn_explains (loop_end f) _ (turns_explains k scope depth c ts))
 
   -- ---- the steps that are left
@@ -63,4 +64,4 @@ module _ {S : Type 0} (accesses : Accesses S) (ev : Task → Run S Flow) (parts 
 
     pub loop_explains : (scope : List Seg) (depth : ℕ) (c : Tree) (ts : Trees) → RunExplains accesses (loop ev scope depth c ts)
     unfolding loop
-    loop_explains scope depth c ts = record { explained = λ s. (turns_explains (suc s.1) scope depth c ts).explained s; spent = λ s. turns_spent (suc s.1) scope depth c ts s (omega arith) }
+    loop_explains scope depth c ts = record { explained = λ s. (turns_explains (suc s.1) scope depth c ts).explained s; spent = λ s. turns_spent (suc s.1) scope depth c ts s (omega arith); set = λ s. (turns_explains (suc s.1) scope depth c ts).set s }

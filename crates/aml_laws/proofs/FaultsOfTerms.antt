@@ -1,5 +1,5 @@
--- Where a term refuses by a fault of the register space, its last access answered with it, and where it refuses for want of steps, none
--- is left.
+-- Where a term refuses by a fault of the register space, its last access answered with it; where it refuses for want of steps, none is
+-- left; and where it refuses for a depth that the setting doesn't allow, it allows less than the default.
 use Rattle.std.specs.Prelude.{◌≡◌, ◌<◌, ◌≤◌, ℕ, zero, suc, nat_le, Bool, true, false, Ok, Err, refl}
 use Rattle.std.proofs.Common.{arith, ap, sym, subst, ◌∙◌}
 use Rattle.std.proofs.lemmas.Bool.Decides.{nat_tests}
@@ -22,6 +22,7 @@ use Rattle.aml_laws.proofs.Costs.{Costs}
 use Rattle.aml_laws.proofs.FaultsOfChanges.{Explained, RunExplains, Spent}
 use Rattle.aml_laws.proofs.FaultsOfRules.{rule_explains}
 use Rattle.aml_laws.proofs.RuleByParts.{rule_by_parts}
+use Rattle.aml_laws.proofs.SetDepths.{OfSetting, is_low}
 
 is_within : (k n : ℕ) → nat_le k n ≡ true → k ≤ n
 is_within k n h = grind (arith, nat_tests)
@@ -40,16 +41,17 @@ module _ {S : Type 0} (accesses : Accesses S) where
   held n t s = held_if (nat_le s.1 n) t s
 
   abbrev Tells : Outcome Flow × (State S × ℕ) → S → Type 0
-  Tells p s = Explained accesses p.0 s p.1.0.space × Spent p.0 p.1.1
+  Tells p s = Explained accesses p.0 s p.1.0.space × (Spent p.0 p.1.1 × OfSetting p.0 (is_low p.1.0.nesting))
 
   held_tells_by : (b : Bool) (t : Task) (s : State S × ℕ) → (b ≡ true → Tells (meaning accesses t s) s.0.space) → Tells (held_if b t s) s.0.space
   held_tells_by true t s h = h refl
-  held_tells_by false t s h = (none, tt)
+  held_tells_by false t s h = (none, (tt, tt))
 
   held_explains : (n : ℕ) → ((t : Task) (s : State S × ℕ) → s.1 ≤ n → Tells (meaning accesses t s) s.0.space) → (t : Task) → RunExplains accesses (held n t)
   held_explains n tells t = record {
     explained = λ s. (held_tells_by (nat_le s.1 n) t s (λ h. tells t s (is_within s.1 n h))).0;
-    spent = λ s. (held_tells_by (nat_le s.1 n) t s (λ h. tells t s (is_within s.1 n h))).1;
+    spent = λ s. (held_tells_by (nat_le s.1 n) t s (λ h. tells t s (is_within s.1 n h))).1.0;
+    set = λ s. (held_tells_by (nat_le s.1 n) t s (λ h. tells t s (is_within s.1 n h))).1.1;
   }
 
   less_by : (b : Bool) (t : Task) (s : State S × ℕ) → (held_if b t s).1.1 ≤ s.1
@@ -79,12 +81,16 @@ module _ {S : Type 0} (accesses : Accesses S) where
       ∙ rule_by_parts accesses (meaning accesses) (held b) t w b (record { same = λ u s le. held_same b u s le; less = λ u s le. meaning_less accesses u s })
 
   told : (n : ℕ) (t : Task) (w : State S) (b : ℕ) → b ≤ n → Tells (meaning accesses t (w, b)) w.space
-  told zero t w zero le = subst (λ p. Tells p w.space) (sym (meaning_none t w)) (none, refl)
-  told (suc n) t w zero le = subst (λ p. Tells p w.space) (sym (meaning_none t w)) (none, refl)
+  told zero t w zero le = subst (λ p. Tells p w.space) (sym (meaning_none t w)) (none, (refl, tt))
+  told (suc n) t w zero le = subst (λ p. Tells p w.space) (sym (meaning_none t w)) (none, (refl, tt))
   told zero t w (suc b) le = absurd (omega arith)
   told (suc n) t w (suc b) le =
       let h = rule_explains accesses (held b) (held_explains b (λ u s less. told n u s.0 s.1 (omega arith))) (held_costs b) t in
-      subst (λ p. Tells p w.space) (sym (meaning_one t w b)) (h.explained (w, b), h.spent (w, b))
+      subst (λ p. Tells p w.space) (sym (meaning_one t w b)) (h.explained (w, b), (h.spent (w, b), h.set (w, b)))
 
   pub meaning_explains : (t : Task) → RunExplains accesses (meaning accesses t)
-  meaning_explains t = record { explained = λ s. (told s.1 t s.0 s.1 (omega arith)).0; spent = λ s. (told s.1 t s.0 s.1 (omega arith)).1 }
+  meaning_explains t = record {
+    explained = λ s. (told s.1 t s.0 s.1 (omega arith)).0;
+    spent = λ s. (told s.1 t s.0 s.1 (omega arith)).1.0;
+    set = λ s. (told s.1 t s.0 s.1 (omega arith)).1.1;
+  }

@@ -19,7 +19,7 @@ use Rattle.aml_meaning.specs.Tasks.{Task, in_turn}
 use Rattle.aml_grammar.specs.Tree.{Trees}
 use Rattle.aml_laws.specs.Becomes.{Becomes}
 use Rattle.aml_meaning.specs.Slots.{opened}
-use Rattle.aml_meaning.specs.declared.profile.Profile.{Profile}
+use Rattle.aml_meaning.specs.declared.settings.EvaluationSettings.{EvaluationSettings}
 use Rattle.aml_meaning.specs.Predefined.{fresh_as, predefined}
 use Rattle.aml_laws.specs.Numbers.{numbers_of, RiseTo}
 use Rattle.aml_laws.proofs.WorldRelations.{WorldRelation, in_new_frame}
@@ -98,8 +98,8 @@ rise_with_next (n ∷ m ∷ ms) a h = (h.0, rise_with_next (m ∷ ms) a h.1)
 pub frames_rise : {S : Type 0} (accesses : Accesses S) (w v : State S) → Becomes accesses w v → RiseTo w.started (numbers_of w.frames) → RiseTo v.started (numbers_of v.frames)
 frames_rise accesses w v h rise = subst (RiseTo v.started) (sym (frames_are_balanced accesses w v h)) (rise_to_higher (numbers_of w.frames) w.started v.started (next_frame_rises accesses w v h) rise)
 
-pub frames_rise_always : {S : Type 0} (accesses : Accesses S) (profile : Profile) (width : IntegerWidth) (osi : List (List ℕ)) (space : S) (v : State S) → Becomes accesses (predefined (fresh_as profile width osi space)).1 v → RiseTo v.started (numbers_of v.frames)
-frames_rise_always accesses profile width osi space v h = frames_rise accesses _ v h (subst (RiseTo _) (sym ((predefined_preserves {relation = frame_numbers_relation accesses}).preserves (fresh_as profile width osi space))) tt)
+pub frames_rise_always : {S : Type 0} (accesses : Accesses S) (settings : EvaluationSettings) (width : IntegerWidth) (osi : List (List ℕ)) (space : S) (v : State S) → Becomes accesses (predefined (fresh_as settings width osi space)).1 v → RiseTo v.started (numbers_of v.frames)
+frames_rise_always accesses settings width osi space v h = frames_rise accesses _ v h (subst (RiseTo _) (sym ((predefined_preserves {relation = frame_numbers_relation accesses}).preserves (fresh_as settings width osi space))) tt)
 
 opened_rises_by_cases : {S : Type 0} (b : Bool) (x : Refusal) (arguments : List Value) (w : State S) (n : ℕ) → RiseTo w.started (numbers_of w.frames) → (if◌then◌else◌ {A = Outcome ℕ × State S} b (Err x, w) (Ok w.started, in_new_frame arguments w)).0 ≡ Ok n
     → RiseTo (if◌then◌else◌ {A = Outcome ℕ × State S} b (Err x, w) (Ok w.started, in_new_frame arguments w)).1.started (numbers_of (if◌then◌else◌ {A = Outcome ℕ × State S} b (Err x, w) (Ok w.started, in_new_frame arguments w)).1.frames)

@@ -1,5 +1,5 @@
--- The number of a frame that ended stays below the next one.
-use Rattle.std.specs.Prelude.{◌≡◌, ◌<◌, ℕ, ◌+◌, List, Ok}
+-- The number of a frame that ended stays below the next one, and the next one stays as it was.
+use Rattle.std.specs.Prelude.{◌≡◌, ◌<◌, ℕ, ◌+◌, List, Ok, refl}
 use Rattle.std.proofs.Common.{arith, ap}
 use Rattle.ar_space.specs.Accesses.{Accesses}
 use Rattle.ar_space.specs.Outcome.{Outcome}
@@ -8,7 +8,8 @@ use Rattle.aml_grammar.specs.Tree.{Trees}
 use Rattle.aml_objects.specs.declared.value.Value.{Value}
 use Rattle.aml_meaning.specs.State.{State}
 use Rattle.aml_meaning.specs.declared.flow.Flow.{Flow}
-use Rattle.aml_meaning.specs.Invocations.{body_terms, leaving, invoked}
+use Rattle.aml_meaning.specs.Slots.{closed}
+use Rattle.aml_meaning.specs.Invocations.{body_terms, left, leaving, invoked}
 use Rattle.aml_meaning.specs.Meaning.{meaning}
 use Rattle.aml_meaning.specs.Tasks.{in_turn}
 use Rattle.aml_laws.specs.Becomes.{same, list}
@@ -32,3 +33,12 @@ module _ {S : Type 0} (accesses : Accesses S) (depth : ℕ) (p : List Seg) (body
 
 pub number_is_spent : {S : Type 0} (accesses : Accesses S) (depth : ℕ) (p : List Seg) (body : List ℕ) (arguments : List Value) (s : State S × ℕ) (n : ℕ) → (body_frame depth p body arguments s.0).0 ≡ Ok n → n < (invoked (meaning accesses) depth p body arguments s).1.0.started
 number_is_spent accesses depth p body arguments s n is = frame_ended accesses depth p body arguments s.0 (body_frame depth p body arguments s.0).1 s.1 n (ap (λ (r : Outcome ℕ). (r, (body_frame depth p body arguments s.0).1)) is)
+
+-- the end of a call, and of any frame, leaves the next number as it was
+pub next_stays_behind_call : {S : Type 0} (p : List Seg) (w : State S) → (left p w).started ≡ w.started
+next_stays_behind_call p w = refl
+
+pub next_stays_behind_frame : {S : Type 0} (w : State S) → (closed w).started ≡ w.started
+next_stays_behind_frame w = refl
+
+pub ruleset numbers_stay_given = (number_is_spent, next_stays_behind_call, next_stays_behind_frame)

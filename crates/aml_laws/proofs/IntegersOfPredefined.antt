@@ -10,7 +10,7 @@ use Rattle.aml_objects.specs.declared.entry.Entry.{Entry}
 use Rattle.aml_objects.specs.declared.entry.NamedObject.{NamedObject}
 use Rattle.aml_objects.specs.declared.entry.NamedObject.TheVariants as object
 use Rattle.aml_namespace.proofs.Paths.{path_total}
-use Rattle.aml_meaning.specs.declared.profile.Profile.{Profile}
+use Rattle.aml_meaning.specs.declared.settings.EvaluationSettings.{EvaluationSettings}
 use Rattle.aml_meaning.specs.Predefined.{fresh_as, takes, at_root, predefined_scopes, predefined_objects, predefined}
 use Rattle.aml_laws.proofs.ReadingStepsGiveBytes.{Any}
 use Rattle.aml_laws.proofs.Invariants.{Maintains, ok_maintained, then_maintains}
@@ -28,8 +28,8 @@ root_fits_by_cases width true v e o f none is = let same : v ≡ e = cc is in su
 root_fits_by_cases width false v e o f none is = absurd (cc (sym none ∙ is))
 
 module _ (S : Type 0) (width : IntegerWidth) where
-  fresh_world_within : (profile : Profile) (osi : List (List ℕ)) (space : S) → WorldFits (integers_within width) (fresh_as profile width osi space)
-  fresh_world_within profile osi space = record {
+  fresh_world_within : (settings : EvaluationSettings) (osi : List (List ℕ)) (space : S) → WorldFits (integers_within width) (fresh_as settings width osi space)
+  fresh_world_within settings osi space = record {
     wide = λ m. refl;
     names = λ path e is. root_fits_by_cases width (eq_by_cmp path_cmp path []) (record { number = 0; object = object.Scope }) e (get (empty {X = Entry} {R = path_cmp}) path) tt (get-empty path_cmp path) (sym (get-insert path_total empty [] (record { number = 0; object = object.Scope }) path) ∙ is);
     objects = record { fit = λ n o at. absurd (cc at); kept = λ n o at. tt; enough = omega arith; unused = λ n le. tt };
@@ -52,5 +52,5 @@ module _ (S : Type 0) (width : IntegerWidth) where
       then_maintains _ _ (then_maintains _ _ (predefined_at_root_maintains _ _ _ tt) (λ a u. then_maintains _ _ (predefined_at_root_maintains _ _ _ tt) (λ b v. then_maintains _ _ (predefined_at_root_maintains _ _ _ tt) (λ c x. then_maintains _ _ (predefined_at_root_maintains _ _ _ tt) (λ d y. predefined_at_root_maintains _ _ _ tt))))) (λ z k.
       then_maintains _ _ (predefined_at_root_maintains _ _ _ tt) (λ a u. then_maintains _ _ (on_objects_maintains S (integers_within width) _ (make_string_maintains (integers_within width) _ (λ m. bytes_by_test (codes "Microsoft Windows NT") refl))) (λ text f. then_maintains _ _ (predefined_at_root_maintains _ _ _ f) (λ b v. then_maintains _ _ (predefined_at_root_maintains _ _ _ (λ m. small_number_fits width 2 (omega arith))) (λ c x. predefined_at_root_maintains _ _ _ tt)))))
 
-pub predefined_world_within : {S : Type 0} (profile : Profile) (width : IntegerWidth) (osi : List (List ℕ)) (space : S) → AllWithin width (predefined (fresh_as profile width osi space)).1
-predefined_world_within {S} profile width osi space = world_within width _ ((predefined_maintains S width).maintains (fresh_as profile width osi space) (fresh_world_within S width profile osi space)).state
+pub predefined_world_within : {S : Type 0} (settings : EvaluationSettings) (width : IntegerWidth) (osi : List (List ℕ)) (space : S) → AllWithin width (predefined (fresh_as settings width osi space)).1
+predefined_world_within {S} settings width osi space = world_within width _ ((predefined_maintains S width).maintains (fresh_as settings width osi space) (fresh_world_within S width settings osi space)).state

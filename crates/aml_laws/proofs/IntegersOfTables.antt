@@ -11,7 +11,7 @@ use Rattle.aml_path.specs.declared.segment.Seg.{Seg}
 use Rattle.aml_grammar.specs.State.{State as Reading}
 use Rattle.aml_grammar.specs.Tree.{Tree, Trees}
 use Rattle.aml_grammar.specs.Shape.{trees_of}
-use Rattle.aml_grammar.specs.Grammar.{with_arities, term_list, by_arities}
+use Rattle.aml_grammar.specs.Grammar.{with_arities, term_list_within, by_arities, within, refusal_within}
 use Rattle.aml_objects.specs.declared.value.Value.{Value}
 use Rattle.aml_objects.specs.declared.value.Value.TheVariants as value
 use Rattle.aml_objects.specs.declared.entry.Entry.{Entry}
@@ -27,7 +27,7 @@ use Rattle.aml_meaning.specs.Meaning.{meaning}
 use Rattle.aml_meaning.specs.Calling.{ending, with_steps, framed, in_frame, terms_kept, table_terms, at_root, table_run, loaded, value_of, called, with_rest, counted, evaluated}
 use Rattle.aml_laws.specs.Within.{WithinWidth}
 use Rattle.aml_laws.proofs.ReadingStepsGiveBytes.{Any}
-use Rattle.aml_laws.proofs.ReadTermsHoldBytes.{read_terms_plain}
+use Rattle.aml_laws.proofs.ReadTermsHoldBytes.{list_within_plain}
 use Rattle.aml_laws.proofs.Invariants.{Maintained, Maintains, ok_fits, err_maintained, ok_maintained, give_maintains, then_maintains, each_take, each_replicate}
 use Rattle.aml_laws.proofs.ValuesOfWorlds.{WorldWithin, osi_answered_maintains}
 use Rattle.aml_laws.proofs.ValuesOfFields.{RunWithin, lift_maintains}
@@ -77,13 +77,13 @@ module _ (S : Type 0) (width : IntegerWidth) (accesses : Accesses S) where
   unfolding with_steps
   with_steps_maintains steps m h = record { maintains = λ w a. record { state = (h.maintains (w, steps) a).state; gives = λ x e. tt } }
 
-  terms_kept_maintained : (bytes : List ℕ) (w : State S) (r : Outcome (List Tree)) (s : Reading) → WorldFits K w → ((ts : List Tree) → r ≡ Ok ts → PlainTrees (trees_of ts)) → Maintained (WorldWithin S K) PlainTrees (terms_kept (with_arities (r, s)) w)
-  terms_kept_maintained bytes w (Ok ts) s a h = ok_maintained (trees_of ts) _ (record { wide = a.wide; names = a.names; objects = a.objects; frames = a.frames; next = a.next; latest = a.latest }) (h ts refl)
-  terms_kept_maintained bytes w (Err e) s a h = err_maintained e w a
+  terms_kept_maintained : (levels : ℕ) (bytes : List ℕ) (w : State S) (r : Outcome (List Tree)) (s : Reading) → WorldFits K w → ((ts : List Tree) → r ≡ Ok ts → PlainTrees (trees_of ts)) → Maintained (WorldWithin S K) PlainTrees (terms_kept (within levels (with_arities (r, s))) w)
+  terms_kept_maintained levels bytes w (Ok ts) s a h = ok_maintained (trees_of ts) _ (record { wide = a.wide; names = a.names; objects = a.objects; frames = a.frames; next = a.next; latest = a.latest }) (h ts refl)
+  terms_kept_maintained levels bytes w (Err e) s a h = err_maintained (refusal_within levels e) w a
 
   table_terms_maintains : (bytes : List ℕ) → AreBytes bytes → Maintains (WorldWithin S K) PlainTrees (table_terms bytes)
   unfolding table_terms
-  table_terms_maintains bytes h = record { maintains = λ w a. terms_kept_maintained bytes w (term_list by_arities bytes [] false w.arities).0 (term_list by_arities bytes [] false w.arities).1 a (λ ts is. read_terms_plain bytes [] false w.arities ts h is) }
+  table_terms_maintains bytes h = record { maintains = λ w a. let list = term_list_within w.nesting.levels by_arities bytes [] false w.arities in terms_kept_maintained w.nesting.levels bytes w list.0 list.1 a (λ ts is. list_within_plain w.nesting.levels bytes [] false w.arities ts h is) }
 
   at_root_maintains : (ts : Trees) → PlainTrees ts → Maintains (RunWithin S K) Any (at_root accesses ts)
   unfolding at_root

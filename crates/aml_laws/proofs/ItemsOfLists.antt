@@ -20,6 +20,7 @@ use Rattle.aml_meaning.specs.Tasks.{Task, task, module_level, passes_over, item}
 use Rattle.aml_laws.specs.Answered.{Answered}
 use Rattle.aml_laws.specs.Counted.{without_counter}
 use Rattle.aml_laws.proofs.CountedChanges.{RunCounts, run_view}
+use Rattle.aml_laws.proofs.SetDepths.{OfSetting, is_low}
 use Rattle.aml_laws.proofs.FaultsOfChanges.{Explained, RefusalExplained, RunExplains, Spent, either_branch_explains}
 use Rattle.aml_laws.proofs.WorldRelations.{PartsLead, Levels, WorldRelationOf, RunPreserves}
 
@@ -121,6 +122,11 @@ module _ {S : Type 0} (accesses : Accesses S) where
   spent_by_refusal true scope e s h = tt
   spent_by_refusal false scope e s h = h
 
+  set_by_refusal : (b : Bool) (scope : List Seg) (e : Refusal) (s : State S × ℕ) → OfSetting {A = Flow} (Err e) (is_low s.0.nesting)
+      → OfSetting (if◌then◌else◌ {A = Outcome Flow × (State S × ℕ)} b (Ok flow.Next, (with_passed scope e s.0, s.1)) (Err e, s)).0 (is_low (if◌then◌else◌ {A = Outcome Flow × (State S × ℕ)} b (Ok flow.Next, (with_passed scope e s.0, s.1)) (Err e, s)).1.0.nesting)
+  set_by_refusal true scope e s h = tt
+  set_by_refusal false scope e s h = h
+
   done_explained : (scope : List Seg) (r : Outcome Flow) (before : S) (s : State S × ℕ) → Explained accesses r before s.0.space → Explained accesses (item_done scope r s).0 before (item_done scope r s).1.0.space
   unfolding item_done
   done_explained scope (Ok f) before s h = h
@@ -131,11 +137,17 @@ module _ {S : Type 0} (accesses : Accesses S) where
   done_spent scope (Ok f) s h = tt
   done_spent scope (Err e) s h = spent_by_refusal (is_passable e) scope e s h
 
+  done_set : (scope : List Seg) (r : Outcome Flow) (s : State S × ℕ) → OfSetting r (is_low s.0.nesting) → OfSetting (item_done scope r s).0 (is_low (item_done scope r s).1.0.nesting)
+  unfolding item_done
+  done_set scope (Ok f) s h = tt
+  done_set scope (Err e) s h = set_by_refusal (is_passable e) scope e s h
+
   passing_explains : (scope : List Seg) (m : Run S Flow) → RunExplains accesses m → RunExplains accesses (passing scope m)
   unfolding passing
   passing_explains scope m h = record {
     explained = λ s. done_explained scope (m s).0 s.0.space (m s).1 (h.explained s);
     spent = λ s. done_spent scope (m s).0 (m s).1 (h.spent s);
+    set = λ s. done_set scope (m s).0 (m s).1 (h.set s);
   }
 
   pub item_explains : (ev : Task → Run S Flow) → ((t : Task) → RunExplains accesses (ev t)) → (scope : List Seg) (depth : ℕ) (t : Tree) → RunExplains accesses (item ev scope depth t)

@@ -11,12 +11,13 @@ use Rattle.aml_meaning.specs.declared.flow.Flow.{Flow}
 use Rattle.aml_meaning.specs.declared.flow.Flow.TheVariants as flow
 use Rattle.aml_meaning.specs.declared.profile.Profile.TheVariants as profiles
 use Rattle.aml_meaning.specs.declared.profile.Profile.{Profile}
+use Rattle.aml_meaning.specs.declared.settings.Nesting.{Nesting}
 use Rattle.aml_meaning.specs.State.{State}
 use Rattle.aml_meaning.specs.Run.{Run}
 use Rattle.aml_meaning.specs.PassedOver.{is_passable}
 use Rattle.aml_meaning.specs.Passing.{is_wide, with_passed, item_done, passing}
 use Rattle.aml_meaning.specs.Tasks.{Task, task, module_level, passes_over, item}
-use Rattle.aml_laws.proofs.Together.{Sides, MayPass, Together, Comes, IsEnded, alike, choice_together}
+use Rattle.aml_laws.proofs.Together.{Sides, MayPass, Together, Comes, IsEnded, alike, choice_together, Raise}
 use Rattle.aml_laws.proofs.Levels.{level}
 use Rattle.aml_laws.proofs.WorldsTogether.{runs, world_over}
 
@@ -42,15 +43,15 @@ module _ {S : Type 0} where
   done_profile scope (Err e) s = refused_profile (is_passable e) scope e s
 
 module _ {S T : Type 0} where
-  abbrev over : (Profile → Profile) → (ℕ → ℕ) → State S × ℕ → T → State T × ℕ
+  abbrev over : Raise → (ℕ → ℕ) → State S × ℕ → T → State T × ℕ
   over raise more s t = (world_over raise s.0 t, more s.1)
 
-  refused_over : (raise : Profile → Profile) (more : ℕ → ℕ) (b : Bool) (scope : List Seg) (e : Refusal) (s : State S × ℕ) (t : T) → if◌then◌else◌ {A = Outcome Flow × (State T × ℕ)} b (Ok flow.Next, (with_passed scope e (world_over raise s.0 t), more s.1)) (Err e, over raise more s t)
+  refused_over : (raise : Raise) (more : ℕ → ℕ) (b : Bool) (scope : List Seg) (e : Refusal) (s : State S × ℕ) (t : T) → if◌then◌else◌ {A = Outcome Flow × (State T × ℕ)} b (Ok flow.Next, (with_passed scope e (world_over raise s.0 t), more s.1)) (Err e, over raise more s t)
       ≡ ((if◌then◌else◌ {A = Outcome Flow × (State S × ℕ)} b (Ok flow.Next, (with_passed scope e s.0, s.1)) (Err e, s)).0, over raise more (if◌then◌else◌ {A = Outcome Flow × (State S × ℕ)} b (Ok flow.Next, (with_passed scope e s.0, s.1)) (Err e, s)).1 t)
   refused_over raise more true scope e s t = refl
   refused_over raise more false scope e s t = refl
 
-  done_over : (raise : Profile → Profile) (more : ℕ → ℕ) (scope : List Seg) (r : Outcome Flow) (s : State S × ℕ) (t : T) → item_done scope r (over raise more s t) ≡ ((item_done scope r s).0, over raise more (item_done scope r s).1 t)
+  done_over : (raise : Raise) (more : ℕ → ℕ) (scope : List Seg) (r : Outcome Flow) (s : State S × ℕ) (t : T) → item_done scope r (over raise more s t) ≡ ((item_done scope r s).0, over raise more (item_done scope r s).1 t)
   unfolding item_done
   done_over raise more scope (Ok f) s t = refl
   done_over raise more scope (Err e) s t = refused_over raise more (is_passable e) scope e s t
@@ -81,7 +82,7 @@ module _ {S T : Type 0} {accesses : Accesses S} {accesses2 : Accesses T} (side :
     goes = λ s t i. done_comes scope (m s) (n (over side.raise side.more s t)) (h.goes s t i);
   }
 
-  item_alike : (same : (p : Profile) → side.raise p ≡ p) (ev : Task → Run S Flow) (ev2 : Task → Run T Flow) (scope : List Seg) (depth : ℕ) (t : Tree) → Together side runs (ev (task scope depth t)) (ev2 (task scope depth t)) → Together side runs (item ev scope depth t) (item ev2 scope depth t)
+  item_alike : (same : (p : Profile) → side.raise.0 p ≡ p) (ev : Task → Run S Flow) (ev2 : Task → Run T Flow) (scope : List Seg) (depth : ℕ) (t : Tree) → Together side runs (ev (task scope depth t)) (ev2 (task scope depth t)) → Together side runs (item ev scope depth t) (item ev2 scope depth t)
   unfolding item
   item_alike same ev ev2 scope depth t h = choice_together (λ s. passes_over depth s.0.profile) (λ s. passes_over depth s.0.profile) (λ s u. ap (passes_over depth) (same s.0.profile)) (passing_together scope h) h
 
@@ -119,7 +120,7 @@ never depth p fails = ap (λ b. b && is_wide p) fails
 
 -- ---- the right one is wide
 
-module _ {S T : Type 0} {accesses : Accesses S} {accesses2 : Accesses T} (side : Sides accesses accesses2) (wide : (p : Profile) → side.raise p ≡ profiles.Wide) (same_steps : (n : ℕ) → side.more n ≡ n) (may : (e : Refusal) → is_passable e ≡ true → MayPass side.passes e)
+module _ {S T : Type 0} {accesses : Accesses S} {accesses2 : Accesses T} (side : Sides accesses accesses2) (wide : (p : Profile) → side.raise.0 p ≡ profiles.Wide) (same_steps : ((n : ℕ) → side.more n ≡ n) × ((d : Nesting) → side.raise.1 d ≡ d)) (may : (e : Refusal) → is_passable e ≡ true → MayPass side.passes e)
     (ev : Task → Run S Flow) (ev2 : Task → Run T Flow) (scope : List Seg) (depth : ℕ) (t : Tree) (listed : module_level depth ≡ true) where
   refused_comes : (b : Bool) (e : Refusal) (s : State S × ℕ) (u : T) → is_passable e ≡ b → side.beside.InStep s.0.space u
       → Comes (level side depth) runs {A = Flow} (Err e, s) (if◌then◌else◌ {A = Outcome Flow × (State T × ℕ)} b (Ok flow.Next, (with_passed scope e (world_over side.raise s.0 u), side.more s.1)) (Err e, over side.raise side.more s u))
@@ -137,10 +138,11 @@ module _ {S T : Type 0} {accesses : Accesses S} {accesses2 : Accesses T} (side :
   right_comes p q (inr (inl ended)) = inr (inl ended)
   right_comes p q (inr (inr (u, is, i))) = subst (λ (a : Outcome Flow × (State T × ℕ)). Comes (level side depth) runs p (item_done scope a.0 a.1)) (sym is) (right_done p.0 p.1 u i)
 
-  wide_over : (s : State S × ℕ) (u : T) → s.0.profile ≡ profiles.Wide → over side.raise side.more s u ≡ over (λ p. p) (λ n. n) s u
+  wide_over : (s : State S × ℕ) (u : T) → s.0.profile ≡ profiles.Wide → over side.raise side.more s u ≡ over (λ p. p, λ d. d) (λ n. n) s u
   wide_over s u is =
-      ap (λ n. (world_over side.raise s.0 u, n)) (same_steps s.1)
-      ∙ ap (λ p. (record { names = s.0.names; arities = s.0.arities; objects = s.0.objects; frames = s.0.frames; started = s.0.started; space = u; osi = s.0.osi; width = s.0.width; profile = p; passed = s.0.passed }, s.1)) (wide s.0.profile ∙ sym is)
+      ap (λ n. (world_over side.raise s.0 u, n)) (same_steps.0 s.1)
+      ∙ ap (λ d. (record { names = s.0.names; arities = s.0.arities; objects = s.0.objects; frames = s.0.frames; started = s.0.started; space = u; osi = s.0.osi; width = s.0.width; profile = side.raise.0 s.0.profile; nesting = d; passed = s.0.passed }, s.1)) (same_steps.1 s.0.nesting)
+      ∙ ap (λ p. (record { names = s.0.names; arities = s.0.arities; objects = s.0.objects; frames = s.0.frames; started = s.0.started; space = u; osi = s.0.osi; width = s.0.width; profile = p; nesting = s.0.nesting; passed = s.0.passed }, s.1)) (wide s.0.profile ∙ sym is)
 
   -- both are wide
   both_comes : (p : Outcome Flow × (State S × ℕ)) (q : Outcome Flow × (State T × ℕ)) → p.1.0.profile ≡ profiles.Wide → Comes (alike side.beside) runs p q → Comes (level side depth) runs p q
@@ -181,17 +183,17 @@ module _ {S T : Type 0} {accesses : Accesses S} {accesses2 : Accesses T} (side :
 
 module _ {S T : Type 0} {accesses : Accesses S} {accesses2 : Accesses T} (side : Sides accesses accesses2) (ev : Task → Run S Flow) (ev2 : Task → Run T Flow) (parts : (t : Task) → Together (level side t.depth) runs (ev t) (ev2 t)) where
   -- the same on both sides
-  pub items_alike : (same : (p : Profile) → side.raise p ≡ p) (unpassed : (e : Refusal) → is_passable e ≡ true → side.Ends e → ⊥) → side.passes ≡ inl (same, unpassed) → (scope : List Seg) (depth : ℕ) (t : Tree) → Together (level side depth) runs (item ev scope depth t) (item ev2 scope depth t)
+  pub items_alike : (same : (p : Profile) → side.raise.0 p ≡ p) (unpassed : (e : Refusal) → is_passable e ≡ true → side.Ends e → ⊥) → side.passes ≡ inl (same, unpassed) → (scope : List Seg) (depth : ℕ) (t : Tree) → Together (level side depth) runs (item ev scope depth t) (item ev2 scope depth t)
   items_alike same unpassed is scope depth t =
       item_alike (level side depth) (λ e holds x. elim x [ inl k ↦ unpassed e holds k | inr k ↦ subst (λ p. MayPass p e) is k.1 ]) same ev ev2 scope depth t (parts (task scope depth t))
 
   -- wide on the right
-  items_by : (b : Bool) (wide : (p : Profile) → side.raise p ≡ profiles.Wide) (same_steps : (n : ℕ) → side.more n ≡ n) → side.passes ≡ inr (wide, same_steps) → ((t : Task) → Together (alike side.beside) runs (ev t) (ev2 t)) → ((t : Task) (s : State S × ℕ) → (ev t s).1.0.profile ≡ s.0.profile)
+  items_by : (b : Bool) (wide : (p : Profile) → side.raise.0 p ≡ profiles.Wide) (same_steps : ((n : ℕ) → side.more n ≡ n) × ((d : Nesting) → side.raise.1 d ≡ d)) → side.passes ≡ inr (wide, same_steps) → ((t : Task) → Together (alike side.beside) runs (ev t) (ev2 t)) → ((t : Task) (s : State S × ℕ) → (ev t s).1.0.profile ≡ s.0.profile)
       → (scope : List Seg) (depth : ℕ) (t : Tree) → module_level depth ≡ b → Together (level side depth) runs (item ev scope depth t) (item ev2 scope depth t)
   items_by true wide same_steps is g kept scope depth t listed =
       listed_together side wide same_steps (λ e holds. subst (λ p. MayPass p e) (sym is) holds) ev ev2 scope depth t listed (parts (task scope depth t)) (g (task scope depth t)) (kept (task scope depth t))
   items_by false wide same_steps is g kept scope depth t fails = same_together (λ s. plain_item ev scope depth t s (never depth s.0.profile fails)) (λ u. plain_item ev2 scope depth t u (never depth u.0.profile fails)) (parts (task scope depth t))
 
-  pub items_widened : (wide : (p : Profile) → side.raise p ≡ profiles.Wide) (same_steps : (n : ℕ) → side.more n ≡ n) → side.passes ≡ inr (wide, same_steps) → ((t : Task) → Together (alike side.beside) runs (ev t) (ev2 t)) → ((t : Task) (s : State S × ℕ) → (ev t s).1.0.profile ≡ s.0.profile)
+  pub items_widened : (wide : (p : Profile) → side.raise.0 p ≡ profiles.Wide) (same_steps : ((n : ℕ) → side.more n ≡ n) × ((d : Nesting) → side.raise.1 d ≡ d)) → side.passes ≡ inr (wide, same_steps) → ((t : Task) → Together (alike side.beside) runs (ev t) (ev2 t)) → ((t : Task) (s : State S × ℕ) → (ev t s).1.0.profile ≡ s.0.profile)
       → (scope : List Seg) (depth : ℕ) (t : Tree) → Together (level side depth) runs (item ev scope depth t) (item ev2 scope depth t)
   items_widened wide same_steps is g kept scope depth t = items_by (module_level depth) wide same_steps is g kept scope depth t refl

@@ -3,7 +3,8 @@
 -- `x_maintains` (where what is known of a state holds, it holds after x, and what x gives fits), `x_counts` (x over a space with a
 -- counter does what it does without), `x_clean` (x answers with no fault of the register space), `x_reads` (x is refused, if at all,
 -- by what is told of terms and names), `x_explains` (a fault of the register space that x is refused by is what its last access
--- answered, and no other access is answered with one), `x_together` (x goes the same way over two register spaces until they part),
+-- answered, no other access is answered with one, and a depth that the setting doesn't allow is refused only where it allows less than
+-- the default), `x_together` (x goes the same way over two register spaces until they part),
 -- `x_unnoted` (noting the accesses of x changes nothing), `x_respects`, `x_keeps_kinds`, `x_fits`, `x_stands`;
 -- a lemma that goes through the cases for another ends with `_by_cases`.
 pub mod AnswersTogether
@@ -30,6 +31,7 @@ pub mod CleanReading
 pub mod CleanValues
 pub mod CleanWorlds
 pub mod ComparedValues
+pub mod ConstantsGiven
 pub mod ConversionsAnswered
 pub mod CopiesAnswered
 pub mod CopiesApart
@@ -47,9 +49,13 @@ pub mod CountedTerms
 pub mod CountedTrees
 pub mod CountedMatches
 pub mod CountedWideTerms
+pub mod Counting
 pub mod DecimalCodes
 pub mod DeclarationNumbers
 pub mod DeclaredNamesStand
+pub mod Deepening
+pub mod DefaultDepth
+pub mod Divisions
 pub mod EndOfCalls
 pub mod EvaluationsPreserve
 pub mod EvaluationsTogether
@@ -86,15 +92,27 @@ pub mod IntegersClaimed
 pub mod IntegersInStrings
 pub mod IntegersOfAnswers
 pub mod IntegersOfContents
+pub mod IntegersOfValues
 pub mod ListsGoOn
 pub mod ListsWithinTerms
+pub mod MatchesFound
+pub mod NamesGiven
+pub mod NamesSought
 pub mod NotesKept
 pub mod NothingPassed
+pub mod ObjectsAsked
+pub mod OperandsRefused
+pub mod OperatorLaws
+pub mod OperatorsComputed
+pub mod OsiAsked
+pub mod PartsIndexed
 pub mod PassableRefusals
 pub mod ReadingChanges
 pub mod ReadingRefusals
 pub mod TablesRefused
 pub mod TermRefusals
+pub mod TestsTold
+pub mod ValuesJoined
 pub mod ValuesOfEvents
 pub mod ValuesOfFields
 pub mod ValuesOfObjects
@@ -114,6 +132,8 @@ pub mod MoreSteps
 pub mod MutexesCounted
 pub mod MutexesFree
 pub mod NamedIntegers
+pub mod NestingKept
+pub mod NestingTogether
 pub mod NamesSearched
 pub mod NamesStay
 pub mod NestedData
@@ -146,6 +166,7 @@ pub mod RulesPreserve
 pub mod RulesTogether
 pub mod SignalsTaken
 pub mod SlotsPut
+pub mod SetDepths
 pub mod SpaceFaultsExplained
 pub mod SpaceFaultsNoted
 pub mod SpaceReached
@@ -157,6 +178,7 @@ pub mod StoredCopies
 pub mod StoredNames
 pub mod StoreTargetsTogether
 pub mod Together
+pub mod TooDeepForSettings
 pub mod TreesCost
 pub mod UnitsTogether
 pub mod UnreferencedSlots
@@ -169,6 +191,7 @@ pub mod LimitsRefused
 pub mod LimitsTaken
 pub mod LocatedRegions
 pub mod MatchesPreserve
+pub mod WideAsked
 pub mod WideTermsPreserve
 pub mod MatchesTogether
 pub mod WideTermsTogether

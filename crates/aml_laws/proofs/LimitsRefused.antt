@@ -3,7 +3,7 @@ use Rattle.std.specs.Prelude.{◌≡◌, ◌≤◌, ◌<◌, ℕ, nat_le, nat_lt
 use Rattle.std.proofs.Common.{arith}
 use Rattle.std.proofs.lemmas.Bool.Decides.{nat_tests}
 use Rattle.ar_space.specs.declared.refusal.Refusal.TheVariants as refusal
-use Rattle.ar_space.specs.declared.refusal.EvaluationFault.TheVariants.{ObjectLimit, CallDepth}
+use Rattle.ar_space.specs.declared.refusal.EvaluationFault.TheVariants.{ObjectLimit, CallDepth, DepthSetting}
 use Rattle.ar_space.specs.Accesses.{Accesses}
 use Rattle.ar_space.specs.Change.{settle, go_on, ◌>>=◌}
 use Rattle.aml_path.specs.declared.segment.Seg.{Seg}
@@ -12,6 +12,7 @@ use Rattle.aml_objects.specs.declared.object.Element.{Element}
 use Rattle.aml_objects.specs.declared.object.Object.{Object}
 use Rattle.aml_objects.specs.declared.value.Value.{Value}
 use Rattle.aml_meaning.specs.State.{State}
+use Rattle.aml_meaning.specs.Run.{lift}
 use Rattle.aml_meaning.specs.Invocations.{shallow, invoked}
 use Rattle.aml_meaning.specs.Meaning.{meaning}
 
@@ -47,14 +48,30 @@ pub package_refused : (es : List Element) (h : Objects) → 65535 < length es �
 unfolding make_package settle go_on ◌>>=◌
 package_refused es h full = rw (few_refused es full) refl
 
-pub call_shallow : (depth : ℕ) → depth < 32 → shallow depth ≡ Ok tt
-call_shallow depth less = let test : nat_lt depth 32 ≡ true = grind (arith, nat_tests) in rw test refl
+pub call_shallow : {S : Type 0} (depth : ℕ) (w : State S) → depth < 32 → depth < w.nesting.calls → shallow depth w ≡ (Ok tt, w)
+unfolding shallow
+call_shallow depth w less few =
+    let test : nat_lt depth 32 ≡ true = grind (arith, nat_tests) in
+    let allowed : nat_lt depth w.nesting.calls ≡ true = grind (arith, nat_tests) in
+    rw (test, allowed) refl
 
-call_deep : (depth : ℕ) → 32 ≤ depth → shallow depth ≡ Err (refusal.Evaluation CallDepth)
-call_deep depth more = let test : nat_lt depth 32 ≡ false = grind (arith, nat_tests) in rw test refl
+call_deep : {S : Type 0} (depth : ℕ) (w : State S) → 32 ≤ depth → shallow depth w ≡ (Err (refusal.Evaluation CallDepth), w)
+unfolding shallow
+call_deep depth w more = let test : nat_lt depth 32 ≡ false = grind (arith, nat_tests) in rw test refl
+
+call_set : {S : Type 0} (depth : ℕ) (w : State S) → depth < 32 → w.nesting.calls ≤ depth → shallow depth w ≡ (Err (refusal.Evaluation DepthSetting), w)
+unfolding shallow
+call_set depth w less many =
+    let test : nat_lt depth 32 ≡ true = grind (arith, nat_tests) in
+    let allowed : nat_lt depth w.nesting.calls ≡ false = grind (arith, nat_tests) in
+    rw (test, allowed) refl
 
 pub call_refused : {S : Type 0} (accesses : Accesses S) (depth : ℕ) (p : List Seg) (body : List ℕ) (arguments : List Value) (s : State S × ℕ) → 32 ≤ depth → invoked (meaning accesses) depth p body arguments s ≡ (Err (refusal.Evaluation CallDepth), s)
-unfolding invoked settle go_on ◌>>=◌
-call_refused accesses depth p body arguments s more = rw (call_deep depth more) refl
+unfolding invoked lift go_on ◌>>=◌
+call_refused accesses depth p body arguments s more = rw (call_deep depth s.0 more) refl
 
-pub ruleset limits_are_refused = (object_made, object_refused, string_refused, buffer_refused, package_refused, call_refused)
+pub call_not_allowed : {S : Type 0} (accesses : Accesses S) (depth : ℕ) (p : List Seg) (body : List ℕ) (arguments : List Value) (s : State S × ℕ) → depth < 32 → s.0.nesting.calls ≤ depth → invoked (meaning accesses) depth p body arguments s ≡ (Err (refusal.Evaluation DepthSetting), s)
+unfolding invoked lift go_on ◌>>=◌
+call_not_allowed accesses depth p body arguments s less many = rw (call_set depth s.0 less many) refl
+
+pub ruleset limits_are_refused = (object_made, object_refused, string_refused, buffer_refused, package_refused, call_refused, call_not_allowed)

@@ -40,9 +40,11 @@ pub package_made : (es : List Element) (h : Objects) → length es ≤ 65535 →
 unfolding make_package settle give go_on ◌>>=◌
 package_made es h short room = rw (few_enough es short, object_made (object.Package es) h room) refl
 
-pub call_begins : {S : Type 0} (depth : ℕ) (p : List Seg) (body : List ℕ) (arguments : List Value) (w : State S) → depth < 32 → body_frame depth p body arguments w ≡ body_frame 0 p body arguments w
-unfolding body_frame settle go_on ◌>>=◌
-call_begins depth p body arguments w less = rw (call_shallow depth less) refl
+pub call_begins : {S : Type 0} (depth : ℕ) (p : List Seg) (body : List ℕ) (arguments : List Value) (w : State S) → depth < 32 → depth < w.nesting.calls → body_frame depth p body arguments w ≡ body_frame 0 p body arguments w
+unfolding body_frame go_on ◌>>=◌
+call_begins depth p body arguments w less few =
+    let some : 0 < w.nesting.calls = omega arith in
+    rw (call_shallow depth w less few, call_shallow 0 w (omega arith) some) refl
 
 -- ---- packages that are handed in
 

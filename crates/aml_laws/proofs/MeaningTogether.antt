@@ -9,6 +9,7 @@ use Rattle.aml_grammar.specs.Tree.{Tree, Trees}
 use Rattle.aml_meaning.specs.declared.flow.Flow.{Flow}
 use Rattle.aml_meaning.specs.declared.profile.Profile.TheVariants as profiles
 use Rattle.aml_meaning.specs.declared.profile.Profile.{Profile}
+use Rattle.aml_meaning.specs.declared.settings.Nesting.{Nesting}
 use Rattle.aml_meaning.specs.PassedOver.{is_passable}
 use Rattle.aml_meaning.specs.Run.{Run}
 use Rattle.ar_space.specs.declared.refusal.Refusal.{Refusal}
@@ -75,7 +76,7 @@ module _ {S T : Type 0} {accesses : Accesses S} {accesses2 : Accesses T} (side :
 
   -- ---- in the same profile
 
-  module _ (same : (p : Profile) → side.raise p ≡ p) (unpassed : (e : Refusal) → is_passable e ≡ true → side.Ends e → ⊥) (is : side.passes ≡ inl (same, unpassed)) where
+  module _ (same : (p : Profile) → side.raise.0 p ≡ p) (unpassed : (e : Refusal) → is_passable e ≡ true → side.Ends e → ⊥) (is : side.passes ≡ inl (same, unpassed)) where
     alike_parts : (ev : Task → Run S Flow) (ev2 : Task → Run T Flow) → ((t : Task) → Together (level side t.depth) runs (ev t) (ev2 t)) → PartsTogether side ev ev2
     alike_parts ev ev2 h = record { part = h; item_of = items_alike side ev ev2 h same unpassed is }
 
@@ -97,11 +98,11 @@ within_keeps_profile accesses n task s = evaluated_within_preserves (profile_rel
 module _ {S T : Type 0} {accesses : Accesses S} {accesses2 : Accesses T} (side : Sides accesses accesses2) where
   -- ---- the right one is wide
 
-  wide_parts : (wide : (p : Profile) → side.raise p ≡ profiles.Wide) (same_steps : (n : ℕ) → side.more n ≡ n) → side.passes ≡ inr (wide, same_steps) → (n : ℕ) → ((t : Task) → Together (level side t.depth) runs (evaluated_within accesses n t) (evaluated_within accesses2 n t))
+  wide_parts : (wide : (p : Profile) → side.raise.0 p ≡ profiles.Wide) (same_steps : ((n : ℕ) → side.more n ≡ n) × ((d : Nesting) → side.raise.1 d ≡ d)) → side.passes ≡ inr (wide, same_steps) → (n : ℕ) → ((t : Task) → Together (level side t.depth) runs (evaluated_within accesses n t) (evaluated_within accesses2 n t))
       → PartsTogether side (evaluated_within accesses n) (evaluated_within accesses2 n)
   wide_parts wide same_steps is n h = record { part = h; item_of = items_widened side _ _ h wide same_steps is (alike_within side.beside n) (within_keeps_profile accesses n) }
 
-  wide_together : (wide : (p : Profile) → side.raise p ≡ profiles.Wide) (same_steps : (n : ℕ) → side.more n ≡ n) → side.passes ≡ inr (wide, same_steps) → (n : ℕ) (task : Task) → Together (level side task.depth) runs (evaluated_within accesses n task) (evaluated_within accesses2 n task)
+  wide_together : (wide : (p : Profile) → side.raise.0 p ≡ profiles.Wide) (same_steps : ((n : ℕ) → side.more n ≡ n) × ((d : Nesting) → side.raise.1 d ≡ d)) → side.passes ≡ inr (wide, same_steps) → (n : ℕ) (task : Task) → Together (level side task.depth) runs (evaluated_within accesses n task) (evaluated_within accesses2 n task)
   wide_together wide same_steps is zero task = none_together side task
   wide_together wide same_steps is (suc n) task = next_together side n n task (rule_together (wide_parts wide same_steps is n (wide_together wide same_steps is n)) task)
 
@@ -113,7 +114,7 @@ module _ {S T : Type 0} {accesses : Accesses S} {accesses2 : Accesses T} (side :
 
   with_more : (p : Passes side.raise side.Ends side.more) → side.passes ≡ p → (n : ℕ) (task : Task) → Together (level side task.depth) runs (evaluated_within accesses n task) (evaluated_within accesses2 (side.more n) task)
   with_more (inl h) is n task = bounded_together side h.0 h.1 is n (side.more n) (more_fits side n) task
-  with_more (inr h) is n task = subst (λ k. Together (level side task.depth) runs (evaluated_within accesses n task) (evaluated_within accesses2 k task)) (sym (h.1 n)) (wide_together h.0 h.1 is n task)
+  with_more (inr h) is n task = subst (λ k. Together (level side task.depth) runs (evaluated_within accesses n task) (evaluated_within accesses2 k task)) (sym (h.1.0 n)) (wide_together h.0 h.1 is n task)
 
   pub meaning_together : (task : Task) → Together (level side task.depth) runs (meaning accesses task) (meaning accesses2 task)
   unfolding meaning

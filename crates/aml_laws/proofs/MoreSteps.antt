@@ -52,10 +52,11 @@ module _ {S : Type 0} (accesses : Accesses S) (k : ℕ) where
   unfoldable lengthening : Sides accesses accesses
   lengthening = record {
     beside = same_space accesses;
-    raise = λ p. p;
+    raise = (λ p. p, λ d. d);
     Ends = Spends;
     wide_stays = refl;
     core_stays = inl refl;
+    deepens = inl (λ d. refl);
     more = λ n. n + k;
     more_next = λ n. omega arith;
     none_left = inr refl;
@@ -70,13 +71,13 @@ module _ {S : Type 0} (accesses : Accesses S) (k : ℕ) where
   unfolding lengthening same_space
   world_comes p q (inl parted) = absurd parted
   world_comes p q (inr (inl ended)) = inl (out_of_steps p.0 ended)
-  world_comes p q (inr (inr (t, same, i))) = inr (same ∙ ap (λ s. (p.0, world_over (λ r. r) p.1 s)) i)
+  world_comes p q (inr (inr (t, same, i))) = inr (same ∙ ap (λ s. (p.0, world_over (λ r. r, λ d. d) p.1 s)) i)
 
   run_comes : {A : Type 0} (p q : Outcome A × (State S × ℕ)) → Comes lengthening runs p q → IsOutOfSteps p.0 ⊎ (q ≡ with_more_left k p)
   unfolding lengthening same_space
   run_comes p q (inl parted) = absurd parted
   run_comes p q (inr (inl ended)) = inl (out_of_steps p.0 ended)
-  run_comes p q (inr (inr (t, same, i))) = inr (same ∙ ap (λ s. (p.0, (world_over (λ r. r) p.1.0 s, p.1.1 + k))) i)
+  run_comes p q (inr (inr (t, same, i))) = inr (same ∙ ap (λ s. (p.0, (world_over (λ r. r, λ d. d) p.1.0 s, p.1.1 + k))) i)
 
   pub term_lengthened : (t : Task) (w : State S) (steps : ℕ) → (meaning accesses t (w, steps)).0 ≢ Err (refusal.Evaluation OutOfSteps)
       → meaning accesses t (w, steps + k) ≡ with_more_left k (meaning accesses t (w, steps))

@@ -9,7 +9,7 @@ use Rattle.ar_space.specs.declared.refusal.Refusal.{Refusal}
 use Rattle.ar_space.specs.Accesses.{Accesses}
 use Rattle.aml_path.specs.declared.segment.Seg.{Seg}
 use Rattle.aml_meaning.specs.declared.passed_over.PassedItem.{PassedItem}
-use Rattle.aml_meaning.specs.declared.profile.Profile.{Profile}
+use Rattle.aml_meaning.specs.declared.settings.EvaluationSettings.{EvaluationSettings}
 use Rattle.aml_meaning.specs.PassedOver.{PassedOver, kept_with, counted_on, passed_with}
 use Rattle.aml_meaning.specs.Passing.{with_passed}
 use Rattle.aml_meaning.specs.Predefined.{fresh_as, predefined}
@@ -130,7 +130,7 @@ module _ {S : Type 0} (accesses : Accesses S) where
   pub first_are_kept : (w v : State S) → Becomes accesses w v → KeepsTheFirst w.passed → KeepsTheFirst v.passed
   first_are_kept w v h = becomes_preserves first_relation w v h
 
-  pub first_are_always_kept : (profile : Profile) (width : IntegerWidth) (osi : List (List ℕ)) (space : S) (w : State S) → Becomes accesses (predefined (fresh_as profile width osi space)).1 w → KeepsTheFirst w.passed
-  first_are_always_kept profile width osi space w h = first_are_kept _ w h ((predefined_preserves {relation = first_relation}).preserves (fresh_as profile width osi space) refl)
+  pub first_are_always_kept : (settings : EvaluationSettings) (width : IntegerWidth) (osi : List (List ℕ)) (space : S) (w : State S) → Becomes accesses (predefined (fresh_as settings width osi space)).1 w → KeepsTheFirst w.passed
+  first_are_always_kept settings width osi space w h = first_are_kept _ w h ((predefined_preserves {relation = first_relation}).preserves (fresh_as settings width osi space) refl)
 
 pub ruleset the_first_that_are_passed_over_are_kept = (notes_go_on, first_are_kept, first_are_always_kept)

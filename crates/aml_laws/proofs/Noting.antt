@@ -39,13 +39,13 @@ module _ {S : Type 0} (accesses : Accesses S) where
   }
 
   -- what goes the same way is the same but for the notes
-  pub goes_unnoted : {X Y A : Type 0} (shape : Shape S (WithNotes S) X Y) (without : Y → X) → ((x : X) (t : WithNotes S) → t.0 ≡ shape.left x → without (shape.over (λ r. r) (λ n. n) x t) ≡ x) → (p : Outcome A × X) (q : Outcome A × Y) → Goes noting shape p q → p ≡ (q.0, without q.1)
+  pub goes_unnoted : {X Y A : Type 0} (shape : Shape S (WithNotes S) X Y) (without : Y → X) → ((x : X) (t : WithNotes S) → t.0 ≡ shape.left x → without (shape.over (λ r. r, λ d. d) (λ n. n) x t) ≡ x) → (p : Outcome A × X) (q : Outcome A × Y) → Goes noting shape p q → p ≡ (q.0, without q.1)
   unfolding noting
   goes_unnoted shape without back p q (inl parted) = absurd parted
   goes_unnoted shape without back p q (inr (t, same, i)) = ap (λ x. (p.0, x)) (sym (back p.1 t i)) ∙ sym (ap (λ (y : Outcome _ × _). (y.0, without y.1)) same)
 
-  world_back : (w : State S) (t : WithNotes S) → t.0 ≡ w.space → without_notes (world_over (λ r. r) w t) ≡ w
-  world_back w t i = ap (λ s. world_over (λ r. r) w s) i
+  world_back : (w : State S) (t : WithNotes S) → t.0 ≡ w.space → without_notes (world_over (λ r. r, λ d. d) w t) ≡ w
+  world_back w t i = ap (λ s. world_over (λ r. r, λ d. d) w s) i
 
   pub world_unnoted : {A : Type 0} (p : Outcome A × State S) (q : Outcome A × State (WithNotes S)) → Goes noting worlds p q → p ≡ (q.0, without_notes q.1)
   world_unnoted p q g = goes_unnoted worlds without_notes world_back p q g

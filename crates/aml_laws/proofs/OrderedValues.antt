@@ -28,7 +28,7 @@ each_order Equal = inr (inl refl)
 each_order Greater = inr (inr refl)
 
 module _ {A : Type 0} {order : A → A → Ordering} (total : IsTotalOrder order) (exact : IsAntisymmetric order) where
-  total_itself : (a : A) → order a a ≡ Equal
+  pub total_itself : (a : A) → order a a ≡ Equal
   total_itself a = reversed_equal (order a a) (total.antisymm a a)
 
   pub total_answers : IsTotal (λ a b. Ok (order a b))

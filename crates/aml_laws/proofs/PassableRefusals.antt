@@ -56,6 +56,7 @@ passed_by_number (refusals.Evaluation evaluations.DeepPci) = refl
 passed_by_number (refusals.Evaluation evaluations.NotAcquired) = refl
 passed_by_number (refusals.Evaluation evaluations.IndexLimit) = refl
 passed_by_number (refusals.Evaluation evaluations.ObjectLimit) = refl
+passed_by_number (refusals.Evaluation evaluations.DepthSetting) = refl
 passed_by_number (refusals.Machine machines.Spent) = refl
 passed_by_number (refusals.Resource resources.Edge) = refl
 passed_by_number (refusals.Resource resources.Exclusive) = refl

@@ -3,7 +3,7 @@ use Rattle.std.specs.Prelude.{◌≡◌, ℕ, List, refl}
 use Rattle.std.proofs.Common.{◌∙◌}
 use Rattle.ar_space.specs.Accesses.{Accesses}
 use Rattle.ar_space.specs.declared.integer_width.IntegerWidth.{IntegerWidth}
-use Rattle.aml_meaning.specs.declared.profile.Profile.{Profile}
+use Rattle.aml_meaning.specs.declared.settings.EvaluationSettings.{EvaluationSettings}
 use Rattle.aml_meaning.specs.State.{State}
 use Rattle.aml_meaning.specs.Predefined.{fresh_as, predefined}
 use Rattle.aml_laws.specs.Becomes.{Becomes}
@@ -31,6 +31,6 @@ profile_relation accesses = record {
 pub profile_is_kept : {S : Type 0} (accesses : Accesses S) (w v : State S) → Becomes accesses w v → v.profile ≡ w.profile
 profile_is_kept accesses w v h = becomes_preserves (profile_relation accesses) w v h
 
-pub profile_is_given : {S : Type 0} (accesses : Accesses S) (profile : Profile) (width : IntegerWidth) (osi : List (List ℕ)) (space : S) (v : State S) → Becomes accesses (predefined (fresh_as profile width osi space)).1 v → v.profile ≡ profile
-profile_is_given accesses profile width osi space v h =
-    profile_is_kept accesses _ v h ∙ (predefined_preserves {relation = profile_relation accesses}).preserves (fresh_as profile width osi space)
+pub profile_is_given : {S : Type 0} (accesses : Accesses S) (settings : EvaluationSettings) (width : IntegerWidth) (osi : List (List ℕ)) (space : S) (v : State S) → Becomes accesses (predefined (fresh_as settings width osi space)).1 v → v.profile ≡ settings.profile
+profile_is_given accesses settings width osi space v h =
+    profile_is_kept accesses _ v h ∙ (predefined_preserves {relation = profile_relation accesses}).preserves (fresh_as settings width osi space)

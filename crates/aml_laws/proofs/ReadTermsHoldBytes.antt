@@ -1,5 +1,5 @@
 -- The strings and the lists of bytes in terms that are read of bytes are bytes.
-use Rattle.std.specs.Prelude.{◌≡◌, ℕ, zero, suc, ◌==◌, ◌||◌, ◌&&◌, List, [], ◌∷◌, ◌++◌, length, Bool, true, false, Option, Some, None, Ok, if◌then◌else◌}
+use Rattle.std.specs.Prelude.{◌≡◌, ℕ, zero, suc, ◌==◌, ◌||◌, ◌&&◌, List, [], ◌∷◌, ◌++◌, length, Bool, true, false, Option, Some, None, Ok, Err, if◌then◌else◌}
 use Rattle.ar_space.specs.Outcome.{Outcome}
 use Rattle.ar_space.specs.Change.{give}
 use Rattle.aml_path.specs.declared.segment.Seg.{Seg}
@@ -18,7 +18,7 @@ use Rattle.aml_grammar.specs.Shape.{parts_of, trees_of}
 use Rattle.aml_grammar.specs.Names.{starts_name}
 use Rattle.aml_grammar.specs.Table.{row_of}
 use Rattle.aml_grammar.specs.Operands.{declare, declare_earlier, name_operand, scope_name, alias_source, external_name, declared_name, integer_operand, method_flags, object_type, argument_count, text_operand, bytes_operand, reserved_field, access_field, extended_access_field, named_field}
-use Rattle.aml_grammar.specs.Grammar.{stands, takes_name, costs_no_level, is_module_level, is_if, is_nothing, is_slot, at_else, in_loop, Inner, keeping, packed, items, term_operand, list_operand, super_name, target, simple_name, connection, connect_field, field, fields, fields_operand, operand, operands, row_operands, plain_term, else_term, else_operand, else_part, if_term, row_term, opcode, admitted_row, row_at, deeper, coded_term, element_name, Counting, argument_number, invocation, named_term, named, term_in, below, term_at, by_arities, max_depth, outermost, beginning, term_list, Reads}
+use Rattle.aml_grammar.specs.Grammar.{stands, takes_name, costs_no_level, is_module_level, is_if, is_nothing, is_slot, at_else, in_loop, Inner, keeping, packed, items, term_operand, list_operand, super_name, target, simple_name, connection, connect_field, field, fields, fields_operand, operand, operands, row_operands, plain_term, else_term, else_operand, else_part, if_term, row_term, opcode, admitted_row, row_at, deeper, coded_term, element_name, Counting, argument_number, invocation, named_term, named, term_in, below, term_at, by_arities, max_depth, outermost, beginning, term_list, Reads, term_list_within, levels_allowed, within, reading_within}
 use Rattle.aml_laws.specs.Plain.{AreBytes, PlainTree, PlainPart, PlainParts, PlainTrees}
 use Rattle.aml_laws.proofs.Preorders.{either_branch}
 use Rattle.aml_laws.proofs.ReadingStepsGiveBytes.{Any, ReadsBytes, Each, give_reads_bytes, stop_reads_bytes, if_reads_bytes, settle_reads_bytes, look_reads_bytes, then_reads_bytes, byte_reads_bytes, peek_reads_bytes, all_bytes_reads_bytes, text_reads_bytes, integer_reads_bytes, bit_count_reads_bytes, enter_reads_bytes, leave_reads_bytes, times_reads_bytes, until_end_reads_bytes, segment_reads_bytes, skipping_reads_bytes, name_string_reads_bytes}
@@ -309,3 +309,14 @@ module _ (counting : Counting) where
 pub read_terms_plain : (bs : List ℕ) (scope : List Seg) (body : Bool) (arities : List Arity) (ts : List Tree) → AreBytes bs → Reads bs scope body arities ts → PlainTrees (trees_of ts)
 unfolding term_list
 read_terms_plain bs scope body arities ts h is = term_list_plain by_arities max_depth bs scope (outermost body) arities h ts is
+
+pub list_within_plain : (levels : ℕ) (bs : List ℕ) (scope : List Seg) (body : Bool) (arities : List Arity) (ts : List Tree) → AreBytes bs → (term_list_within levels by_arities bs scope body arities).0 ≡ Ok ts → PlainTrees (trees_of ts)
+unfolding term_list_within
+list_within_plain levels bs scope body arities ts h is = term_list_plain by_arities (levels_allowed levels) bs scope (outermost body) arities h ts is
+
+taken_within : {A : Type 0} (levels : ℕ) (o : Outcome A) (a : A) → within levels o ≡ Ok a → o ≡ Ok a
+taken_within levels (Ok b) a is = is
+taken_within levels (Err e) a is = absurd (cc is)
+
+pub read_within_plain : (levels : ℕ) (bs : List ℕ) (scope : List Seg) (body : Bool) (arities : List Arity) (ts : List Tree) → AreBytes bs → reading_within levels bs scope body arities ≡ Ok ts → PlainTrees (trees_of ts)
+read_within_plain levels bs scope body arities ts h is = list_within_plain levels bs scope body arities ts h (taken_within levels _ ts is)

@@ -5,7 +5,7 @@ use Rattle.aml_path.specs.Characters.{is_lead_name_char, is_name_char}
 use Rattle.aml_path.specs.Paths.{Name}
 use Rattle.aml_path.specs.declared.segment.Seg.{Seg}
 use Rattle.aml_grammar.specs.DeclaredNames.{allowed, allowed_path, begins_outside, declared_path}
-use Rattle.aml_grammar.specs.Grammar.{Counting, Inner, admitted_row, argument_number, at_else, beginning, below, by_arities, coded_term, connect_field, connection, costs_no_level, deeper, element_name, else_operand, else_part, else_term, field, fields, fields_operand, if_term, in_loop, invocation, is_if, is_module_level, is_nothing, is_slot, items, keeping, list_operand, max_depth, named, named_term, opcode, operand, operands, outermost, packed, plain_term, reading, row_at, row_operands, row_term, simple_name, stands, super_name, table_reading, takes_name, target, term_at, term_in, term_list, term_operand, with_arities}
+use Rattle.aml_grammar.specs.Grammar.{Counting, Inner, admitted_row, argument_number, at_else, beginning, below, by_arities, coded_term, connect_field, connection, costs_no_level, deeper, element_name, else_operand, else_part, else_term, field, fields, fields_operand, if_term, in_loop, invocation, is_if, is_module_level, is_nothing, is_slot, items, keeping, list_operand, max_depth, named, named_term, opcode, operand, operands, outermost, packed, plain_term, reading, row_at, row_operands, row_term, simple_name, stands, super_name, table_reading, takes_name, target, term_at, term_in, term_list, term_operand, with_arities, term_list_within, levels_allowed, reading_within, table_reading_within}
 use Rattle.aml_grammar.specs.Names.{counted_segments, lead_name_char, multiple_segments, name_at, name_char, name_string, only, parents, relative_name, rooted_name, segment, segments, segments_at, skipping, starts_name}
 use Rattle.aml_grammar.specs.Operands.{access_field, alias_source, argument_count, bytes_operand, declare, declare_earlier, declared_name, extended_access_field, external_name, integer_operand, method_flags, name_operand, named_field, object_type, reserved_field, scope_name, text_operand}
 use Rattle.aml_grammar.specs.State.{State, Step, all_bytes, bit_count, byte, byte_of, enter, integer, is_next, leave, look, narrow, next_bytes, package_size, peek, peek_of, size_after, text, times, until_end, until_of}
@@ -20,7 +20,7 @@ use Rattle.aml_grammar.specs.declared.kinds.OperandKind.TheVariants as kinds
 use Rattle.aml_grammar.specs.declared.kinds.OperandKind.{OperandKind}
 use Rattle.aml_grammar.specs.declared.kinds.Row.{Row}
 use Rattle.aml_laws.proofs.ReadingChanges.{AllReads, branch_reads, direct_reads, give_reads, if_all_reads, settle_reads, stop_reads, then_reads}
-use Rattle.aml_laws.proofs.TermRefusals.{Reads, followed_reads, if_reads, resolved_reads, seg_of_reads}
+use Rattle.aml_laws.proofs.TermRefusals.{Reads, ReadsWithin, followed_reads, if_reads, resolved_reads, seg_of_reads, within_reads}
 
 allowed_reads : (context : Context) (start : ℕ) (n : Name) (path : List Seg) → Reads (allowed context start n path)
 allowed_reads context start n path = if_reads (context.body && begins_outside n) _ _ tt tt
@@ -431,3 +431,17 @@ with_arities_reads (Err e) s c = c
 
 pub table_reading_reads : (bs : List ℕ) (arities : List Arity) → Reads (table_reading bs arities)
 table_reading_reads bs arities = with_arities_reads (term_list by_arities bs [] false arities).0 (term_list by_arities bs [] false arities).1 (reading_reads_of bs [] false arities)
+
+-- ---- whole lists within the levels that a setting allows
+
+pub list_within_reads : (levels : ℕ) (bs : List ℕ) (scope : List Seg) (body : Bool) (arities : List Arity) → Reads (term_list_within levels by_arities bs scope body arities).0
+unfolding term_list_within
+list_within_reads levels bs scope body arities = (items_reads (term_at by_arities (levels_allowed levels)) (term_at_reads by_arities (levels_allowed levels)) positions.ListItem scope (outermost body)).reads (beginning bs arities)
+
+pub reading_within_reads : (levels : ℕ) (bs : List ℕ) (scope : List Seg) (body : Bool) (arities : List Arity) → ReadsWithin (nat_lt levels max_depth) (reading_within levels bs scope body arities)
+reading_within_reads levels bs scope body arities = within_reads levels _ (list_within_reads levels bs scope body arities)
+
+pub table_reading_within_reads : (levels : ℕ) (bs : List ℕ) (arities : List Arity) → ReadsWithin (nat_lt levels max_depth) (table_reading_within levels bs arities)
+table_reading_within_reads levels bs arities =
+    let list = term_list_within levels by_arities bs [] false arities in
+    within_reads levels (with_arities list) (with_arities_reads list.0 list.1 (list_within_reads levels bs [] false arities))

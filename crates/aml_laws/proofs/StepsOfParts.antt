@@ -203,7 +203,7 @@ module _ {S : Type 0} (R : Preorder ℕ) (accesses : Accesses S) (ev : Task → 
   pub invoked_keeps : (depth : ℕ) (q : List Seg) (body : List ℕ) (arguments : List Value) → Keeps R (invoked ev depth q body arguments)
   unfolding invoked
   invoked_keeps depth q body arguments =
-      then_respects _ _ (settle_respects _) (λ few. then_respects _ _ (lift_keeps R _) (λ ts. then_respects _ _ (lift_keeps R _) (λ n. leaving_keeps q _ (in_turn_keeps q _ ts))))
+      then_respects _ _ (lift_keeps R _) (λ few. then_respects _ _ (lift_keeps R _) (λ ts. then_respects _ _ (lift_keeps R _) (λ n. leaving_keeps q _ (in_turn_keeps q _ ts))))
 
   pub method_value_keeps : (depth : ℕ) (q : List Seg) (body : List ℕ) (arguments : List Value) → Keeps R (method_value ev depth q body arguments)
   unfolding method_value
@@ -225,7 +225,7 @@ module _ {S : Type 0} (R : Preorder ℕ) (accesses : Accesses S) (ev : Task → 
   answer_within_keeps : (k : ℕ) (i : Invocation) → Keeps R (answer_within accesses ev k i)
   unfolding answer_within
   answer_within_keeps zero i = stop_respects _
-  answer_within_keeps (suc k) i = answer_over_keeps k _ (asked_keeps _ (answer_within_keeps k)) i
+  answer_within_keeps (suc k) i = then_respects _ _ (lift_keeps R _) (λ few. answer_over_keeps k _ (asked_keeps _ (answer_within_keeps k)) i)
 
   pub called_at_keeps : (depth : ℕ) (q : List Seg) → Keeps R (called_at accesses ev depth q)
   called_at_keeps depth q = asked_keeps _ (answer_within_keeps _) q

@@ -207,7 +207,7 @@ module _ {S : Type 0} (R : Preorder ℕ) (accesses : Accesses S) (ev : Task → 
 
   osi_rule_keeps : (scope : List Seg) (depth : ℕ) (ts : Trees) → Keeps R (osi_rule ev scope depth ts)
   unfolding osi_rule
-  osi_rule_keeps scope depth ts = then_respects _ _ (arguments_in_turn_keeps scope depth ts _) (λ arguments. then_respects _ _ (settle_respects _) (λ few. then_respects _ _ (lift_keeps R _) (λ v. give_respects _)))
+  osi_rule_keeps scope depth ts = then_respects _ _ (arguments_in_turn_keeps scope depth ts _) (λ arguments. then_respects _ _ (lift_keeps R _) (λ few. then_respects _ _ (lift_keeps R _) (λ v. give_respects _)))
 
   invocation_rule_keeps : (scope : List Seg) (depth : ℕ) (ts : Trees) (i : Invocation) → Keeps R (invocation_rule accesses ev scope depth ts i)
   unfolding field_rule call_rule

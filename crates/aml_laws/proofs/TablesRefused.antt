@@ -1,5 +1,5 @@
 -- No table is refused by what may be passed over in the wide profile.
-use Rattle.std.specs.Prelude.{◌≡◌, ℕ, ◌-◌, ◌^◌, ◌==◌, List, [], Bool, true, false, replicate, Ok, Err, refl, if◌then◌else◌}
+use Rattle.std.specs.Prelude.{◌≡◌, ℕ, ◌-◌, ◌^◌, ◌==◌, List, [], Bool, true, false, replicate, nat_lt, Ok, Err, refl, if◌then◌else◌}
 use Rattle.std.proofs.Common.{ap, sym, ◌∙◌}
 use Rattle.ar_space.specs.declared.refusal.EvaluationFault.TheVariants.{ObjectLimit}
 use Rattle.ar_space.specs.declared.refusal.Refusal.{Refusal}
@@ -8,7 +8,7 @@ use Rattle.ar_space.specs.Accesses.{Accesses}
 use Rattle.ar_space.specs.Change.{Change, give, go_on, ◌>>=◌}
 use Rattle.ar_space.specs.Outcome.{Outcome}
 use Rattle.aml_grammar.specs.declared.arities.Arity.{Arity}
-use Rattle.aml_grammar.specs.Grammar.{table_reading}
+use Rattle.aml_grammar.specs.Grammar.{max_depth, table_reading_within}
 use Rattle.aml_grammar.specs.Tree.{Tree, Trees}
 use Rattle.aml_objects.specs.declared.value.Value.{Value}
 use Rattle.aml_objects.specs.declared.value.Value.TheVariants as value
@@ -20,8 +20,8 @@ use Rattle.aml_meaning.specs.Slots.{opened}
 use Rattle.aml_meaning.specs.State.{State}
 use Rattle.aml_meaning.specs.Tasks.{in_turn}
 use Rattle.aml_laws.proofs.ListsGoOn.{list_ends_for_good}
-use Rattle.aml_laws.proofs.ReadingRefusals.{table_reading_reads}
-use Rattle.aml_laws.proofs.TermRefusals.{Reads, not_passable}
+use Rattle.aml_laws.proofs.ReadingRefusals.{table_reading_within_reads}
+use Rattle.aml_laws.proofs.TermRefusals.{ReadsWithin, not_passable}
 
 abbrev ForGood : {A : Type 0} → Outcome A → Type 0
 ForGood r = (e : Refusal) → r ≡ Err e → is_passable e ≡ false
@@ -50,14 +50,14 @@ module _ {S : Type 0} (accesses : Accesses S) where
   unfolding in_frame opened ◌>>=◌
   frame_ends vs m h w wide = opened_by (w.started == 2 ^ 64 - 1) vs m w _ h wide
 
-  terms_by : (r : Outcome (List Tree × List Arity)) (w : State S) (k : Trees → Change (State S) (Unit {0})) → w.profile ≡ profiles.Wide → Reads r → ((ts : Trees) → EndsForGood (k ts)) → ForGood (go_on (terms_kept r w).0 (terms_kept r w).1 k).0
+  terms_by : (low : Bool) (r : Outcome (List Tree × List Arity)) (w : State S) (k : Trees → Change (State S) (Unit {0})) → w.profile ≡ profiles.Wide → ReadsWithin low r → ((ts : Trees) → EndsForGood (k ts)) → ForGood (go_on (terms_kept r w).0 (terms_kept r w).1 k).0
   unfolding go_on
-  terms_by (Ok (ts, after)) w k wide h all e is = all _ (record w { arities = after }) wide e is
-  terms_by (Err x) w k wide h all e is = let same : x ≡ e = cc is in ap is_passable (sym same) ∙ not_passable x h
+  terms_by low (Ok (ts, after)) w k wide h all e is = all _ (record w { arities = after }) wide e is
+  terms_by low (Err x) w k wide h all e is = let same : x ≡ e = cc is in ap is_passable (sym same) ∙ not_passable low x h
 
   run_ends : (steps : ℕ) (bytes : List ℕ) → EndsForGood (table_run accesses steps bytes)
   unfolding table_run table_terms with_steps ◌>>=◌
-  run_ends steps bytes w wide = terms_by (table_reading bytes w.arities) w _ wide (table_reading_reads bytes w.arities) (λ ts. frame_ends (replicate 7 value.Uninitialized) _ (λ v wide. root_ends ts (v, steps) wide))
+  run_ends steps bytes w wide = terms_by (nat_lt w.nesting.levels max_depth) (table_reading_within w.nesting.levels bytes w.arities) w _ wide (table_reading_within_reads w.nesting.levels bytes w.arities) (λ ts. frame_ends (replicate 7 value.Uninitialized) _ (λ v wide. root_ends ts (v, steps) wide))
 
   pub table_ends_for_good : (bytes : List ℕ) (steps : ℕ) (w : State S) → w.profile ≡ profiles.Wide → (e : Refusal) → (loaded accesses bytes steps w).0 ≡ Err e → is_passable e ≡ false
   unfolding loaded ending

@@ -4,13 +4,14 @@ use Rattle.std.specs.Prelude.{◌≡◌, ◌⊎◌, ◌≤◌, ℕ, zero, suc, B
 use Rattle.std.proofs.Common.{arith, inl, inr, sym, subst, ap, ◌∙◌}
 use Rattle.ar_space.specs.declared.refusal.Refusal.{Refusal}
 use Rattle.ar_space.specs.declared.refusal.Refusal.TheVariants as refusal
-use Rattle.ar_space.specs.declared.refusal.EvaluationFault.TheVariants.{OutOfSteps}
+use Rattle.ar_space.specs.declared.refusal.EvaluationFault.TheVariants.{OutOfSteps, DepthSetting}
 use Rattle.ar_space.specs.declared.space.Width.{Width}
 use Rattle.ar_space.specs.declared.space.Place.{Place}
 use Rattle.ar_space.specs.Accesses.{Accesses}
 use Rattle.ar_space.specs.Outcome.{Outcome}
 use Rattle.ar_space.specs.Change.{Change, give, stop, settle, go_on, ◌>>=◌}
 use Rattle.aml_meaning.specs.declared.profile.Profile.{Profile}
+use Rattle.aml_meaning.specs.declared.settings.Nesting.{Nesting}
 use Rattle.aml_meaning.specs.declared.profile.Profile.TheVariants as profiles
 use Rattle.aml_meaning.specs.PassedOver.{is_passable}
 use Rattle.aml_laws.specs.Widened.{LeftOut}
@@ -30,25 +31,34 @@ pub record SideBySide {S T : Type 0} (accesses : Accesses S) (accesses2 : Access
   pub right_reads : (s : S) (t : T) (place : Place) (width : Width) → Parted s t → Parted s (accesses2.reads t place width).1
   pub right_writes : (s : S) (t : T) (place : Place) (width : Width) (value : ℕ) → Parted s t → Parted s (accesses2.writes t place width value).1
 
+-- the profile and the depth of the right run, by those of the left one
+abbrev pub Raise : Type 0
+Raise = (Profile → Profile) × (Nesting → Nesting)
+
 -- whether runs have the same profile, and no refusal ends their likeness that the wide profile passes over; or the right one is wide, with as
--- many steps
-abbrev pub Passes : (Profile → Profile) → (Refusal → Type 0) → (ℕ → ℕ) → Type 0
-Passes raise Ends more = (((p : Profile) → raise p ≡ p) × ((e : Refusal) → is_passable e ≡ true → Ends e → ⊥)) ⊎ (((p : Profile) → raise p ≡ profiles.Wide) × ((n : ℕ) → more n ≡ n))
+-- many steps, and as deep
+abbrev pub Passes : Raise → (Refusal → Type 0) → (ℕ → ℕ) → Type 0
+Passes raise Ends more = (((p : Profile) → raise.0 p ≡ p) × ((e : Refusal) → is_passable e ≡ true → Ends e → ⊥)) ⊎ (((p : Profile) → raise.0 p ≡ profiles.Wide) × (((n : ℕ) → more n ≡ n) × ((d : Nesting) → raise.1 d ≡ d)))
 
 -- a refusal that only the right one passes over
-abbrev pub MayPass : {raise : Profile → Profile} {Ends : Refusal → Type 0} {more : ℕ → ℕ} → Passes raise Ends more → Refusal → Type 0
+abbrev pub MayPass : {raise : Raise} {Ends : Refusal → Type 0} {more : ℕ → ℕ} → Passes raise Ends more → Refusal → Type 0
 MayPass (inl h) e = ⊥
 MayPass (inr h) e = is_passable e ≡ true
 
+-- both are as deep, or the right one may be deeper, and what the left one refuses as too deep for its setting ends their likeness
+abbrev pub Deepens : Raise → (Refusal → Type 0) → Type 0
+Deepens raise Ends = ((d : Nesting) → raise.1 d ≡ d) ⊎ (Ends (refusal.Evaluation DepthSetting) × ((d : Nesting) → (d.calls ≤ (raise.1 d).calls) × (d.levels ≤ (raise.1 d).levels)))
+
 -- Runs side by side: over such spaces, and on the right in a profile that evaluates what the left one does, and with as many steps or
--- more. A refusal by what a profile leaves out ends the likeness, where the profiles differ, and one for want of steps, where the steps
--- do.
+-- more, and as deep or deeper. A refusal by what a profile leaves out ends the likeness, where the profiles differ, one for want of steps,
+-- where the steps do, and one of what is deeper than the setting allows, where the settings do.
 pub record Sides {S T : Type 0} (accesses : Accesses S) (accesses2 : Accesses T) : Type 1 where
   pub beside : SideBySide accesses accesses2
-  pub raise : Profile → Profile
+  pub raise : Raise
   pub Ends : Refusal → Type 0
-  pub wide_stays : raise profiles.Wide ≡ profiles.Wide
-  pub core_stays : (raise profiles.Core ≡ profiles.Core) ⊎ ((e : Refusal) → LeftOut e → Ends e)
+  pub wide_stays : raise.0 profiles.Wide ≡ profiles.Wide
+  pub core_stays : (raise.0 profiles.Core ≡ profiles.Core) ⊎ ((e : Refusal) → LeftOut e → Ends e)
+  pub deepens : Deepens raise Ends
   pub more : ℕ → ℕ
   pub more_next : (n : ℕ) → more (suc n) ≡ suc (more n)
   pub none_left : ((n : ℕ) → more n ≡ n) ⊎ Ends (refusal.Evaluation OutOfSteps)
@@ -56,7 +66,7 @@ pub record Sides {S T : Type 0} (accesses : Accesses S) (accesses2 : Accesses T)
 
 -- over such spaces in the same profile, with as many steps
 abbrev pub alike : {S T : Type 0} {accesses : Accesses S} {accesses2 : Accesses T} → SideBySide accesses accesses2 → Sides accesses accesses2
-alike side = record { beside = side; raise = λ p. p; Ends = λ e. ⊥; wide_stays = refl; core_stays = inl refl; more = λ n. n; more_next = λ n. refl; none_left = inl (λ n. refl); passes = inl (λ p. refl, λ e yes h. h) }
+alike side = record { beside = side; raise = (λ p. p, λ d. d); Ends = λ e. ⊥; wide_stays = refl; core_stays = inl refl; deepens = inl (λ d. refl); more = λ n. n; more_next = λ n. refl; none_left = inl (λ n. refl); passes = inl (λ p. refl, λ e yes h. h) }
 
 -- bounds on the steps of the left one and of the right one: the same, or no less on the right where want of steps ends the likeness
 abbrev pub Fits : {S T : Type 0} {accesses : Accesses S} {accesses2 : Accesses T} → Sides accesses accesses2 → ℕ → ℕ → Type 0
@@ -102,7 +112,7 @@ IsEnded Ends (Err e) = Ends e
 pub record Shape (S T X Y : Type 0) : Type 0 where
   pub left : X → S
   pub right : Y → T
-  pub over : (Profile → Profile) → (ℕ → ℕ) → X → T → Y
+  pub over : Raise → (ℕ → ℕ) → X → T → Y
 
 -- the spaces themselves
 abbrev pub spaces : {S T : Type 0} → Shape S T S T
@@ -116,7 +126,7 @@ Comes {T = T} side shape p q =
 
 -- the same in the same profile: then nothing but the spaces parts them
 abbrev pub Goes : {S T X Y : Type 0} {accesses : Accesses S} {accesses2 : Accesses T} → SideBySide accesses accesses2 → Shape S T X Y → {A : Type 0} → Outcome A × X → Outcome A × Y → Type 0
-Goes {T = T} side shape p q = side.Parted (shape.left p.1) (shape.right q.1) ⊎ ((t : T) × (q ≡ (p.0, shape.over (λ r. r) (λ n. n) p.1 t)) × side.InStep (shape.left p.1) t)
+Goes {T = T} side shape p q = side.Parted (shape.left p.1) (shape.right q.1) ⊎ ((t : T) × (q ≡ (p.0, shape.over (λ r. r, λ d. d) (λ n. n) p.1 t)) × side.InStep (shape.left p.1) t)
 
 pub none_ended : {A : Type 0} (r : Outcome A) → IsEnded (λ e. ⊥) r → ⊥
 none_ended (Ok a) h = h

@@ -48,10 +48,10 @@ use Rattle.aml_laws.proofs.MatchesTogether.{match_rule_together}
 use Rattle.aml_laws.proofs.EventsTogether.{event_rule_together, wait_rule_together}
 
 -- a profile that is asked for is the same on both sides, or the likeness ends
-asked_comes : {S T : Type 0} {accesses : Accesses S} {accesses2 : Accesses T} (side : Sides accesses accesses2) (op : Opcode) (w : State S) (t : T) (p : Profile) → w.profile ≡ p → (side.raise profiles.Core ≡ profiles.Core) ⊎ ((e : Refusal) → LeftOut e → side.Ends e) → side.beside.InStep w.space t
-    → Comes side worlds (evaluated_in w.profile op, w) (evaluated_in (side.raise w.profile) op, world_over side.raise w t)
-asked_comes side op w t profiles.Wide is core i = inr (inr (t, ap (λ r. (evaluated_in r op, world_over side.raise w t)) (ap side.raise is ∙ side.wide_stays ∙ sym is), i))
-asked_comes side op w t profiles.Core is (inl stays) i = inr (inr (t, ap (λ r. (evaluated_in r op, world_over side.raise w t)) (ap side.raise is ∙ stays ∙ sym is), i))
+asked_comes : {S T : Type 0} {accesses : Accesses S} {accesses2 : Accesses T} (side : Sides accesses accesses2) (op : Opcode) (w : State S) (t : T) (p : Profile) → w.profile ≡ p → (side.raise.0 profiles.Core ≡ profiles.Core) ⊎ ((e : Refusal) → LeftOut e → side.Ends e) → side.beside.InStep w.space t
+    → Comes side worlds (evaluated_in w.profile op, w) (evaluated_in (side.raise.0 w.profile) op, world_over side.raise w t)
+asked_comes side op w t profiles.Wide is core i = inr (inr (t, ap (λ r. (evaluated_in r op, world_over side.raise w t)) (ap side.raise.0 is ∙ side.wide_stays ∙ sym is), i))
+asked_comes side op w t profiles.Core is (inl stays) i = inr (inr (t, ap (λ r. (evaluated_in r op, world_over side.raise w t)) (ap side.raise.0 is ∙ stays ∙ sym is), i))
 asked_comes side op w t profiles.Core is (inr ends) i = inr (inl (subst (λ p. IsEnded side.Ends (evaluated_in p op)) (sym is) (ends (refusal.Evaluation (Unsupported (number_of op))) (inl (number_of op, refl)))))
 
 module _ {S T : Type 0} {accesses : Accesses S} {accesses2 : Accesses T} {side : Sides accesses accesses2} where

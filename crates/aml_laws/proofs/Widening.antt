@@ -40,13 +40,13 @@ module _ {S : Type 0} (accesses : Accesses S) where
   -- the core profile on the left, the wide one on the right
   unfoldable widening : Sides accesses accesses
   unfolding same_space
-  widening = record { beside = same_space; raise = λ p. profiles.Wide; Ends = LeftOut; wide_stays = refl; core_stays = inr (λ e h. h); more = λ n. n; more_next = λ n. refl; none_left = inl (λ n. refl); passes = inr (λ p. refl, λ n. refl) }
+  widening = record { beside = same_space; raise = (λ p. profiles.Wide, λ d. d); Ends = LeftOut; wide_stays = refl; core_stays = inr (λ e h. h); deepens = inl (λ d. refl); more = λ n. n; more_next = λ n. refl; none_left = inl (λ n. refl); passes = inr (λ p. refl, (λ n. refl, λ d. refl)) }
 
   world_comes : {A : Type 0} (p q : Outcome A × State S) → Comes widening worlds p q → IsLeftOut p.0 ⊎ (q ≡ (p.0, widened p.1))
   unfolding widening same_space
   world_comes p q (inl parted) = absurd parted
   world_comes p q (inr (inl ended)) = inl (left_out p.0 ended)
-  world_comes p q (inr (inr (t, same, i))) = inr (same ∙ ap (λ s. (p.0, world_over (λ r. profiles.Wide) p.1 s)) i)
+  world_comes p q (inr (inr (t, same, i))) = inr (same ∙ ap (λ s. (p.0, world_over (λ r. profiles.Wide, λ d. d) p.1 s)) i)
 
   left_out_at : {A : Type 0} (depth : ℕ) (r : Outcome A) → IsEnded (level widening depth).Ends r → IsLeftOutAt depth r
   unfolding widening
@@ -57,13 +57,13 @@ module _ {S : Type 0} (accesses : Accesses S) where
   unfolding widening same_space
   world_comes_at depth p q (inl parted) = absurd parted
   world_comes_at depth p q (inr (inl ended)) = inl (left_out_at depth p.0 ended)
-  world_comes_at depth p q (inr (inr (t, same, i))) = inr (same ∙ ap (λ s. (p.0, world_over (λ r. profiles.Wide) p.1 s)) i)
+  world_comes_at depth p q (inr (inr (t, same, i))) = inr (same ∙ ap (λ s. (p.0, world_over (λ r. profiles.Wide, λ d. d) p.1 s)) i)
 
   run_comes_at : {A : Type 0} (depth : ℕ) (p q : Outcome A × (State S × ℕ)) → Comes (level widening depth) runs p q → IsLeftOutAt depth p.0 ⊎ (q ≡ outcome_widened p)
   unfolding widening same_space
   run_comes_at depth p q (inl parted) = absurd parted
   run_comes_at depth p q (inr (inl ended)) = inl (left_out_at depth p.0 ended)
-  run_comes_at depth p q (inr (inr (t, same, i))) = inr (same ∙ ap (λ s. (p.0, (world_over (λ r. profiles.Wide) p.1.0 s, p.1.1))) i)
+  run_comes_at depth p q (inr (inr (t, same, i))) = inr (same ∙ ap (λ s. (p.0, (world_over (λ r. profiles.Wide, λ d. d) p.1.0 s, p.1.1))) i)
 
   pub term_widened : (t : Task) (s : State S × ℕ) → IsLeftOutAt t.depth (meaning accesses t s).0 ⊎ (meaning accesses t (widened s.0, s.1) ≡ outcome_widened (meaning accesses t s))
   unfolding widening same_space

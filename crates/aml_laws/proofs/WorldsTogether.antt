@@ -11,7 +11,6 @@ use Rattle.aml_objects.specs.declared.value.Value.{Value}
 use Rattle.aml_objects.specs.Objects.{Objects}
 use Rattle.aml_namespace.specs.Namespace.{Namespace}
 use Rattle.aml_meaning.specs.declared.flow.Flow.{Flow}
-use Rattle.aml_meaning.specs.declared.profile.Profile.{Profile}
 use Rattle.aml_meaning.specs.State.{State, on_objects, on_names, on_space}
 use Rattle.aml_meaning.specs.Run.{Run, lift, charge}
 use Rattle.aml_meaning.specs.Slots.{opened, closed}
@@ -20,11 +19,11 @@ use Rattle.aml_meaning.specs.Calling.{released, ending, with_steps, framed, in_f
 use Rattle.ar_space.specs.Outcome.{seen}
 use Rattle.std.proofs.Common.{inl, inr, sym, subst, ap, ◌∙◌}
 use Rattle.aml_laws.proofs.Charges.{charge_none, charge_one, charge_space}
-use Rattle.aml_laws.proofs.Together.{Sides, Shape, Together, Comes, IsEnded, spaces, plain, then_together, choice_together, wrapped_together}
+use Rattle.aml_laws.proofs.Together.{Raise, Sides, Shape, Together, Comes, IsEnded, spaces, plain, then_together, choice_together, wrapped_together}
 
--- a world over another space, in another profile
-abbrev pub world_over : {S T : Type 0} → (Profile → Profile) → State S → T → State T
-world_over raise w t = record { names = w.names; arities = w.arities; objects = w.objects; frames = w.frames; started = w.started; space = t; osi = w.osi; width = w.width; profile = raise w.profile; passed = w.passed }
+-- a world over another space, in another profile and of another depth
+abbrev pub world_over : {S T : Type 0} → Raise → State S → T → State T
+world_over raise w t = record { names = w.names; arities = w.arities; objects = w.objects; frames = w.frames; started = w.started; space = t; osi = w.osi; width = w.width; profile = raise.0 w.profile; nesting = raise.1 w.nesting; passed = w.passed }
 
 abbrev pub worlds : {S T : Type 0} → Shape S T (State S) (State T)
 worlds = record { left = λ w. w.space; right = λ w. w.space; over = λ raise more w t. world_over raise w t }

@@ -28,10 +28,10 @@ one_more_begun w = record w { space = (w.space.0, w.space.1 + 1) }
 
 -- a world without its counter, and one with a counter
 abbrev pub without_counter : {S : Type 0} → State (S × ℕ) → State S
-without_counter w = record { names = w.names; arities = w.arities; objects = w.objects; frames = w.frames; started = w.started; space = w.space.0; osi = w.osi; width = w.width; profile = w.profile; passed = w.passed }
+without_counter w = record { names = w.names; arities = w.arities; objects = w.objects; frames = w.frames; started = w.started; space = w.space.0; osi = w.osi; width = w.width; profile = w.profile; nesting = w.nesting; passed = w.passed }
 
 abbrev pub with_counter : {S : Type 0} → ℕ → State S → State (S × ℕ)
-with_counter count w = record { names = w.names; arities = w.arities; objects = w.objects; frames = w.frames; started = w.started; space = (w.space, count); osi = w.osi; width = w.width; profile = w.profile; passed = w.passed }
+with_counter count w = record { names = w.names; arities = w.arities; objects = w.objects; frames = w.frames; started = w.started; space = (w.space, count); osi = w.osi; width = w.width; profile = w.profile; nesting = w.nesting; passed = w.passed }
 
 -- what an evaluation gives and leaves, without the counter
 abbrev pub outcome_without_counter : {S A : Type 0} → Outcome A × (State (S × ℕ) × ℕ) → Outcome A × (State S × ℕ)

@@ -23,7 +23,7 @@ noted below = record {
 
 -- a world without its notes
 abbrev pub without_notes : {S : Type 0} → State (WithNotes S) → State S
-without_notes w = record { names = w.names; arities = w.arities; objects = w.objects; frames = w.frames; started = w.started; space = w.space.0; osi = w.osi; width = w.width; profile = w.profile; passed = w.passed }
+without_notes w = record { names = w.names; arities = w.arities; objects = w.objects; frames = w.frames; started = w.started; space = w.space.0; osi = w.osi; width = w.width; profile = w.profile; nesting = w.nesting; passed = w.passed }
 
 -- what an evaluation gives and leaves, without the notes
 abbrev pub outcome_without_notes : {S A : Type 0} → Outcome A × (State (WithNotes S) × ℕ) → Outcome A × (State S × ℕ)

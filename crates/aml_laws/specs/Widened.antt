@@ -11,7 +11,7 @@ use Rattle.aml_meaning.specs.Tasks.{module_level}
 
 -- the same world in the wide profile
 abbrev pub widened : {S : Type 0} → State S → State S
-widened w = record { names = w.names; arities = w.arities; objects = w.objects; frames = w.frames; started = w.started; space = w.space; osi = w.osi; width = w.width; profile = profile.Wide; passed = w.passed }
+widened w = record { names = w.names; arities = w.arities; objects = w.objects; frames = w.frames; started = w.started; space = w.space; osi = w.osi; width = w.width; profile = profile.Wide; nesting = w.nesting; passed = w.passed }
 
 -- what an evaluation gives and leaves, with the world in the wide profile
 abbrev pub outcome_widened : {S A : Type 0} → Outcome A × (State S × ℕ) → Outcome A × (State S × ℕ)

@@ -25,11 +25,12 @@ ghost use Rattle.aml_meaning.specs.declared.flow.Flow.TheVariants as flow;
 ghost use Rattle.aml_meaning.specs.declared.profile.Profile.TheVariants.{Wide};
 ghost use Rattle.aml_laws.specs.BankDeclarations.{bank_field, Finds, FindsField};
 
-/// A BankField term in the wide profile finds its region first, then its bank field, and then evaluates the value, once:
-/// where a name finds nothing, the term is refused so, and nothing has changed; what is no operation region, no field
-/// unit, or a field that a BankField or an IndexField declared is refused as `WrongType`; where the value is refused or
-/// is no integer, the term is refused so. Else its fields are declared in the region, with the bank field and the value
-/// as an integer. A value that is evaluated before its names are found, or a bank field in a bank, is refused by this.
+/// A BankField term in the wide profile finds its region first, then its bank field, and then evaluates the value,
+/// once: where a name finds nothing, the term is refused so, and nothing has changed; what is no operation region, no
+/// field unit, or a field that a BankField or an IndexField declared is refused as `WrongType`; where the value is
+/// refused or is no integer, the term is refused so. Else its fields are declared in the region, with the bank field
+/// and the value as an integer. A value that is evaluated before its names are found, or a bank field in a bank, is
+/// refused by this.
 pub fn a_bank_field_is_declared_in_order<S>()
     ensures no_region { (accesses : Accesses S) (scope : List Seg) (depth : ℕ) (region bank : Name) (value : Tree)
         (flags : ℕ) (fields : Trees) (s : State S × ℕ) (e : Refusal) → s.0.profile ≡ Wide →

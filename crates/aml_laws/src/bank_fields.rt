@@ -42,12 +42,12 @@ pub fn a_bank_is_selected_before_each_unit<S>()
         (units_of field.bit_offset field.bits field.access))) (w, steps) }
 {}
 
-/// A bank is selected by one write of its bank field with the value, whatever bits the field has and by whatever rule it
-/// updates its units, which may read them first: the bank field lies in a region of SystemMemory or SystemIO and holds
-/// the value. A field in such a bank is read and written unit by unit, each right behind such a write, and where bits
-/// of a unit are kept, it is read so before. There are no other accesses, nothing else of the world changes, and no
-/// step is taken. A bank field of a part of a unit that is written whole, or without the bits that it keeps, is refused
-/// by this.
+/// A bank is selected by one write of its bank field with the value, whatever bits the field has and by whatever rule
+/// it updates its units, which may read them first: the bank field lies in a region of SystemMemory or SystemIO and
+/// holds the value. A field in such a bank is read and written unit by unit, each right behind such a write, and
+/// where bits of a unit are kept, it is read so before. There are no other accesses, nothing else of the world
+/// changes, and no step is taken. A bank field of a part of a unit that is written whole, or without the bits that it
+/// keeps, is refused by this.
 #[tactic(auto, using(crate::proofs::BanksSelected::a_bank_is_selected_by_a_write_of_its_field))]
 pub fn a_bank_is_selected_by_a_write_of_its_field<S>()
     ensures selected { (w : State S) (steps : ℕ) (accesses : Accesses S) (call : List Seg → Run S ℕ)

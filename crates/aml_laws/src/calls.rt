@@ -37,18 +37,19 @@ pub fn calls_leave_nothing<S>()
         get (left p w).names.map q ≡ get w.names.map q }
 {}
 
-/// The body of a control method begins in a frame of its own, which has the next number: its arguments are those that are
-/// handed in, in their order, and its eight locals hold nothing. Arguments that are exchanged, and a local that keeps what
-/// an earlier call left in it, are refused by this.
+/// The body of a control method begins in a frame of its own, which has the next number: its arguments are those that
+/// are handed in, in their order, and its eight locals hold nothing. Arguments that are exchanged, and a local that
+/// keeps what an earlier call left in it, are refused by this.
 pub fn a_call_begins_with_its_arguments<S>()
     ensures { (depth : ℕ) (p : List Seg) (body : List ℕ) (arguments : List Value) (before inside : State S) (n : ℕ) →
         body_frame depth p body arguments before ≡ (Ok n, inside) → IsFrameOpened before arguments n inside }
 {}
 
-/// A call evaluates the terms of its body in turn, in the path of its control method and one call deeper, and gives what
-/// a Return in it gave; where the body comes to its end it gives nothing, and where it is refused it is refused so. What
-/// it gives is the value of the call, and where it gives nothing the call has no value. It takes the steps of its body and
-/// no others. A value that is lost, a body that goes on behind a Return, or one that begins elsewhere is refused by this.
+/// A call evaluates the terms of its body in turn, in the path of its control method and one call deeper, and gives
+/// what a Return in it gave; where the body comes to its end it gives nothing, and where it is refused it is refused
+/// so. What it gives is the value of the call, and where it gives nothing the call has no value. It takes the steps
+/// of its body and no others. A value that is lost, a body that goes on behind a Return, or one that begins elsewhere
+/// is refused by this.
 pub fn a_call_gives_what_its_body_returns<S>()
     ensures returned { (accesses : Accesses S) (depth : ℕ) (p : List Seg) (body : List ℕ) (arguments : List Value)
         (before inside : State S) (steps n : ℕ) → body_frame depth p body arguments before ≡ (Ok n, inside) →

@@ -35,9 +35,9 @@ pub fn what_is_within_the_limits_is_copied()
         ((copied v objects ≡ (Ok u, objects ++ made)) × (length made ≡ count))) }
 {}
 
-/// What CopyObject leaves in a name that held a value, and what Store and CopyObject leave in a local, is a copy of the value,
-/// as `a_copy_is_the_same_apart_from_its_source` says; of the local nothing else of the world changes but the objects that the
-/// copy has. A store that keeps the very object of its source is refused by this.
+/// What CopyObject leaves in a name that held a value, and what Store and CopyObject leave in a local, is a copy of
+/// the value, as `a_copy_is_the_same_apart_from_its_source` says; of the local nothing else of the world changes but
+/// the objects that the copy has. A store that keeps the very object of its source is refused by this.
 pub fn what_is_stored_is_a_copy<S>()
     ensures named { (before after : State S) (path : List Seg) (v : Value) →
         copied_to (targets.Name path) v before ≡ (Ok store.Done, after) → NameHoldsCopy before after path v }

@@ -16,7 +16,7 @@ ghost use Rattle.aml_meaning.specs.declared.term_kind.OneOperand.{OneOperand};
 ghost use Rattle.aml_meaning.specs.declared.term_kind.TwoOperands.{TwoOperands};
 ghost use Rattle.aml_meaning.specs.declared.term_kind.Test.{Test};
 ghost use Rattle.aml_meaning.specs.declared.term_kind.Count.{Count};
-ghost use Rattle.aml_meaning.specs.declared.profile.Profile.{Profile};
+ghost use Rattle.aml_meaning.specs.declared.settings.EvaluationSettings.{EvaluationSettings};
 ghost use Rattle.aml_meaning.specs.State.{State};
 ghost use Rattle.aml_meaning.specs.Readings.{integer_kept, integer_in};
 ghost use Rattle.aml_meaning.specs.Regions.{value_of_bits};
@@ -52,8 +52,8 @@ pub fn operators_form_integers_of_the_width<S>()
 /// bytes, a package at most 65,535 elements, a field at most 8,388,608 bits.
 #[tactic(auto, using(crate::proofs::IntegersOfTables::term_value_within))]
 pub fn integers_stay_below_two_to_the_width<S>()
-    ensures first { (profile : Profile) (width : IntegerWidth) (osi : List (List ℕ)) (space : S) →
-        AllWithin width (predefined (fresh_as profile width osi space)).1 }
+    ensures first { (settings : EvaluationSettings) (width : IntegerWidth) (osi : List (List ℕ)) (space : S) →
+        AllWithin width (predefined (fresh_as settings width osi space)).1 }
     ensures terms { (width : IntegerWidth) (accesses : Accesses S) (t : Task) (s : State S × ℕ) → PlainTree t.term →
         AllWithin width s.0 → AllWithin width (meaning accesses t s).1.0 }
     ensures values { (width : IntegerWidth) (accesses : Accesses S) (t : Task) (s : State S × ℕ) (v : Value) →

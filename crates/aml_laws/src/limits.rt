@@ -2,7 +2,7 @@
 ghost use Rattle.std.specs.Prelude.{◌≡◌, ◌≤◌, ◌<◌, ◌+◌, ◌-◌, ◌++◌, ◌∷◌, [], ℕ, List, length, Some, Ok, Err};
 ghost use Rattle.std.specs.FinMap.{get};
 ghost use Rattle.ar_space.specs.declared.refusal.Refusal.TheVariants.{Evaluation};
-ghost use Rattle.ar_space.specs.declared.refusal.EvaluationFault.TheVariants.{ObjectLimit, CallDepth, DeadReference};
+ghost use Rattle.ar_space.specs.declared.refusal.EvaluationFault.TheVariants.{ObjectLimit, CallDepth, DepthSetting, DeadReference};
 ghost use Rattle.ar_space.specs.Accesses.{Accesses};
 ghost use Rattle.aml_path.specs.declared.segment.Seg.{Seg};
 ghost use Rattle.aml_objects.specs.Objects.{Objects, make, make_string, make_buffer, make_package};
@@ -28,7 +28,8 @@ ghost use Rattle.aml_laws.specs.Calls.{body_frame};
 ghost use Rattle.aml_laws.specs.Limits.{Chain, ArgumentChain, nested, IsNested};
 
 /// Objects are refused from the 262,145th on, and not before; strings and buffers of more than 1,048,576 bytes,
-/// packages of more than 65,535 elements, and a call inside 32 others are refused, and leave everything as it was.
+/// packages of more than 65,535 elements, a call inside 32 others, and one inside as many as the world allows are
+/// refused, and leave everything as it was.
 /// A limit that is one too low or too high for objects, and one too high for the others, is refused by this.
 #[tactic(auto, using(crate::proofs::LimitsRefused::limits_are_refused))]
 pub fn limits_are_refused<S>()
@@ -45,10 +46,14 @@ pub fn limits_are_refused<S>()
     ensures calls { (accesses : Accesses S) (depth : ℕ) (p : List Seg) (body : List ℕ) (arguments : List Value)
         (s : State S × ℕ) → 32 ≤ depth →
         invoked (meaning accesses) depth p body arguments s ≡ (Err (Evaluation CallDepth), s) }
+    ensures setting { (accesses : Accesses S) (depth : ℕ) (p : List Seg) (body : List ℕ) (arguments : List Value)
+        (s : State S × ℕ) → depth < 32 → s.0.nesting.calls ≤ depth →
+        invoked (meaning accesses) depth p body arguments s ≡ (Err (Evaluation DepthSetting), s) }
 {}
 
 /// What is within a limit is taken: a string or a buffer of 1,048,576 bytes and a package of 65,535 elements, or
-/// fewer, where there is room for an object; and a call inside fewer than 32 others begins as the outermost one does.
+/// fewer, where there is room for an object; and a call inside fewer than 32 others, and fewer than the world allows,
+/// begins as the outermost one does.
 /// With `limits_are_refused` each of these is refused exactly above its limit.
 #[tactic(auto, using(crate::proofs::LimitsTaken::what_is_within_the_limits_is_taken))]
 pub fn what_is_within_the_limits_is_taken<S>()
@@ -60,7 +65,7 @@ pub fn what_is_within_the_limits_is_taken<S>()
         length objects < 262144 →
         make_package elements objects ≡ (Ok (value.Package (length objects)), objects ++ object.Package elements ∷ []) }
     ensures calls { (depth : ℕ) (p : List Seg) (body : List ℕ) (arguments : List Value) (w : State S) → depth < 32 →
-        body_frame depth p body arguments w ≡ body_frame 0 p body arguments w }
+        depth < w.nesting.calls → body_frame depth p body arguments w ≡ body_frame 0 p body arguments w }
 {}
 
 /// A chain of at most 64 references is followed to its end, as SizeOf and ObjectType do, and answers what the last one

@@ -5,7 +5,7 @@ ghost use Rattle.ar_space.specs.declared.integer_width.IntegerWidth.{IntegerWidt
 ghost use Rattle.aml_objects.specs.declared.value.Value.{Value};
 ghost use Rattle.aml_namespace.specs.Namespace.{numbered};
 ghost use Rattle.aml_namespace.specs.Numbering.{Numbered};
-ghost use Rattle.aml_meaning.specs.declared.profile.Profile.{Profile};
+ghost use Rattle.aml_meaning.specs.declared.settings.EvaluationSettings.{EvaluationSettings};
 ghost use Rattle.aml_meaning.specs.State.{State};
 ghost use Rattle.aml_meaning.specs.Slots.{opened};
 ghost use Rattle.aml_meaning.specs.Predefined.{fresh_as, predefined};
@@ -25,8 +25,8 @@ pub fn numbers_never_fall<S>()
 pub fn numbers_are_given_once<S>()
     ensures kept { (accesses : Accesses S) (w v : State S) → Becomes accesses w v →
         Numbered w.names → Numbered v.names }
-    ensures always { (accesses : Accesses S) (profile : Profile) (width : IntegerWidth) (osi : List (List ℕ))
-        (space : S) (w : State S) → Becomes accesses (predefined (fresh_as profile width osi space)).1 w →
+    ensures always { (accesses : Accesses S) (settings : EvaluationSettings) (width : IntegerWidth) (osi : List (List ℕ))
+        (space : S) (w : State S) → Becomes accesses (predefined (fresh_as settings width osi space)).1 w →
         Numbered w.names }
     ensures opened { (arguments : List Value) (w : State S) → Numbered w.names → Numbered (opened arguments w).1.names }
 {}

@@ -8,7 +8,7 @@ ghost use Rattle.ar_space.specs.declared.refusal.Refusal.{Refusal};
 ghost use Rattle.aml_path.specs.declared.segment.Seg.{Seg};
 ghost use Rattle.aml_grammar.specs.Tree.{Tree, Trees, tree};
 ghost use Rattle.aml_objects.specs.declared.value.Value.{Value};
-ghost use Rattle.aml_meaning.specs.declared.profile.Profile.{Profile};
+ghost use Rattle.aml_meaning.specs.declared.settings.EvaluationSettings.{EvaluationSettings};
 ghost use Rattle.aml_meaning.specs.declared.profile.Profile.TheVariants.{Core, Wide};
 ghost use Rattle.aml_meaning.specs.declared.flow.Flow.{Flow};
 ghost use Rattle.aml_meaning.specs.Calling.{answered, evaluated, loaded};
@@ -76,8 +76,8 @@ pub fn the_core_profile_passes_nothing_over<S>()
 {}
 
 /// In the bodies of control methods nothing is passed over, in either profile: a term, a list of terms and a call of a
-/// control method note nothing where one is being called, nor does the value of an object or an answer, however it ends.
-/// A list in a body that goes on behind a refusal is refused by this.
+/// control method note nothing where one is being called, nor does the value of an object or an answer, however it
+/// ends. A list in a body that goes on behind a refusal is refused by this.
 #[tactic(auto, using(crate::proofs::BodiesPassNothing::body_notes_nothing, crate::proofs::BodiesPassNothing::list_notes_nothing, crate::proofs::BodiesPassNothing::call_notes_nothing, crate::proofs::BodiesPassNothing::value_notes_nothing, crate::proofs::BodiesPassNothing::answer_notes_nothing))]
 pub fn control_methods_pass_nothing_over<S>()
     ensures terms { (accesses : Accesses S) (t : Task) (s : State S × ℕ) → module_level t.depth ≡ false →
@@ -111,9 +111,9 @@ pub fn the_first_that_are_passed_over_are_kept<S>()
     ensures goes_on { (accesses : Accesses S) (w v : State S) → Becomes accesses w v → GoesOn w.passed v.passed }
     ensures kept { (accesses : Accesses S) (w v : State S) → Becomes accesses w v → KeepsTheFirst w.passed →
         KeepsTheFirst v.passed }
-    ensures always { (accesses : Accesses S) (profile : Profile) (width : IntegerWidth) (osi : List (List ℕ))
-        (space : S) (w : State S) → Becomes accesses (predefined (fresh_as profile width osi space)).1 w →
+    ensures always { (accesses : Accesses S) (settings : EvaluationSettings) (width : IntegerWidth) (osi : List (List ℕ))
+        (space : S) (w : State S) → Becomes accesses (predefined (fresh_as settings width osi space)).1 w →
         KeepsTheFirst w.passed }
-    ensures none { (profile : Profile) (width : IntegerWidth) (osi : List (List ℕ)) (space : S) →
-        (predefined (fresh_as profile width osi space)).1.passed.count ≡ 0 }
+    ensures none { (settings : EvaluationSettings) (width : IntegerWidth) (osi : List (List ℕ)) (space : S) →
+        (predefined (fresh_as settings width osi space)).1.passed.count ≡ 0 }
 {}

@@ -52,13 +52,13 @@ pub fn segment_groups_and_buses_are_the_nearest<S>()
         NoneSuch (StandsIn w.names.map name) scope (length scope) → nearest (Parent name) scope w ≡ (Ok None, w) }
 {}
 
-/// A name that holds an integer tells it where the address of a function is asked for: it takes no step and no access, and
-/// changes nothing. So what the next laws ask of `_SEG`, `_BBN` and `_ADR` holds of names. An object that is asked for at
-/// another path, or that costs a step, is refused by this.
+/// A name that holds an integer tells it where the address of a function is asked for: it takes no step and no
+/// access, and changes nothing, where one more call is allowed. So what the next laws ask of `_SEG`, `_BBN` and
+/// `_ADR` holds of names. An object that is asked for at another path, or that costs a step, is refused by this.
 pub fn a_name_that_holds_an_integer_tells_it<S>()
     ensures { (accesses : Accesses S) (path : List Seg) (entry : Entry) (n : ℕ) →
-        entry.object ≡ Data (Integer n) → (depth : ℕ) → depth < 32 → (w : State S) (steps : ℕ) →
-        get w.names.map path ≡ Some entry → TellsNumber (called_at accesses (meaning accesses) depth) w steps path n }
+        entry.object ≡ Data (Integer n) → (depth : ℕ) → depth < 32 → (w : State S) → depth < w.nesting.calls →
+        (steps : ℕ) → get w.names.map path ≡ Some entry → TellsNumber (called_at accesses (meaning accesses) depth) w steps path n }
 {}
 
 /// The bridges that are asked for the bus behind them, in the wide profile, are those above the function, each once and

@@ -2,7 +2,7 @@
 ghost use Rattle.std.specs.Prelude.{◌≡◌, ◌⊎◌, ℕ, List};
 ghost use Rattle.ar_space.specs.Accesses.{Accesses};
 ghost use Rattle.ar_space.specs.declared.integer_width.IntegerWidth.{IntegerWidth};
-ghost use Rattle.aml_meaning.specs.declared.profile.Profile.{Profile};
+ghost use Rattle.aml_meaning.specs.declared.settings.EvaluationSettings.{EvaluationSettings};
 ghost use Rattle.aml_meaning.specs.State.{State};
 ghost use Rattle.aml_meaning.specs.Predefined.{fresh_as, predefined};
 ghost use Rattle.aml_path.specs.declared.segment.Seg.{Seg};
@@ -18,9 +18,9 @@ ghost use Rattle.aml_laws.specs.Widened.{widened, outcome_widened, IsLeftOut, Is
 #[tactic(auto, using(crate::proofs::ProfileKept::profile_is_kept, crate::proofs::ProfileKept::profile_is_given))]
 pub fn evaluation_keeps_the_profile<S>()
     ensures kept { (accesses : Accesses S) (w v : State S) → Becomes accesses w v → v.profile ≡ w.profile }
-    ensures given { (accesses : Accesses S) (profile : Profile) (width : IntegerWidth) (osi : List (List ℕ))
-        (space : S) (w : State S) → Becomes accesses (predefined (fresh_as profile width osi space)).1 w →
-        w.profile ≡ profile }
+    ensures given { (accesses : Accesses S) (settings : EvaluationSettings) (width : IntegerWidth) (osi : List (List ℕ))
+        (space : S) (w : State S) → Becomes accesses (predefined (fresh_as settings width osi space)).1 w →
+        w.profile ≡ settings.profile }
 {}
 
 /// What the core profile answers, the wide one answers too: where an evaluation isn't refused for what the profile

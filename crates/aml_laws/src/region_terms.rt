@@ -21,10 +21,10 @@ ghost use Rattle.aml_meaning.specs.Tasks.{task};
 ghost use Rattle.aml_laws.specs.BankDeclarations.{Finds, FindsField};
 ghost use Rattle.aml_laws.specs.RegionTerms.{operation_region, field, index_field, IsRegionAt, HasFlags};
 
-/// An OperationRegion term that isn't refused leaves at the path of its name just the region that it says: in the address
-/// space of its number, at the integer that its offset gives and as long as the integer that its length gives, each
-/// evaluated once, the offset first. So the regions that accesses lie within are those of the terms. A region that
-/// begins elsewhere, that is longer, or that lies in another address space is refused by this.
+/// An OperationRegion term that isn't refused leaves at the path of its name just the region that it says: in the
+/// address space of its number, at the integer that its offset gives and as long as the integer that its length
+/// gives, each evaluated once, the offset first. So the regions that accesses lie within are those of the terms. A
+/// region that begins elsewhere, that is longer, or that lies in another address space is refused by this.
 pub fn a_region_is_declared_as_its_term_says<S>()
     ensures { (accesses : Accesses S) (scope : List Seg) (depth : ℕ) (n : Name) (space : ℕ) (offset size : Tree)
         (s t r after : State S × ℕ) (v u : Value) (x y : ℕ) (path : List Seg) (f : Flow) →
@@ -37,8 +37,9 @@ pub fn a_region_is_declared_as_its_term_says<S>()
 
 /// The fields of a Field term lie in the operation region that its name finds, by its flags, and those of an IndexField
 /// term behind the index field and the data field that its names find, in this order: as
-/// `fields_lie_where_their_list_lays_them_out` says of such lists. Neither evaluates anything. Another region's fields, or an
-/// index field and a data field that are exchanged, are refused by this. Lists with a Connection aren't meant.
+/// `fields_lie_where_their_list_lays_them_out` says of such lists. Neither evaluates anything. Another region's
+/// fields, or an index field and a data field that are exchanged, are refused by this. Lists with a Connection aren't
+/// meant.
 pub fn fields_are_declared_in_what_their_names_find<S>()
     ensures region { (accesses : Accesses S) (scope : List Seg) (depth flags : ℕ) (fields : Trees) (s : State S × ℕ) →
         has_connection fields ≡ false → (region : Name) (number : ℕ) (r : OperationRegion) →
@@ -54,8 +55,8 @@ pub fn fields_are_declared_in_what_their_names_find<S>()
 
 /// What field flags say (ACPI 6.5, 20.2.5.2): the low four bits are the access type, which is 2 for words, 3 for
 /// doublewords, 4 for quadwords, and for bytes else; bits 5 and 6 are the update rule, which is 0 for Preserve, 1 for
-/// WriteAsOnes and 2 for WriteAsZeros. The lock bit, bit 4, says nothing of either. Flags that are read from other bits are
-/// refused by this.
+/// WriteAsOnes and 2 for WriteAsZeros. The lock bit, bit 4, says nothing of either. Flags that are read from other
+/// bits are refused by this.
 pub fn field_flags_say_the_access_and_the_update_rule()
     ensures bytes { (flags access update : ℕ) → HasFlags flags access update → (access ≡ 2 → ⊥) → (access ≡ 3 → ⊥) →
         (access ≡ 4 → ⊥) → access_width flags ≡ W8 }

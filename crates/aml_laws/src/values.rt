@@ -55,9 +55,9 @@ pub fn values_of_one_type_are_in_a_total_order()
         compared width (Buffer front) (Buffer (front ++ a ∷ s)) ≡ Ok Less }
 {}
 
-/// LEqual, LGreater and LLess are True, which has all bits of the width set, exactly where the order of their two values is
-/// the one that they ask for, and else False, which is 0; where the values have no order the comparison is refused so. It
-/// changes nothing. A comparison that asks for another order, and a True that is 1, are refused by this.
+/// LEqual, LGreater and LLess are True, which has all bits of the width set, exactly where the order of their two
+/// values is the one that they ask for, and else False, which is 0; where the values have no order the comparison is
+/// refused so. It changes nothing. A comparison that asks for another order, and a True that is 1, are refused by this.
 pub fn comparisons_answer_by_the_order<S>()
     ensures asked { (w : State S) (c : Comparison) (a b : Value) (o : Ordering) →
         compared w.width (content_in w.objects a) (content_in w.objects b) ≡ Ok o → AsksFor c o →

@@ -1,6 +1,7 @@
 -- Where reading by arities gives trees, reading by the marks that it leaves gives the same trees, and the marks ascend.
-use Rattle.std.proofs.Common.{◌≡◌, ℕ, zero, suc, ◌+◌, List, [], ◌∷◌, Bool, true, false, Option, Some, None, Ok, Err, refl, ◌∙◌, sym, ap}
-use Rattle.std.specs.Prelude.{not, ◌==◌, ◌&&◌, if◌then◌else◌}
+use Rattle.std.proofs.Common.{◌≡◌, ℕ, zero, suc, ◌+◌, List, [], ◌∷◌, Bool, true, false, Option, Some, None, Ok, Err, refl, ◌∙◌, sym, ap, arith}
+use Rattle.std.proofs.lemmas.Bool.Decides.{nat_tests}
+use Rattle.std.specs.Prelude.{not, nat_lt, ◌≤◌, ◌==◌, ◌&&◌, if◌then◌else◌}
 use Rattle.std.specs.List.{find, list_all}
 use Rattle.ar_space.specs.Outcome.{Outcome}
 use Rattle.ar_space.specs.declared.refusal.Refusal.{Refusal}
@@ -22,7 +23,7 @@ use Rattle.aml_grammar.specs.Opcodes.{number_of}
 use Rattle.aml_grammar.specs.Table.{table, row_of}
 use Rattle.aml_grammar.specs.Tree.{Tree, term, name}
 use Rattle.aml_grammar.specs.Shape.{parts_of}
-use Rattle.aml_grammar.specs.Grammar.{Inner, Counting, stands, takes_name as may_be_name, costs_no_level, is_module_level, is_if, is_nothing, item_of, at_item, row_term, opcode, admitted_row, row_at, deeper, leveled, coded_term, element_name, named_term, named, term_in, below, term_at, by_arities, max_depth, outermost, term_list, beginning}
+use Rattle.aml_grammar.specs.Grammar.{Inner, Counting, stands, takes_name as may_be_name, costs_no_level, is_module_level, is_if, is_nothing, item_of, at_item, row_term, opcode, admitted_row, row_at, deeper, leveled, coded_term, element_name, named_term, named, term_in, below, term_at, by_arities, max_depth, levels_allowed, outermost, term_list, term_list_within, beginning}
 use Rattle.aml_marked.specs.Marked.{Place, place_of, Walk, Below, after, gives, a_byte, inside, all_operands, of_row, with_row, an_opcode, a_coded, a_named, a_term_in, a_term, Ascending, count_at, walk_levels, trees_by}
 use Rattle.aml_marked.proofs.Follows.{refused, Follows, follows_then, follows_give, follows_stop, follows_as, follows_only_if, follows_map, follows_look, follows_peek}
 use Rattle.aml_marked.proofs.Moves.{follows_takes}
@@ -157,6 +158,17 @@ module _ (counting : Counting) (count : ℕ → ℕ) where
   unfolding term_at a_term
   inners_at position scope context s = follows_term (below counting max_depth) (a_term count max_depth) (follows_below max_depth) position scope context s
 
+  -- the walk may have more levels than the grammar
+  follows_above : (levels more : ℕ) → levels ≤ more → Belows (below counting levels) (a_term count more)
+  unfolding below a_term
+  follows_above zero more le = tt
+  follows_above (suc levels) zero le = absurd (omega (arith, le))
+  follows_above (suc levels) (suc more) le = λ position scope context s. follows_term (below counting levels) (a_term count more) (follows_above levels more (omega (arith, le))) position scope context s
+
+  inners_within : (levels : ℕ) → levels ≤ max_depth → Inners count (term_at counting levels) (a_term count walk_levels)
+  unfolding term_at a_term
+  inners_within levels le position scope context s = follows_term (below counting levels) (a_term count max_depth) (follows_above levels max_depth le) position scope context s
+
 -- ---- whole lists
 
 list_gone : (counting : Counting) (bs : List ℕ) (scope : List Seg) (body : Bool) (known : List Arity) (ts : List Tree) (s : State) → term_list counting bs scope body known ≡ (Ok ts, s) → (trees_by s.marks bs ≡ ts) × Ascending s.marks
@@ -173,3 +185,24 @@ one_list bs scope body known ts s e = (list_gone by_arities bs scope body known 
 -- and the marks ascend
 pub marks_ascend : (bs : List ℕ) (scope : List Seg) (body : Bool) (known : List Arity) (ts : List Tree) (s : State) → term_list by_arities bs scope body known ≡ (Ok ts, s) → Ascending s.marks
 marks_ascend bs scope body known ts s e = (list_gone by_arities bs scope body known ts s e).1
+
+-- ---- lists within the levels that a setting allows
+
+allowed_few : (levels : ℕ) (b : Bool) → nat_lt levels max_depth ≡ b → (if b then levels else max_depth) ≤ max_depth
+allowed_few levels true e = grind (arith, nat_tests, e)
+allowed_few levels false e = omega arith
+
+list_gone_within : (levels : ℕ) (counting : Counting) (bs : List ℕ) (scope : List Seg) (body : Bool) (known : List Arity) (ts : List Tree) (s : State) → term_list_within levels counting bs scope body known ≡ (Ok ts, s) → (trees_by s.marks bs ≡ ts) × Ascending s.marks
+unfolding term_list_within
+list_gone_within levels counting bs scope body known ts s e =
+    let count = count_at s.marks in
+    let n = levels_allowed levels in
+    let few : n ≤ max_depth = allowed_few levels (nat_lt levels max_depth) refl in
+    let x = (follows_items count (term_at counting n) (a_term count walk_levels) (inners_within counting count n few) positions.ListItem scope (outermost body) (beginning bs known)).is ts s e in
+    (ap (λ (r : List Tree × Place). r.0) (x.1 (λ o lt. refl) (tt, tt)), (x.0.kept (tt, tt)).0)
+
+pub one_list_within : (levels : ℕ) (bs : List ℕ) (scope : List Seg) (body : Bool) (known : List Arity) (ts : List Tree) (s : State) → term_list_within levels by_arities bs scope body known ≡ (Ok ts, s) → trees_by s.marks bs ≡ ts
+one_list_within levels bs scope body known ts s e = (list_gone_within levels by_arities bs scope body known ts s e).0
+
+pub marks_ascend_within : (levels : ℕ) (bs : List ℕ) (scope : List Seg) (body : Bool) (known : List Arity) (ts : List Tree) (s : State) → term_list_within levels by_arities bs scope body known ≡ (Ok ts, s) → Ascending s.marks
+marks_ascend_within levels bs scope body known ts s e = (list_gone_within levels by_arities bs scope body known ts s e).1

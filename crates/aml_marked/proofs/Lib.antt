@@ -11,3 +11,4 @@ pub mod Onward
 pub mod Operands
 pub mod Parting
 pub mod Walking
+pub mod FewerLevels

@@ -6,5 +6,5 @@
 mod laws;
 mod search;
 
-pub use laws::{marks_give_the_trees_again, terms_only_move_on};
+pub use laws::{fewer_levels_only_refuse, marks_give_the_trees_again, terms_only_move_on};
 pub use search::marked_count;

@@ -18,7 +18,7 @@ abbrev value_or : {A : Type 0} → A → Outcome A → A
 value_or d (Ok a) = a
 value_or d (Err e) = d
 
-noted_is : (p : Outcome (List Tree) × State) (ms : List Mark) (after : List Arity) → noted p ≡ Ok (ms, after) → (ts : List Tree) × (s : State) × (p ≡ (Ok ts, s)) × (s.marks ≡ ms) × (s.arities ≡ after)
+pub noted_is : (p : Outcome (List Tree) × State) (ms : List Mark) (after : List Arity) → noted p ≡ Ok (ms, after) → (ts : List Tree) × (s : State) × (p ≡ (Ok ts, s)) × (s.marks ≡ ms) × (s.arities ≡ after)
 noted_is (Ok ts, s) ms after e = (ts, s, refl, ap (λ (q : Outcome (List Mark × List Arity)). (value_or (s.marks, s.arities) q).0) e, ap (λ (q : Outcome (List Mark × List Arity)). (value_or (s.marks, s.arities) q).1) e)
 noted_is (Err x, s) ms after e = absurd (cc e)
 

@@ -7,4 +7,6 @@ mod scan;
 
 pub use aml_grammar::{ArgumentCounts, Arities, Arity, Mark};
 pub use marks::Marks;
-pub use scan::{ScannedTable, scan_list, scan_table, scan_table_apart};
+pub use scan::{
+    ScannedTable, scan_list, scan_list_within, scan_table, scan_table_apart, scan_table_within,
+};

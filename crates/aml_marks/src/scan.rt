@@ -2,13 +2,14 @@
 ghost use Rattle.std.specs.Prelude.{◌≡◌, ◌++◌, [], false, OnErr};
 ghost use Rattle.ar_space.specs.Outcome.{Answers, seen};
 ghost use Rattle.aml_grammar.specs.Grammar.{term_list, by_arities, reading, table_reading};
+ghost use Rattle.aml_grammar.specs.Grammar.{reading_within, table_reading_within};
 ghost use Rattle.aml_marked.specs.Marked.{trees_by};
 ghost use Rattle.aml_scan.specs.Scanned.{marked, noted};
 
 use crate::marks::Marks;
 use aml_grammar::{ArgumentCounts, Arities};
 use aml_path::Path;
-use aml_scan::scan;
+use aml_scan::{scan, scan_within};
 use ar_space::Refusal;
 use std::alloc::Global;
 
@@ -35,6 +36,25 @@ pub fn scan_list<C: ArgumentCounts>(
         (reading bytes.now scope.now body (C.counts counts.now)) }
 {
     let noted = scan(alloc, bytes, scope, body, counts)?;
+    Marks::new(alloc, noted.marks)
+}
+
+/// As `scan_list`, where terms may be one inside another within `levels` levels, the outermost counted; more than 64
+/// are
+/// 64. A term that is deeper than fewer than 64 levels allow is refused as `DepthSetting`, in place of `TooDeep`.
+#[tactic(auto, using(crate::proofs::Within::scanning))]
+pub fn scan_list_within<C: ArgumentCounts>(
+    alloc: Global,
+    levels: usize,
+    bytes: &[u8],
+    scope: &Path,
+    body: bool,
+    counts: &C,
+) -> Result<Marks, Refusal>
+    ensures { Answers (seen (λ m. trees_by m bytes.now) result)
+        (reading_within levels bytes.now scope.now body (C.counts counts.now)) }
+{
+    let noted = scan_within(alloc, levels, bytes, scope, body, counts)?;
     Marks::new(alloc, noted.marks)
 }
 
@@ -80,4 +100,23 @@ pub fn scan_table(alloc: Global, bytes: &[u8], arities: &mut Arities) -> Result<
     let scanned = scan_table_apart(alloc, bytes, arities)?;
     arities.append(scanned.added)?;
     Ok(scanned.marks)
+}
+
+/// As `scan_table`, within so many levels, as `scan_list_within`.
+#[tactic(auto, using(crate::proofs::Within::scanning))]
+pub fn scan_table_within(
+    alloc: Global,
+    levels: usize,
+    bytes: &[u8],
+    arities: &mut Arities,
+) -> Result<Marks, Refusal>
+    ensures table { Answers (seen (λ m. (trees_by m bytes.now, arities.new)) result)
+        (table_reading_within levels bytes.now arities.old) }
+    ensures refused { OnErr result (arities.new ≡ arities.old) }
+{
+    let root = Path::root(alloc);
+    let noted = scan_within(alloc, levels, bytes, &root, false, arities)?;
+    let marks = Marks::new(alloc, noted.marks)?;
+    arities.append(noted.added)?;
+    Ok(marks)
 }

@@ -87,7 +87,7 @@ module _ {S : Type 0} {n : ℕ} (accesses : Accesses S) (ev ew : Task → Run S 
 
   agree_invoked : (depth : ℕ) (p : List Seg) (body : List ℕ) (arguments : List Value) → Agree n (invoked ev depth p body arguments) (invoked ew depth p body arguments)
   unfolding invoked
-  agree_invoked depth p body arguments = agree_bind _ _ _ _ (agree_settle _) (λ few. agree_bind _ _ _ _ (agree_lift _) (λ ts. agree_bind _ _ _ _ (agree_lift _) (λ frame. agree_leaving p _ _ (agree_turn p _ ts))))
+  agree_invoked depth p body arguments = agree_bind _ _ _ _ (agree_lift _) (λ few. agree_bind _ _ _ _ (agree_lift _) (λ ts. agree_bind _ _ _ _ (agree_lift _) (λ frame. agree_leaving p _ _ (agree_turn p _ ts))))
 
   agree_method_value : (depth : ℕ) (p : List Seg) (body : List ℕ) (arguments : List Value) → Agree n (method_value ev depth p body arguments) (method_value ew depth p body arguments)
   unfolding method_value
@@ -109,7 +109,7 @@ module _ {S : Type 0} {n : ℕ} (accesses : Accesses S) (ev ew : Task → Run S 
   agree_answer : (k : ℕ) (i : Invocation) → Agree n (answer_within accesses ev k i) (answer_within accesses ew k i)
   unfolding answer_within
   agree_answer zero i = agree_stop _
-  agree_answer (suc k) i = agree_over k _ _ (agree_asked _ _ (agree_answer k)) i
+  agree_answer (suc k) i = agree_bind _ _ _ _ (agree_lift _) (λ few. agree_over k _ _ (agree_asked _ _ (agree_answer k)) i)
 
   agree_read : (depth : ℕ) (u : Field) → Agree n (field_read accesses ev depth u) (field_read accesses ew depth u)
   agree_read depth u = agree_field_value accesses _ _ (agree_asked _ _ (agree_answer (32 - depth))) u
@@ -522,7 +522,7 @@ module _ {S : Type 0} {n : ℕ} (accesses : Accesses S) (ev ew : Task → Run S 
 
   agree_osi : (scope : List Seg) (depth : ℕ) (ts : Trees) → Agree n (osi_rule ev scope depth ts) (osi_rule ew scope depth ts)
   unfolding osi_rule
-  agree_osi scope depth ts = agree_bind _ _ _ _ (agree_arguments scope depth ts _) (λ arguments. agree_bind _ _ _ _ (agree_settle _) (λ few. agree_bind _ _ _ _ (agree_lift _) (λ v. agree_give _)))
+  agree_osi scope depth ts = agree_bind _ _ _ _ (agree_arguments scope depth ts _) (λ arguments. agree_bind _ _ _ _ (agree_lift _) (λ few. agree_bind _ _ _ _ (agree_lift _) (λ v. agree_give _)))
 
   agree_invocation : (scope : List Seg) (depth : ℕ) (ts : Trees) (i : Invocation) → Agree n (invocation_rule accesses ev scope depth ts i) (invocation_rule accesses ew scope depth ts i)
   unfolding field_rule

@@ -11,36 +11,37 @@ use Rattle.aml_objects.specs.Objects.{Objects}
 use Rattle.aml_namespace.specs.Namespace.{Namespace}
 use Rattle.aml_meaning.specs.declared.frame.Frame.{Frame}
 use Rattle.aml_meaning.specs.declared.profile.Profile.{Profile}
+use Rattle.aml_meaning.specs.declared.settings.Nesting.{Nesting}
 use Rattle.aml_meaning.specs.PassedOver.{PassedOver, is_passable}
 use Rattle.aml_meaning.specs.Passing.{noted, passed_noted, passed_over}
 use Rattle.aml_meaning.specs.State.{State, on_objects, on_names, on_space}
 use Rattle.aml_meaning.specs.Known.{Known, on_known}
 
 module _ {S A : Type 0} {r : Outcome A} where
-  pub objects_changed : (n : Namespace) (a : List Arity) (o o1 : Objects) (f : List Frame) (s : ℕ) (p : S) (i : List (List ℕ)) (d : IntegerWidth) (g : Profile) (q : PassedOver) (m : Change Objects A) (w : State S)
-      → record { names = n; arities = a; objects = o; frames = f; started = s; space = p; osi = i; width = d; profile = g; passed = q } ≡ w → Does r o1 m o
-      → Does r (record { names = n; arities = a; objects = o1; frames = f; started = s; space = p; osi = i; width = d; profile = g; passed = q }) (on_objects m) w
+  pub objects_changed : (n : Namespace) (a : List Arity) (o o1 : Objects) (f : List Frame) (s : ℕ) (p : S) (i : List (List ℕ)) (d : IntegerWidth) (g : Profile) (z : Nesting) (q : PassedOver) (m : Change Objects A) (w : State S)
+      → record { names = n; arities = a; objects = o; frames = f; started = s; space = p; osi = i; width = d; profile = g; nesting = z; passed = q } ≡ w → Does r o1 m o
+      → Does r (record { names = n; arities = a; objects = o1; frames = f; started = s; space = p; osi = i; width = d; profile = g; nesting = z; passed = q }) (on_objects m) w
   unfolding on_objects
-  objects_changed n a o o1 f s p i d g q m w e h = record { is = λ ne. rw (← e, h.is ne) refl }
+  objects_changed n a o o1 f s p i d g z q m w e h = record { is = λ ne. rw (← e, h.is ne) refl }
 
-  pub objects_read : (n : Namespace) (a : List Arity) (o : Objects) (f : List Frame) (s : ℕ) (p : S) (i : List (List ℕ)) (d : IntegerWidth) (g : Profile) (q : PassedOver) (m : Change Objects A) (w : State S)
-      → record { names = n; arities = a; objects = o; frames = f; started = s; space = p; osi = i; width = d; profile = g; passed = q } ≡ w → Does r o m o → Does r w (on_objects m) w
+  pub objects_read : (n : Namespace) (a : List Arity) (o : Objects) (f : List Frame) (s : ℕ) (p : S) (i : List (List ℕ)) (d : IntegerWidth) (g : Profile) (z : Nesting) (q : PassedOver) (m : Change Objects A) (w : State S)
+      → record { names = n; arities = a; objects = o; frames = f; started = s; space = p; osi = i; width = d; profile = g; nesting = z; passed = q } ≡ w → Does r o m o → Does r w (on_objects m) w
   unfolding on_objects
-  objects_read n a o f s p i d g q m w e h = record { is = λ ne. rw (← e, h.is ne) refl }
+  objects_read n a o f s p i d g z q m w e h = record { is = λ ne. rw (← e, h.is ne) refl }
 
-  pub space_changed : (n : Namespace) (a : List Arity) (o : Objects) (f : List Frame) (s : ℕ) (p p1 : S) (i : List (List ℕ)) (d : IntegerWidth) (g : Profile) (q : PassedOver) (m : Change S A) (w : State S)
-      → record { names = n; arities = a; objects = o; frames = f; started = s; space = p; osi = i; width = d; profile = g; passed = q } ≡ w → Does r p1 m p
-      → Does r (record { names = n; arities = a; objects = o; frames = f; started = s; space = p1; osi = i; width = d; profile = g; passed = q }) (on_space m) w
+  pub space_changed : (n : Namespace) (a : List Arity) (o : Objects) (f : List Frame) (s : ℕ) (p p1 : S) (i : List (List ℕ)) (d : IntegerWidth) (g : Profile) (z : Nesting) (q : PassedOver) (m : Change S A) (w : State S)
+      → record { names = n; arities = a; objects = o; frames = f; started = s; space = p; osi = i; width = d; profile = g; nesting = z; passed = q } ≡ w → Does r p1 m p
+      → Does r (record { names = n; arities = a; objects = o; frames = f; started = s; space = p1; osi = i; width = d; profile = g; nesting = z; passed = q }) (on_space m) w
   unfolding on_space
-  space_changed n a o f s p p1 i d g q m w e h = record { is = λ ne. rw (← e, h.is ne) refl }
+  space_changed n a o f s p p1 i d g z q m w e h = record { is = λ ne. rw (← e, h.is ne) refl }
 
-  pub known_changed : (k k1 : Known) (o : Objects) (f : List Frame) (s : ℕ) (p : S) (i : List (List ℕ)) (d : IntegerWidth) (g : Profile) (q : PassedOver) (m : Change Namespace A) (w : State S)
-      → record { names = k.names; arities = k.arities; objects = o; frames = f; started = s; space = p; osi = i; width = d; profile = g; passed = q } ≡ w → Does r k1 (on_known m) k
-      → Does r (record { names = k1.names; arities = k1.arities; objects = o; frames = f; started = s; space = p; osi = i; width = d; profile = g; passed = q }) (on_names m) w
+  pub known_changed : (k k1 : Known) (o : Objects) (f : List Frame) (s : ℕ) (p : S) (i : List (List ℕ)) (d : IntegerWidth) (g : Profile) (z : Nesting) (q : PassedOver) (m : Change Namespace A) (w : State S)
+      → record { names = k.names; arities = k.arities; objects = o; frames = f; started = s; space = p; osi = i; width = d; profile = g; nesting = z; passed = q } ≡ w → Does r k1 (on_known m) k
+      → Does r (record { names = k1.names; arities = k1.arities; objects = o; frames = f; started = s; space = p; osi = i; width = d; profile = g; nesting = z; passed = q }) (on_names m) w
   unfolding on_names on_known
-  known_changed k k1 o f s p i d g q m w e h = record {
+  known_changed k k1 o f s p i d g z q m w e h = record {
     is = λ ne.
-        rw (← e) (ap (λ (x : Outcome A × Known). (x.0, record { names = x.1.names; arities = x.1.arities; objects = o; frames = f; started = s; space = p; osi = i; width = d; profile = g; passed = q })) (h.is ne));
+        rw (← e) (ap (λ (x : Outcome A × Known). (x.0, record { names = x.1.names; arities = x.1.arities; objects = o; frames = f; started = s; space = p; osi = i; width = d; profile = g; nesting = z; passed = q })) (h.is ne));
   }
 
 pub ruleset parts = (objects_changed, objects_read, known_changed, space_changed)
@@ -48,12 +49,12 @@ pub ruleset parts = (objects_changed, objects_read, known_changed, space_changed
 -- ---- what is passed over is noted
 
 module _ {S : Type 0} {r : Outcome (Unit {0})} where
-  pub passed_changed : (n : Namespace) (a : List Arity) (o : Objects) (f : List Frame) (s : ℕ) (p : S) (i : List (List ℕ)) (d : IntegerWidth) (g : Profile) (q q1 : PassedOver) (scope : List Seg) (e : Refusal) (w : State S)
-      → record { names = n; arities = a; objects = o; frames = f; started = s; space = p; osi = i; width = d; profile = g; passed = q } ≡ w → Does r q1 (noted scope e) q
-      → Does r (record { names = n; arities = a; objects = o; frames = f; started = s; space = p; osi = i; width = d; profile = g; passed = q1 }) (passed_noted scope e) w
+  pub passed_changed : (n : Namespace) (a : List Arity) (o : Objects) (f : List Frame) (s : ℕ) (p : S) (i : List (List ℕ)) (d : IntegerWidth) (g : Profile) (z : Nesting) (q q1 : PassedOver) (scope : List Seg) (e : Refusal) (w : State S)
+      → record { names = n; arities = a; objects = o; frames = f; started = s; space = p; osi = i; width = d; profile = g; nesting = z; passed = q } ≡ w → Does r q1 (noted scope e) q
+      → Does r (record { names = n; arities = a; objects = o; frames = f; started = s; space = p; osi = i; width = d; profile = g; nesting = z; passed = q1 }) (passed_noted scope e) w
   unfolding noted passed_noted
-  passed_changed n a o f s p i d g q q1 scope e w is h = record {
-    is = λ ne. rw (← is) (ap (λ (x : Outcome (Unit {0}) × PassedOver). (x.0, record { names = n; arities = a; objects = o; frames = f; started = s; space = p; osi = i; width = d; profile = g; passed = x.1 })) (h.is ne));
+  passed_changed n a o f s p i d g z q q1 scope e w is h = record {
+    is = λ ne. rw (← is) (ap (λ (x : Outcome (Unit {0}) × PassedOver). (x.0, record { names = n; arities = a; objects = o; frames = f; started = s; space = p; osi = i; width = d; profile = g; nesting = z; passed = x.1 })) (h.is ne));
   }
 
   pub does_passed : {s s1 : State S} (scope : List Seg) (e : Refusal) (w : State S) (flag : Bool) → flag ≡ is_passable e → flag ≡ true → s ≡ w → Does r s1 (passed_noted scope e) s → Does r s1 (passed_over scope e) w

@@ -7,7 +7,7 @@ use Rattle.aml_path.specs.declared.segment.Seg.{Seg}
 use Rattle.aml_grammar.specs.declared.arities.Arity.{Arity}
 use Rattle.aml_grammar.specs.Tree.{Tree, Trees}
 use Rattle.aml_grammar.specs.Shape.{trees_of}
-use Rattle.aml_grammar.specs.Grammar.{table_reading}
+use Rattle.aml_grammar.specs.Grammar.{table_reading_within}
 use Rattle.aml_objects.specs.declared.value.Value.{Value}
 use Rattle.aml_objects.specs.declared.value.Value.TheVariants as value
 use Rattle.aml_namespace.specs.Namespace.{mutexes_released}
@@ -46,13 +46,13 @@ in_frame arguments m = do
   number ← opened arguments
   framed m
 
--- the terms of a table; names that it declares take arguments from now on
+-- the terms of a table, within the levels that are allowed; names that it declares take arguments from now on
 abbrev pub terms_kept : {S : Type 0} → Outcome (List Tree × List Arity) → Change (State S) Trees
 terms_kept (Ok (ts, after)) w = (Ok (trees_of ts), record w { arities = after })
 terms_kept (Err e) w = (Err e, w)
 
 unfoldable pub table_terms : {S : Type 0} → List ℕ → Change (State S) Trees
-table_terms bytes w = terms_kept (table_reading bytes w.arities) w
+table_terms bytes w = terms_kept (table_reading_within w.nesting.levels bytes w.arities) w
 
 -- the terms of a table, evaluated at the root
 unfoldable pub at_root : {S : Type 0} → Accesses S → Trees → Run S (Unit {0})

@@ -35,7 +35,7 @@ module _ {S : Type 0} (ev : Task → Run S Flow) where
   unfoldable pub osi_rule : List Seg → ℕ → Trees → Run S Flow
   osi_rule scope depth ts = do
     arguments ← arguments_in_turn scope depth ts []
-    few ← settle (shallow depth)
+    few ← lift (shallow depth)
     v ← lift (osi_answered arguments)
     give (flow.Value v)
 

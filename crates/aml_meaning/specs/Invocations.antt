@@ -3,13 +3,13 @@ use Rattle.std.specs.Prelude.{ℕ, ◌+◌, List, [], ◌∷◌, ◌++◌, map, 
 use Rattle.std.specs.List.{filter}
 use Rattle.std.specs.FinMap.{get, entries}
 use Rattle.ar_space.specs.declared.refusal.Refusal.TheVariants as refusal
-use Rattle.ar_space.specs.declared.refusal.EvaluationFault.TheVariants.{CallDepth}
+use Rattle.ar_space.specs.declared.refusal.EvaluationFault.TheVariants.{CallDepth, DepthSetting}
 use Rattle.ar_space.specs.Outcome.{Outcome, seen}
 use Rattle.ar_space.specs.Change.{Change, give, settle, ◌>>=◌}
 use Rattle.aml_path.specs.declared.segment.Seg.{Seg}
 use Rattle.aml_path.specs.Paths.{Name}
 use Rattle.aml_grammar.specs.declared.arities.Arity.{Arity}
-use Rattle.aml_grammar.specs.Grammar.{reading}
+use Rattle.aml_grammar.specs.Grammar.{reading_within}
 use Rattle.aml_grammar.specs.Shape.{trees_of}
 use Rattle.aml_grammar.specs.Tree.{Trees}
 use Rattle.aml_objects.specs.declared.value.Value.{Value}
@@ -76,7 +76,7 @@ use_found f count = do
   many ← settle (as_many (arguments_of f.1.object) count)
   settle (invocation_of_object f.0 f.1.number f.1.object)
 
--- ---- the body of a control method, which is read at each call
+-- ---- the body of a control method, which is read at each call, within the levels that are allowed
 
 -- how many arguments what stands at a path takes; an alias takes those of its target
 abbrev pub count_of_entry : Option Entry → ℕ
@@ -99,13 +99,16 @@ abbrev pub body_arities : {S : Type 0} → State S → List Arity
 body_arities w = arities_in w.names.map w.arities
 
 unfoldable pub body_terms : {S : Type 0} → List Seg → List ℕ → Change (State S) Trees
-body_terms p body w = (seen trees_of (reading body p true (body_arities w)), w)
+body_terms p body w = (seen trees_of (reading_within w.nesting.levels body p true (body_arities w)), w)
 
 -- ---- calls
 
--- at most so many calls one inside another
-abbrev pub shallow : ℕ → Outcome (Unit {0})
-shallow depth = if nat_lt depth 32 then Ok tt else Err (refusal.Evaluation CallDepth)
+-- at most 32 calls one inside another, and no more than a setting allows; depth: how many control methods are being called
+abbrev pub shallow_within : ℕ → ℕ → Outcome (Unit {0})
+shallow_within calls depth = if nat_lt depth 32 then (if nat_lt depth calls then Ok tt else Err (refusal.Evaluation DepthSetting)) else Err (refusal.Evaluation CallDepth)
+
+unfoldable pub shallow : {S : Type 0} → ℕ → Change (State S) (Unit {0})
+shallow depth w = (shallow_within w.nesting.calls depth, w)
 
 -- however the body ended, its frame ends, and the names below the control method are removed
 abbrev pub left : {S : Type 0} → List Seg → State S → State S
@@ -138,7 +141,7 @@ value_of_call (flow.Return v) = value.Uninitialized
 module _ {S : Type 0} (ev : Task → Run S Flow) where
   unfoldable pub invoked : ℕ → List Seg → List ℕ → List Value → Run S Flow
   invoked depth p body arguments = do
-    few ← settle (shallow depth)
+    few ← lift (shallow depth)
     ts ← lift (body_terms p body)
     number ← lift (opened (frame_arguments arguments))
     leaving p (in_turn ev p (depth + 1) ts)

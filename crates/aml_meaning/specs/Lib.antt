@@ -34,6 +34,7 @@ pub mod Profiles
 pub mod Readings
 pub mod Regions
 pub mod Run
+pub mod Settings
 pub mod SlotIntegers
 pub mod Slots
 pub mod State

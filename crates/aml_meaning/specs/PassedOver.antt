@@ -31,6 +31,7 @@ is_passable_evaluation fault.Fatal = false
 is_passable_evaluation fault.DeepPci = false
 is_passable_evaluation fault.NotAcquired = false
 is_passable_evaluation fault.ObjectLimit = false
+is_passable_evaluation fault.DepthSetting = false
 
 abbrev pub is_passable : Refusal → Bool
 is_passable (refusal.Value f) = true

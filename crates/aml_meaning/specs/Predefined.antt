@@ -10,17 +10,18 @@ use Rattle.aml_objects.specs.declared.entry.MethodBody.TheVariants.{Osi}
 use Rattle.aml_objects.specs.Objects.{make_string}
 use Rattle.aml_namespace.specs.Namespace.{declared, root_alone}
 use Rattle.ar_space.specs.declared.integer_width.IntegerWidth.{IntegerWidth}
-use Rattle.aml_meaning.specs.declared.profile.Profile.{Profile}
+use Rattle.aml_meaning.specs.declared.settings.EvaluationSettings.{EvaluationSettings}
+use Rattle.aml_meaning.specs.Settings.{settings_of}
 use Rattle.aml_meaning.specs.declared.profile.Profile.TheVariants.{Core}
 use Rattle.aml_meaning.specs.PassedOver.{nothing_passed}
 use Rattle.aml_meaning.specs.State.{State, on_objects, on_names}
 
--- the world before anything is declared, of a profile, and of the core one
-abbrev pub fresh_as : {S : Type 0} → Profile → IntegerWidth → List (List ℕ) → S → State S
-fresh_as profile width osi space = record { names = root_alone; arities = []; objects = []; frames = []; started = 0; space = space; osi = osi; width = width; profile = profile; passed = nothing_passed }
+-- the world before anything is declared, made with settings, and with those of the core profile
+abbrev pub fresh_as : {S : Type 0} → EvaluationSettings → IntegerWidth → List (List ℕ) → S → State S
+fresh_as settings width osi space = record { names = root_alone; arities = []; objects = []; frames = []; started = 0; space = space; osi = osi; width = width; profile = settings.profile; nesting = settings.nesting; passed = nothing_passed }
 
 abbrev pub fresh : {S : Type 0} → IntegerWidth → List (List ℕ) → S → State S
-fresh width osi space = fresh_as Core width osi space
+fresh width osi space = fresh_as (settings_of Core) width osi space
 
 -- how many arguments a path takes, from now on
 unfoldable pub takes : {S : Type 0} → List Seg → ℕ → Change (State S) (Unit {0})

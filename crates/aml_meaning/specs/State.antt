@@ -14,6 +14,8 @@ use Rattle.aml_meaning.specs.declared.frame.Frame.{Frame}
 use Rattle.aml_meaning.specs.contracts.frame.Frame as frame_type
 use Rattle.aml_meaning.specs.declared.profile.Profile.{Profile}
 use Rattle.aml_meaning.specs.contracts.profile.Profile as profile_type
+use Rattle.aml_meaning.specs.declared.settings.Nesting.{Nesting}
+use Rattle.aml_meaning.specs.contracts.settings.Nesting as nesting_type
 use Rattle.aml_meaning.specs.PassedOver.{PassedOver, passed_code}
 
 pub record State (S : Type 0) : Type 0 where
@@ -26,15 +28,16 @@ pub record State (S : Type 0) : Type 0 where
   pub osi : List (List ℕ)
   pub width : IntegerWidth
   pub profile : Profile
+  pub nesting : Nesting
   pub passed : PassedOver
 
 abbrev pub state_code : {S : Type 0} → Coded S → Coded (State S)
 state_code {S = S} code =
-    code_by (Namespace × (List Arity × (List Object × (List Frame × (ℕ × (S × (List (List ℕ) × (IntegerWidth × (Profile × PassedOver)))))))))
+    code_by (Namespace × (List Arity × (List Object × (List Frame × (ℕ × (S × (List (List ℕ) × (IntegerWidth × (Profile × (Nesting × PassedOver))))))))))
     (coded× namespace_code (coded× (coded_list arity_type.the_row.coded) (coded× (coded_list object_type.the_row.coded) (coded× (coded_list frame_type.the_row.coded)
-    (coded× coded_ℕ (coded× code (coded× (coded_list (coded_list coded_ℕ)) (coded× width_type.the_row.coded (coded× profile_type.the_row.coded passed_code)))))))))
-    (λ s. (s.names, (s.arities, (s.objects, (s.frames, (s.started, (s.space, (s.osi, (s.width, (s.profile, s.passed))))))))))
-    (λ p. record { names = p.0; arities = p.1.0; objects = p.1.1.0; frames = p.1.1.1.0; started = p.1.1.1.1.0; space = p.1.1.1.1.1.0; osi = p.1.1.1.1.1.1.0; width = p.1.1.1.1.1.1.1.0; profile = p.1.1.1.1.1.1.1.1.0; passed = p.1.1.1.1.1.1.1.1.1 })
+    (coded× coded_ℕ (coded× code (coded× (coded_list (coded_list coded_ℕ)) (coded× width_type.the_row.coded (coded× profile_type.the_row.coded (coded× nesting_type.the_row.coded passed_code))))))))))
+    (λ s. (s.names, (s.arities, (s.objects, (s.frames, (s.started, (s.space, (s.osi, (s.width, (s.profile, (s.nesting, s.passed)))))))))))
+    (λ p. record { names = p.0; arities = p.1.0; objects = p.1.1.0; frames = p.1.1.1.0; started = p.1.1.1.1.0; space = p.1.1.1.1.1.0; osi = p.1.1.1.1.1.1.0; width = p.1.1.1.1.1.1.1.0; profile = p.1.1.1.1.1.1.1.1.0; nesting = p.1.1.1.1.1.1.1.1.1.0; passed = p.1.1.1.1.1.1.1.1.1.1 })
     (λ _. refl)
 
 -- a change of the objects alone, of the namespace alone, and of the register space alone

@@ -3,7 +3,7 @@ ghost use Rattle.std.specs.Prelude.{◌≡◌, Ok, IfSome, true, IsOkUnless};
 ghost use Rattle.ar_space.specs.declared.refusal.Refusal.TheVariants.{OutOfMemory};
 ghost use Rattle.ar_space.specs.Change.{Does};
 ghost use Rattle.ar_space.specs.Outcome.{Answers, seen};
-ghost use Rattle.aml_grammar.specs.Grammar.{reading};
+ghost use Rattle.aml_grammar.specs.Grammar.{reading_within};
 ghost use Rattle.aml_grammar.specs.Shape.{trees_of};
 ghost use Rattle.aml_marked.specs.Marked.{trees_by};
 ghost use Rattle.aml_meaning.specs.Invocations.{body_terms};
@@ -11,7 +11,7 @@ ghost use Rattle.aml_meaning.specs.Known.{known_arities};
 
 use crate::known_names::{Declarations, ScannedBody};
 use crate::world_state::WorldState;
-use aml_marks::{Marks, scan_list};
+use aml_marks::{Marks, scan_list_within};
 use aml_objects::Body;
 use aml_path::Path;
 use ar_space::Refusal;
@@ -20,8 +20,8 @@ use std::mem;
 
 impl<S> WorldState<S> {
     /// The marks of the body of the control method at a path, with the arguments that names take now; refused as
-    /// `scan_list` refuses it. The body that was read last is not scanned again, unless a name came or went, or a
-    /// control method or an alias was replaced.
+    /// `scan_list_within` refuses it, within the levels that this world allows. The body that was read last is not
+    /// scanned again, unless a name came or went, or a control method or an alias was replaced.
     ///
     /// They are good for the whole call: names that it declares or removes don't change how its body reads.
     pub fn body_marks(&mut self, alloc: Global, path: &Path, body: &Body) -> Result<Marks, Refusal>
@@ -29,39 +29,42 @@ impl<S> WorldState<S> {
             (body_terms path.now body.now) self.old }
         ensures unchanged { self.new ≡ self.old }
     {
-        self.declarations.body_marks(alloc, path, body)
+        self.declarations
+            .body_marks(alloc, self.nesting.levels, path, body)
     }
 }
 
 impl Declarations {
-    /// The marks of a body, kept or scanned now; it is refused as `scan_list` refuses it.
+    /// The marks of a body, kept or scanned now within so many levels; it is refused as `scan_list_within` refuses it.
     pub(crate) fn body_marks(
         &mut self,
         alloc: Global,
+        levels: usize,
         path: &Path,
         body: &Body,
     ) -> Result<Marks, Refusal>
         ensures marks { Answers (seen (λ m. trees_by m body.now) result)
-            (reading body.now path.now true (known_arities self.old)) }
+            (reading_within levels body.now path.now true (known_arities self.old)) }
         ensures unchanged { self.new ≡ self.old }
     {
-        if let Some(marks) = self.kept_marks(path, body) {
+        if let Some(marks) = self.kept_marks(levels, path, body) {
             return marks.share();
         }
-        let marks = scan_list(alloc, body.as_slice(), path, true, self)?;
-        self.keep(alloc, path, body, &marks)?;
+        let marks = scan_list_within(alloc, levels, body.as_slice(), path, true, self)?;
+        self.keep(alloc, levels, path, body, &marks)?;
         Ok(marks)
     }
 
-    /// The marks that are kept, where they are those of this body of the control method at this path.
-    fn kept_marks(&self, path: &Path, body: &Body) -> Option<&Marks>
-        ensures { IfSome result (λ m. reading body.now path.now true (known_arities self.now) ≡
+    /// The marks that are kept, where they are those of this body of the control method at this path, within so many
+    /// levels.
+    fn kept_marks(&self, levels: usize, path: &Path, body: &Body) -> Option<&Marks>
+        ensures { IfSome result (λ m. reading_within levels body.now path.now true (known_arities self.now) ≡
             Ok (trees_by m.now body.now)) }
     {
         match &self.kept {
             None => None,
             Some(kept) => {
-                if kept.is_of(path, body) {
+                if kept.is_within(levels, path, body) {
                     Some(&kept.marks)
                 } else {
                     None
@@ -70,20 +73,21 @@ impl Declarations {
         }
     }
 
-    /// Keeps the marks of a body that was scanned now, and no others. Where there is no memory for it, what is kept
-    /// stays.
+    /// Keeps the marks of a body that was scanned now within so many levels, and no others. Where there is no memory
+    /// for it, what is kept stays.
     fn keep(
         &mut self,
         alloc: Global,
+        levels: usize,
         path: &Path,
         body: &Body,
         marks: &Marks,
     ) -> Result<(), Refusal>
-        requires { reading body.now path.now true (known_arities self.old) ≡ Ok (trees_by marks.now body.now) }
+        requires { reading_within levels body.now path.now true (known_arities self.old) ≡ Ok (trees_by marks.now body.now) }
         ensures unchanged { self.new ≡ self.old }
         ensures memory { IsOkUnless result OutOfMemory }
     {
-        let scanned = ScannedBody::shared(alloc, path, body, marks)?;
+        let scanned = ScannedBody::shared(alloc, levels, path, body, marks)?;
         drop(mem::replace(&mut self.kept, Some(scanned)));
         Ok(())
     }
@@ -93,17 +97,33 @@ impl ScannedBody {
     /// What is kept of a scan: a copy of the path, and shares of the body and of its marks.
     fn shared(
         alloc: Global,
+        levels: usize,
         path: &Path,
         body: &Body,
         marks: &Marks,
     ) -> Result<ScannedBody, Refusal>
-        ensures { Answers result (Ok (record { path = path.now; body = body.now; marks = marks.now })) }
+        ensures { Answers result (Ok (record {
+          path = path.now;
+          body = body.now;
+          levels = levels;
+          marks = marks.now;
+        })) }
     {
         Ok(ScannedBody {
             path: path.copy(alloc)?,
             body: body.share()?,
+            levels,
             marks: marks.share()?,
         })
+    }
+
+    /// Whether this is the body of the control method at a path, scanned within so many levels.
+    fn is_within(&self, levels: usize, path: &Path, body: &Body) -> bool
+        ensures levels { result ≡ true → self.now.levels ≡ levels }
+        ensures path { result ≡ true → self.now.path ≡ path.now }
+        ensures body { result ≡ true → self.now.body ≡ body.now }
+    {
+        self.levels == levels && self.is_of(path, body)
     }
 
     /// Whether this is the body of the control method at a path. The bytes are compared, since another table may have

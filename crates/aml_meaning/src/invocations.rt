@@ -1,5 +1,5 @@
 //! Names where values stand, and calls of control methods (ACPI 6.5, 5.5.2 and 20.2.5).
-ghost use Rattle.std.specs.Prelude.{◌≡◌, List, Some};
+ghost use Rattle.std.specs.Prelude.{◌≡◌, ◌<◌, List, Some, OnOk};
 ghost use Rattle.ar_space.specs.Change.{Does};
 ghost use Rattle.ar_space.specs.Outcome.{Answers, NotMemory, seen};
 ghost use Rattle.aml_path.specs.declared.segment.Seg.{Seg as Segment};
@@ -8,7 +8,7 @@ ghost use Rattle.aml_namespace.specs.Namespace.{numbered};
 ghost use Rattle.aml_namespace.specs.Search.{found};
 ghost use Rattle.aml_meaning.specs.Readings.{arguments_of};
 ghost use Rattle.aml_meaning.specs.Invocations.{invocation_of_body, invocation_of_object, invocation_of, named_use};
-ghost use Rattle.aml_meaning.specs.Invocations.{invocation_found, use_found, left};
+ghost use Rattle.aml_meaning.specs.Invocations.{invocation_found, use_found, left, shallow, shallow_within};
 
 use crate::invocation::Invocation;
 use crate::readings::{arguments_of, as_many, read_as};
@@ -16,10 +16,24 @@ use crate::world_state::WorldState;
 use aml_namespace::Scope;
 use aml_objects::{Field, MethodBody, NamedObject, NodeId, Reference, Value};
 use aml_path::{NameString, Path};
-use ar_space::{NamespaceFault, Refusal};
+use ar_space::{EvaluationFault, NamespaceFault, Refusal};
 use std::alloc::Global;
 
+/// How many control methods may ever be called one inside another.
+const MAX_CALLS: usize = 32;
+
 impl<S> WorldState<S> {
+    /// Whether one more call may be made, where so many control methods are being called; refused as `CallDepth` where
+    /// these are 32, and as `DepthSetting` where they are as many as this world allows.
+    #[tactic(auto, unfolding(crate::specs::Invocations::shallow))]
+    pub fn shallow(&self, depth: usize) -> Result<(), Refusal>
+        ensures answer { Does result self.now (shallow depth) self.now }
+        ensures few { OnOk result (depth < 32) }
+        ensures memory { NotMemory result }
+    {
+        shallow_within(self.nesting.calls, depth)
+    }
+
     /// What a name is where a value stands, with so many arguments.
     ///
     /// A name that holds a value is that value, a field its bits, a control method a call, and anything else a
@@ -123,5 +137,22 @@ impl<S> WorldState<S> {
     {
         self.close_frame();
         self.remove_below(path);
+    }
+}
+
+/// At most 32 calls one inside another, and no more than a setting allows.
+fn shallow_within(calls: usize, depth: usize) -> Result<(), Refusal>
+    ensures answer { result ≡ shallow_within calls depth }
+    ensures few { OnOk result (depth < 32) }
+    ensures memory { NotMemory result }
+{
+    if depth < MAX_CALLS {
+        if depth < calls {
+            Ok(())
+        } else {
+            Err(Refusal::Evaluation(EvaluationFault::DepthSetting))
+        }
+    } else {
+        Err(Refusal::Evaluation(EvaluationFault::CallDepth))
     }
 }

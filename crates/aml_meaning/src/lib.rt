@@ -38,6 +38,7 @@ mod referents;
 mod regions;
 mod running;
 mod searches;
+mod settings;
 mod slots;
 mod store_target;
 mod stores;
@@ -67,6 +68,7 @@ pub use profile::Profile;
 pub use regions::{RegionField, RegionSpace, integer_only, pci_space, space_numbered};
 pub use running::Running;
 pub use searches::{MatchTest, Search, Searching};
+pub use settings::{EvaluationSettings, Nesting};
 pub use store_target::{Held, Holding, StoreTarget, Stored, TargetKind};
 pub use term_kind::{
     BufferFieldSize, Conversion, Count, DataKind, DeclarationKind, EventChange, OneOperand,

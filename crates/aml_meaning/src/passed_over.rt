@@ -144,6 +144,7 @@ fn is_passable_evaluation(fault: EvaluationFault) -> bool
         EvaluationFault::DeepPci => false,
         EvaluationFault::NotAcquired => false,
         EvaluationFault::ObjectLimit => false,
+        EvaluationFault::DepthSetting => false,
     }
 }
 

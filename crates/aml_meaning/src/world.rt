@@ -9,6 +9,7 @@ ghost use Rattle.aml_meaning.specs.Validity.{is_valid_value};
 use crate::passed_over::PassedOver;
 use crate::profile::Profile;
 use crate::running::Running;
+use crate::settings::{EvaluationSettings, Nesting};
 use crate::trace::Trace;
 use crate::world_state::WorldState;
 use aml_namespace::Names;
@@ -53,23 +54,29 @@ impl<S> World<S> {
         ensures refusal { IfErr result (λ refused. refused.0 ≢ OutOfMemory →
             (predefined (fresh width osi.items space)).0 ≡ Err refused.0) }
     {
-        World::with_profile(alloc, Profile::Core, width, osi, space)
+        World::with_settings(
+            alloc,
+            EvaluationSettings::of(Profile::Core),
+            width,
+            osi,
+            space,
+        )
     }
 
-    /// A world as `new` makes it, of a profile, which it keeps.
-    pub fn with_profile(
+    /// A world as `new` makes it, with settings, which it keeps.
+    pub fn with_settings(
         alloc: Global,
-        profile: Profile,
+        settings: EvaluationSettings,
         width: IntegerWidth,
         osi: Vec<Octets>,
         space: S,
     ) -> Result<World<S>, (Refusal, S)>
-        ensures world { IfOk result (λ world. predefined (fresh_as profile width osi.items space) ≡ (Ok tt, world)) }
+        ensures world { IfOk result (λ world. predefined (fresh_as settings width osi.items space) ≡ (Ok tt, world)) }
         ensures space { IfErr result (λ refused. refused.1 ≡ space) }
         ensures refusal { IfErr result (λ refused. refused.0 ≢ OutOfMemory →
-            (predefined (fresh_as profile width osi.items space)).0 ≡ Err refused.0) }
+            (predefined (fresh_as settings width osi.items space)).0 ≡ Err refused.0) }
     {
-        match WorldState::new(alloc, profile, width, osi, space) {
+        match WorldState::new(alloc, settings, width, osi, space) {
             Ok(world) => Ok(World {
                 running: Running { world, steps: 0 },
             }),
@@ -135,6 +142,13 @@ impl<S> World<S> {
         ensures { result ≡ self.now.profile }
     {
         self.running.world.profile()
+    }
+
+    /// How deep calls and terms may be one inside another, which nothing changes.
+    pub fn nesting(&self) -> Nesting
+        ensures { result ≡ self.now.nesting }
+    {
+        self.running.world.nesting()
     }
 
     /// The refusals that were passed over in loading and in initializing; none in the core profile.

@@ -7,6 +7,7 @@ use crate::frame::Frame;
 use crate::known_names::Declarations;
 use crate::passed_over::PassedOver;
 use crate::profile::Profile;
+use crate::settings::{EvaluationSettings, Nesting};
 use crate::trace::Trace;
 use aml_namespace::Names;
 use aml_objects::{Heap, Octets};
@@ -16,7 +17,8 @@ use std::marker::Model;
 
 /// The state of a world: what evaluation changes, the register space among it: the namespace, how many arguments its
 /// names take, the objects, the frames of the calls in progress with the number of the next one, the texts that
-/// `_OSI` knows, how wide integers are, the profile, and what was passed over. Beside them stands where evaluation was
+/// `_OSI` knows, how wide integers are, the profile, how deep
+/// calls and terms may be, and what was passed over. Beside them stands where evaluation was
 /// refused last, which no contract sees.
 #[derive(Drop)]
 pub struct WorldState<S> {
@@ -28,6 +30,7 @@ pub struct WorldState<S> {
     pub(crate) osi: Vec<Octets>,
     pub(crate) width: IntegerWidth,
     pub(crate) profile: Profile,
+    pub(crate) nesting: Nesting,
     pub(crate) passed: PassedOver,
     pub(crate) trace: Trace,
 }
@@ -39,7 +42,7 @@ impl<S> Model for WorldState<S> {
 
     ghost coded = { state_code S.code };
 
-    ghost view = { λ w. record { names = w.declarations.names; arities = w.declarations.arities; objects = w.heap; frames = w.frames.items; started = w.started; space = w.space; osi = w.osi.items; width = w.width; profile = w.profile; passed = w.passed } };
+    ghost view = { λ w. record { names = w.declarations.names; arities = w.declarations.arities; objects = w.heap; frames = w.frames.items; started = w.started; space = w.space; osi = w.osi.items; width = w.width; profile = w.profile; nesting = w.nesting; passed = w.passed } };
 }
 
 impl<S> WorldState<S> {
@@ -47,15 +50,15 @@ impl<S> WorldState<S> {
     /// space comes back as it was.
     pub(crate) fn new(
         alloc: Global,
-        profile: Profile,
+        settings: EvaluationSettings,
         width: IntegerWidth,
         osi: Vec<Octets>,
         space: S,
     ) -> Result<WorldState<S>, (Refusal, S)>
-        ensures world { IfOk result (λ world. predefined (fresh_as profile width osi.items space) ≡ (Ok tt, world)) }
+        ensures world { IfOk result (λ world. predefined (fresh_as settings width osi.items space) ≡ (Ok tt, world)) }
         ensures space { IfErr result (λ refused. refused.1 ≡ space) }
         ensures refusal { IfErr result (λ refused. refused.0 ≢ OutOfMemory →
-            (predefined (fresh_as profile width osi.items space)).0 ≡ Err refused.0) }
+            (predefined (fresh_as settings width osi.items space)).0 ≡ Err refused.0) }
     {
         let declarations = match Declarations::new(alloc) {
             Ok(declarations) => declarations,
@@ -69,7 +72,8 @@ impl<S> WorldState<S> {
             space,
             osi,
             width,
-            profile,
+            profile: settings.profile,
+            nesting: settings.nesting,
             passed: PassedOver::new(alloc),
             trace: Trace::new(alloc),
         };
@@ -121,6 +125,13 @@ impl<S> WorldState<S> {
         ensures { result ≡ self.now.profile }
     {
         self.profile
+    }
+
+    /// How deep calls and terms may be one inside another, which nothing changes.
+    pub fn nesting(&self) -> Nesting
+        ensures { result ≡ self.now.nesting }
+    {
+        self.nesting
     }
 
     /// The register space.

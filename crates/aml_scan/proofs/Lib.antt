@@ -17,3 +17,4 @@ pub mod SpelledRows
 pub mod SpelledTerms
 pub mod Steps
 pub mod Takes
+pub mod Within

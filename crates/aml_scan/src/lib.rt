@@ -22,7 +22,7 @@ mod terms;
 pub use aml_grammar::{ArgumentCounts, Arities, Arity, Mark};
 pub use if_else::ELSE;
 pub use laws::read_as_spelled;
-pub use lists::{Noted, scan};
+pub use lists::{Noted, scan, scan_within};
 pub use names::{read_name, starts_name};
 pub use positions::{EXT_OP_PREFIX, is_if, is_nothing};
 pub use reader::{carets, length_of, little_endian, text_length};

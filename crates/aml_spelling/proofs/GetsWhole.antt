@@ -141,7 +141,7 @@ gets_at_levels (suc levels) position scope context t spelling rest known after s
 
 -- ---- whole lists
 
-of_list : (ts : List Tree) → list_of (trees_of ts) ≡ ts
+pub of_list : (ts : List Tree) → list_of (trees_of ts) ≡ ts
 of_list [] = refl
 of_list (t ∷ ts) = ap (λ us. t ∷ us) (of_list ts)
 

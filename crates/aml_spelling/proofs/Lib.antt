@@ -59,3 +59,4 @@ pub mod RefusedRows
 pub mod RefusedTerms
 pub mod RefusedFirst
 pub mod RefusedWhole
+pub mod WithinLevels

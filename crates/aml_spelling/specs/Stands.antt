@@ -107,6 +107,10 @@ unfoldable mutual
   StandsOperand levels scope around kinds.FieldList (list ts) earlier known later after = (later ≡ earlier) × StandAll levels scope around field_element ts known after
   StandsOperand levels scope around _ _ earlier known later after = (later ≡ earlier) × (after ≡ known)
 
--- the trees of a whole list, of a table or of a body, may stand in a scope
+-- the trees of a whole list, of a table or of a body, may stand in a scope, within so many levels
+abbrev pub StandWithin : ℕ → List Seg → Bool → List Tree → List Arity → List Arity → Type 0
+StandWithin levels scope body ts known after = StandAll levels scope (record { body = body; in_loop = false }) list_item (trees_of ts) known after
+
+-- within as many as there may be
 abbrev pub MayStand : List Seg → Bool → List Tree → List Arity → List Arity → Type 0
-MayStand scope body ts known after = StandAll most_levels scope (record { body = body; in_loop = false }) list_item (trees_of ts) known after
+MayStand scope body ts known after = StandWithin most_levels scope body ts known after

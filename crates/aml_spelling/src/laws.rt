@@ -13,12 +13,12 @@ ghost use Rattle.aml_path.specs.Paths.{Name};
 ghost use Rattle.aml_grammar.specs.Names.{starts_name, name_string};
 ghost use Rattle.aml_grammar.specs.State.{State, integer, bit_count, package_size, text};
 ghost use Rattle.aml_grammar.specs.Tree.{Tree};
-ghost use Rattle.aml_grammar.specs.Grammar.{Reads, Fails, table_reading, opcode};
+ghost use Rattle.aml_grammar.specs.Grammar.{Reads, Fails, reading_within, table_reading, opcode};
 ghost use Rattle.aml_scan.specs.Spelling.{IsInteger, IsLength, IsNameString, IsSpelled};
 ghost use Rattle.aml_spelling.specs.Faults.{Spot, Starts, IsName, IsNumber, IsCount, IsText, IsSomeCode};
 ghost use Rattle.aml_spelling.specs.Faults.{AtPart, AtLength, AtResolved, AtDeclared, Faulty};
 ghost use Rattle.aml_spelling.specs.Reach.{Stops, reach, Placed};
-ghost use Rattle.aml_spelling.specs.Stands.{MayStand};
+ghost use Rattle.aml_spelling.specs.Stands.{StandWithin, MayStand};
 
 /// A list or a table is read as trees exactly if its bytes are a spelling of them and they may stand there: names that
 /// are called or declared, or that Scope, Alias or External gives, resolve in their scopes, each name that is called
@@ -30,6 +30,17 @@ pub fn read_exactly_if_spelled()
         MayStand scope body ts known after) }
     ensures table { (bs : List ℕ) (known : List Arity) (ts : List Tree) (after : List Arity) →
         (table_reading bs known ≡ Ok (ts, after)) ↔ (IsSpelled false ts bs × MayStand [] false ts known after) }
+{}
+
+/// A list is read within the levels of a setting exactly if its bytes are a spelling of its trees and they may stand
+/// within so many levels: within 64 where the setting says more.
+pub fn read_within_levels_exactly_if_spelled()
+    ensures few { (levels : ℕ) (bs : List ℕ) (scope : List Seg) (body : Bool) (known : List Arity) (ts : List Tree) →
+        levels ≤ 64 → (reading_within levels bs scope body known ≡ Ok ts) ↔
+        (IsSpelled body ts bs × (after : List Arity) × StandWithin levels scope body ts known after) }
+    ensures many { (levels : ℕ) (bs : List ℕ) (scope : List Seg) (body : Bool) (known : List Arity) (ts : List Tree) →
+        64 ≤ levels → (reading_within levels bs scope body known ≡ Ok ts) ↔
+        (IsSpelled body ts bs × (after : List Arity) × MayStand scope body ts known after) }
 {}
 
 /// A fault depends on no byte after the one where it is found: as many other bytes may stand there, and the fault is

@@ -6,5 +6,6 @@ mod laws;
 
 pub use laws::{
     faults_depend_on_no_later_byte, names_are_refused_exactly_if_faulty,
-    parts_are_refused_exactly_if_faulty, read_exactly_if_spelled, refused_exactly_if_faulty,
+    parts_are_refused_exactly_if_faulty, read_exactly_if_spelled,
+    read_within_levels_exactly_if_spelled, refused_exactly_if_faulty,
 };

@@ -22,7 +22,7 @@ pub use aml_grammar::{
     ArgumentCounts, Arities, Arity, Item, Mark, Opcode, Operand, OperandView, Term, TermCode,
     TermPart, TermReader,
 };
-pub use aml_marks::{Marks, scan_list, scan_table};
+pub use aml_marks::{Marks, scan_list, scan_list_within, scan_table, scan_table_within};
 pub use aml_scan::{ELSE, RowPlace, read_as_spelled, read_name};
 pub use at::At;
 pub use at_reader::lent_bytes;

@@ -1,7 +1,7 @@
 //! A machine with the registers of the chipset.
 use crate::chipset::Chipset;
 use acpi_configure::{Options, configure_with};
-use acpi_machine::{Machine, Mode, Profile, load_tables};
+use acpi_machine::{EvaluationSettings, Machine, Mode, Nesting, Profile, load_tables_as};
 use ar_space::{Refusal, Space, SpaceFault};
 use ar_tables::find_tables;
 use machine_text::read_machine;
@@ -10,7 +10,13 @@ use route_report::{Report, print};
 use std::alloc::Global;
 
 const SETTINGS: Settings = Settings {
-    profile: Profile::Core,
+    evaluation: EvaluationSettings {
+        profile: Profile::Core,
+        nesting: Nesting {
+            calls: 32,
+            levels: 64,
+        },
+    },
     mode: Mode::Apic,
     steps: 1_000_000,
     dry: false,
@@ -21,8 +27,9 @@ const SETTINGS: Settings = Settings {
 fn machine(alloc: Global, text: &[u8]) -> Result<Machine<Chipset>, Refusal> {
     let said = read_machine(alloc, text)?;
     let tables = find_tables(alloc, said.space.memory(), said.rsdp)?;
-    match load_tables(
+    match load_tables_as(
         alloc,
+        SETTINGS.evaluation,
         tables,
         Chipset::new(),
         SETTINGS.steps,

@@ -8,12 +8,13 @@ use Rattle.ar_space.specs.Change.{Change}
 use Rattle.aml_path.specs.declared.segment.Seg.{Seg}
 use Rattle.aml_meaning.specs.declared.profile.Profile.TheVariants as profiles
 use Rattle.aml_meaning.specs.declared.profile.Profile.{Profile}
+use Rattle.aml_meaning.specs.declared.settings.Nesting.{Nesting}
 use Rattle.aml_meaning.specs.State.{State}
 use Rattle.aml_meaning.specs.PassedOver.{is_passable}
 use Rattle.aml_meaning.specs.Passing.{is_wide, with_passed, passed_over}
 use Rattle.acpi_machine.specs.Calls.{on_world, refused_call, call_done, call_passing}
 use Rattle.acpi_machine.specs.MachineStates.{MachineState}
-use Rattle.aml_laws.proofs.Together.{Sides, MayPass, Together, Comes, IsEnded, alike}
+use Rattle.aml_laws.proofs.Together.{Sides, MayPass, Together, Comes, IsEnded, alike, Raise}
 use Rattle.aml_laws.proofs.Levels.{level}
 use Rattle.machine_laws.proofs.MachineShapes.{machine_beside, machines}
 
@@ -60,13 +61,13 @@ module _ {S : Type 0} where
   done_profile q (Err e) s = ap (λ (x : Called S). x.1.world.profile) (refused_is q e s) ∙ by_profile (is_wide s.world.profile) (is_passable e) q e s
 
 module _ {S T : Type 0} where
-  by_over : (raise : Profile → Profile) (wide passable : Bool) (q : List Seg) (e : Refusal) (s : MachineState S) (t : T) → refused_by wide passable q e (machine_beside raise s t) ≡ ((refused_by wide passable q e s).0, machine_beside raise (refused_by wide passable q e s).1 t)
+  by_over : (raise : Raise) (wide passable : Bool) (q : List Seg) (e : Refusal) (s : MachineState S) (t : T) → refused_by wide passable q e (machine_beside raise s t) ≡ ((refused_by wide passable q e s).0, machine_beside raise (refused_by wide passable q e s).1 t)
   by_over raise true true q e s t = refl
   by_over raise true false q e s t = refl
   by_over raise false passable q e s t = refl
 
   -- over another space, where the profile is the same
-  done_over : (raise : Profile → Profile) (q : List Seg) (r : Outcome (Unit {0})) (s : MachineState S) (t : T) → raise s.world.profile ≡ s.world.profile → call_done q r (machine_beside raise s t) ≡ ((call_done q r s).0, machine_beside raise (call_done q r s).1 t)
+  done_over : (raise : Raise) (q : List Seg) (r : Outcome (Unit {0})) (s : MachineState S) (t : T) → raise.0 s.world.profile ≡ s.world.profile → call_done q r (machine_beside raise s t) ≡ ((call_done q r s).0, machine_beside raise (call_done q r s).1 t)
   done_over raise q (Ok u) s t same = refl
   done_over raise q (Err e) s t same =
       refused_is q e (machine_beside raise s t) ∙ (ap (λ p. refused_by (is_wide p) (is_passable e) q e (machine_beside raise s t)) same
@@ -74,7 +75,7 @@ module _ {S T : Type 0} where
 
 -- ---- the same profile on both sides
 
-module _ {S T : Type 0} {accesses : Accesses S} {accesses2 : Accesses T} (side : Sides accesses accesses2) (same : (p : Profile) → side.raise p ≡ p) (unpassed : (e : Refusal) → is_passable e ≡ true → side.Ends e → ⊥) where
+module _ {S T : Type 0} {accesses : Accesses S} {accesses2 : Accesses T} (side : Sides accesses accesses2) (same : (p : Profile) → side.raise.0 p ≡ p) (unpassed : (e : Refusal) → is_passable e ≡ true → side.Ends e → ⊥) where
   by_ended : (wide passable : Bool) (q : List Seg) (e : Refusal) (s : MachineState S) → is_passable e ≡ passable → side.Ends e → IsEnded side.Ends (refused_by wide passable q e s).0
   by_ended true true q e s is h = absurd (unpassed e is h)
   by_ended true false q e s is h = h
@@ -100,7 +101,7 @@ module _ {S T : Type 0} {accesses : Accesses S} {accesses2 : Accesses T} (side :
 
 -- ---- the right one is wide
 
-module _ {S T : Type 0} {accesses : Accesses S} {accesses2 : Accesses T} (side : Sides accesses accesses2) (wide : (p : Profile) → side.raise p ≡ profiles.Wide) (may : (e : Refusal) → is_passable e ≡ true → MayPass side.passes e) where
+module _ {S T : Type 0} {accesses : Accesses S} {accesses2 : Accesses T} (side : Sides accesses accesses2) (wide : (p : Profile) → side.raise.0 p ≡ profiles.Wide) (as_deep : (d : Nesting) → side.raise.1 d ≡ d) (may : (e : Refusal) → is_passable e ≡ true → MayPass side.passes e) where
   -- the left one is of the core profile
   core_by : (passable : Bool) (q : List Seg) (e : Refusal) (s : MachineState S) (t : T) → is_passable e ≡ passable → side.beside.InStep s.world.space t → Comes (level side 0) machines (Err e, s) (refused_by true passable q e (machine_beside side.raise s t))
   core_by true q e s t is i = inr (inl (inr (refl, may e is)))
@@ -122,9 +123,11 @@ module _ {S T : Type 0} {accesses : Accesses S} {accesses2 : Accesses T} (side :
   left_core q (Err e) s is = refused_is q e s ∙ ap (λ p. refused_by (is_wide p) (is_passable e) q e s) is
 
   -- both are wide
-  wide_over : (s : MachineState S) (t : T) → s.world.profile ≡ profiles.Wide → machine_beside side.raise s t ≡ machine_beside (λ p. p) s t
+  wide_over : (s : MachineState S) (t : T) → s.world.profile ≡ profiles.Wide → machine_beside side.raise s t ≡ machine_beside (λ p. p, λ d. d) s t
   wide_over s t is =
-      ap (λ p. record { world = record { names = s.world.names; arities = s.world.arities; objects = s.world.objects; frames = s.world.frames; started = s.world.started; space = t; osi = s.world.osi; width = s.world.width; profile = p; passed = s.world.passed }; tables = s.tables; mode = s.mode; steps = s.steps; spent = s.spent })
+      ap (λ d. record { world = record { names = s.world.names; arities = s.world.arities; objects = s.world.objects; frames = s.world.frames; started = s.world.started; space = t; osi = s.world.osi; width = s.world.width; profile = side.raise.0 s.world.profile; nesting = d; passed = s.world.passed }; tables = s.tables; mode = s.mode; steps = s.steps; spent = s.spent })
+      (as_deep s.world.nesting)
+      ∙ ap (λ p. record { world = record { names = s.world.names; arities = s.world.arities; objects = s.world.objects; frames = s.world.frames; started = s.world.started; space = t; osi = s.world.osi; width = s.world.width; profile = p; nesting = s.world.nesting; passed = s.world.passed }; tables = s.tables; mode = s.mode; steps = s.steps; spent = s.spent })
       (wide s.world.profile ∙ sym is)
 
   none : (r : Outcome (Unit {0})) → IsEnded (λ e. ⊥) r → ⊥
@@ -143,7 +146,7 @@ module _ {S T : Type 0} {accesses : Accesses S} {accesses2 : Accesses T} (side :
         (core_comes q (m s) (n (machine_beside side.raise s t)) (h.goes s t i))
     goes_by profiles.Wide s t is i =
         subst (λ (a : MachineState T). Comes (level side 0) machines (call_done q (m s).0 (m s).1) (call_done q (n a).0 (n a).1)) (sym (wide_over s t is))
-        (both_comes (call_done q (m s).0 (m s).1) _ (done_profile q (m s).0 (m s).1 ∙ (kept s ∙ is)) (done_comes (alike side.beside) (λ p. refl) (λ e holds k. k) q (m s) (n (machine_beside (λ p. p) s t)) (g.goes s t i)))
+        (both_comes (call_done q (m s).0 (m s).1) _ (done_profile q (m s).0 (m s).1 ∙ (kept s ∙ is)) (done_comes (alike side.beside) (λ p. refl) (λ e holds k. k) q (m s) (n (machine_beside (λ p. p, λ d. d) s t)) (g.goes s t i)))
 
     pub call_widened : Together (level side 0) machines (call_passing q m) (call_passing q n)
     unfolding call_passing

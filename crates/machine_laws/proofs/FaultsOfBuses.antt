@@ -39,7 +39,7 @@ module _ {S : Type 0} (accesses : Accesses S) where
 
   bus_answered_explains : (device : List Seg) → MachineExplains accesses (bus_answered accesses device)
   unfolding bus_answered on_world
-  bus_answered_explains device = record { explained = λ s. (in_steps device s.steps).explained s.world; spent = λ s. (in_steps device s.steps).spent s.world }
+  bus_answered_explains device = record { explained = λ s. (in_steps device s.steps).explained s.world; spent = λ s. (in_steps device s.steps).spent s.world; set = λ s. (in_steps device s.steps).set s.world }
 
   bus_found_explains : (device : List Seg) → MachineExplains accesses (bus_found accesses device)
   unfolding bus_found unless_spent

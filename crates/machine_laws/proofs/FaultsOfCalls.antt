@@ -16,6 +16,7 @@ use Rattle.aml_laws.proofs.CleanValues.{seg_of_clean}
 use Rattle.aml_laws.proofs.FaultsOfChanges.{Explained, RefusalExplained, Explains, spent_with_none, direct_explains, give_explains, stop_explains, settle_explains, then_explains, either_branch_explains}
 use Rattle.aml_laws.proofs.FaultsOfEvaluations.{answered_explains}
 use Rattle.aml_laws.proofs.ItemsOfLists.{unfaulted}
+use Rattle.aml_laws.proofs.SetDepths.{OfSetting, is_low}
 use Rattle.machine_laws.proofs.CallsTogether.{Called, refused_by, refused_is}
 use Rattle.acpi_machine.specs.FixedPaths.{at_root, below_root}
 use Rattle.acpi_machine.specs.MachineStates.{MachineState}
@@ -31,11 +32,11 @@ below_root_clean parent name = followed_clean _ _ (seg_of_clean parent) (λ abov
 
 module _ {S : Type 0} (accesses : Accesses S) where
   abbrev pub MachineExplains : {A : Type 0} → Change (MachineState S) A → Type 0
-  MachineExplains m = Explains accesses (λ s. s.world.space) (λ s. 0) m
+  MachineExplains m = Explains accesses (λ s. s.world.space) (λ s. 0) (λ s. is_low s.world.nesting) m
 
   object_answered_explains : (p : List Seg) (arguments : List Given) → MachineExplains (object_answered accesses p arguments)
   unfolding object_answered on_world
-  object_answered_explains p arguments = record { explained = λ s. (answered_explains accesses p arguments s.steps).explained s.world; spent = λ s. (answered_explains accesses p arguments s.steps).spent s.world }
+  object_answered_explains p arguments = record { explained = λ s. (answered_explains accesses p arguments s.steps).explained s.world; spent = λ s. (answered_explains accesses p arguments s.steps).spent s.world; set = λ s. (answered_explains accesses p arguments s.steps).set s.world }
 
   unless_spent_explains : {A : Type 0} (m : Change (MachineState S) A) → MachineExplains m → MachineExplains (unless_spent m)
   unfolding unless_spent
@@ -61,9 +62,18 @@ module _ {S : Type 0} (accesses : Accesses S) where
   done_explained q (Ok u) before s h = h
   done_explained q (Err e) before s h = subst (λ (x : Called S). Explained accesses x.0 before x.1.world.space) (sym (refused_is q e s)) (refused_explained (is_wide s.world.profile) (is_passable e) q e before s refl h)
 
+  refused_set : (wide passable : Bool) (q : List Seg) (e : Refusal) (s : MachineState S) → OfSetting {A = Unit {0}} (Err e) (is_low s.world.nesting) → OfSetting (refused_by wide passable q e s).0 (is_low (refused_by wide passable q e s).1.world.nesting)
+  refused_set true true q e s h = tt
+  refused_set true false q e s h = h
+  refused_set false passable q e s h = h
+
+  done_set : (q : List Seg) (r : Outcome (Unit {0})) (s : MachineState S) → OfSetting r (is_low s.world.nesting) → OfSetting (call_done q r s).0 (is_low (call_done q r s).1.world.nesting)
+  done_set q (Ok u) s h = tt
+  done_set q (Err e) s h = subst (λ (x : Called S). OfSetting x.0 (is_low x.1.world.nesting)) (sym (refused_is q e s)) (refused_set (is_wide s.world.profile) (is_passable e) q e s h)
+
   call_passing_explains : (q : List Seg) (m : Change (MachineState S) (Unit {0})) → MachineExplains m → MachineExplains (call_passing q m)
   unfolding call_passing
-  call_passing_explains q m h = record { explained = λ s. done_explained q (m s).0 s.world.space (m s).1 (h.explained s); spent = λ s. spent_with_none (call_done q (m s).0 (m s).1).0 }
+  call_passing_explains q m h = record { explained = λ s. done_explained q (m s).0 s.world.space (m s).1 (h.explained s); spent = λ s. spent_with_none (call_done q (m s).0 (m s).1).0; set = λ s. done_set q (m s).0 (m s).1 (h.set s) }
 
   called_where_it_stands_explains : (p : List Seg) (arguments : List Given) → MachineExplains (called_where_it_stands accesses p arguments)
   unfolding called_where_it_stands
@@ -78,7 +88,7 @@ module _ {S : Type 0} (accesses : Accesses S) where
 
   started_explains : (mode : Mode) → MachineExplains (started accesses mode)
   unfolding started
-  started_explains mode = record { explained = λ s. (initial_calls_explains mode).explained (record s { mode = mode }); spent = λ s. (initial_calls_explains mode).spent (record s { mode = mode }) }
+  started_explains mode = record { explained = λ s. (initial_calls_explains mode).explained (record s { mode = mode }); spent = λ s. (initial_calls_explains mode).spent (record s { mode = mode }); set = λ s. (initial_calls_explains mode).set (record s { mode = mode }) }
 
   pub initialized_explains : (mode : Mode) → MachineExplains (initialized accesses mode)
   unfolding initialized

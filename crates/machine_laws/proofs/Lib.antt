@@ -37,5 +37,6 @@ pub mod ReportsTold
 pub mod ReportsWidened
 pub mod RunsEvaluate
 pub mod RunsFound
+pub mod TablesInTurn
 pub mod TellingWidened
 pub mod SettingsTogether

@@ -13,6 +13,7 @@ use Rattle.ar_tables.specs.declared.mode.Mode.{Mode}
 use Rattle.ar_tables.specs.declared.tables.Tables.{Tables}
 use Rattle.aml_path.specs.declared.segment.Seg.{Seg}
 use Rattle.aml_meaning.specs.declared.profile.Profile.{Profile}
+use Rattle.aml_meaning.specs.declared.settings.EvaluationSettings.{EvaluationSettings}
 use Rattle.aml_meaning.specs.declared.profile.Profile.TheVariants as profiles
 use Rattle.aml_meaning.specs.Given.{Given}
 use Rattle.aml_meaning.specs.PassedOver.{is_passable}
@@ -145,9 +146,9 @@ module _ {S : Type 0} (accesses : Accesses S) where
   pub first_of_object : (p : List Seg) (arguments : List Given) (s : MachineState S) → KeepsTheFirst s.world.passed → KeepsTheFirst (evaluated_object accesses p arguments s).1.world.passed
   first_of_object p arguments s h = first_are_kept accesses s.world _ (object_evaluates p arguments s) h
 
-  module _ (profile : Profile) (width : IntegerWidth) (osi : List (List ℕ)) (space : S) where
+  module _ (settings : EvaluationSettings) (width : IntegerWidth) (osi : List (List ℕ)) (space : S) where
     abbrev fresh : State S
-    fresh = fresh_as profile width osi space
+    fresh = fresh_as settings width osi space
 
     abbrev From : State S → Type 0
     From w = Becomes accesses (predefined fresh).1 w
@@ -159,7 +160,7 @@ module _ {S : Type 0} (accesses : Accesses S) where
 
     first_behind_texts : (r : Outcome (Unit {0})) (t : Tables) (steps : ℕ) → KeepsTheFirst (go_on r fresh (λ u. predefined >> all_loaded accesses t steps)).1.passed
     unfolding go_on ◌>>=◌
-    first_behind_texts (Ok u) t steps = first_are_always_kept accesses profile width osi space _ (behind_predefined (predefined fresh).0 t steps)
+    first_behind_texts (Ok u) t steps = first_are_always_kept accesses settings width osi space _ (behind_predefined (predefined fresh).0 t steps)
     first_behind_texts (Err e) t steps = refl
 
     pub first_of_loading : (t : Tables) (steps : ℕ) → KeepsTheFirst (loaded_tables accesses t steps osi fresh).1.passed

@@ -119,7 +119,7 @@ module _ {S T : Type 0} {accesses : Accesses S} {accesses2 : Accesses T} (side :
   call_by : (passes : Passes side.raise side.Ends side.more) → side.passes ≡ passes → (p : List Seg) (arguments : List given.Given) → Together (level side 0) machines (call_passing p (object_called accesses p arguments)) (call_passing p (object_called accesses2 p arguments))
   call_by (inl h) is p arguments = at_level side 0 (call_alike side h.0 h.1 p (object_called_together {side = side} same p arguments))
   call_by (inr h) is p arguments =
-      call_widened side h.0 (λ e holds. subst (λ x. MayPass x e) (sym is) holds) p (object_called accesses p arguments) (object_called accesses2 p arguments) (at_level side 0 (object_called_together {side = side} same p arguments))
+      call_widened side h.0 h.1.1 (λ e holds. subst (λ x. MayPass x e) (sym is) holds) p (object_called accesses p arguments) (object_called accesses2 p arguments) (at_level side 0 (object_called_together {side = side} same p arguments))
       (object_called_together {side = alike side.beside} (λ n. refl) p arguments) (called_keeps accesses p arguments)
 
   called_where_it_stands_together : (p : List Seg) (arguments : List given.Given) → Together (level side 0) machines (called_where_it_stands accesses p arguments) (called_where_it_stands accesses2 p arguments)

@@ -48,7 +48,7 @@ module _ {S : Type 0} (accesses : Accesses S) where
   -- one profile on the left, the wide one on the right, over the same space; Ends: what ends the likeness
   unfoldable raised : (Ends : Refusal → Type 0) → ((e : Refusal) → LeftOut e → Ends e) → Sides accesses accesses
   unfolding same_space
-  raised Ends left_out = record { beside = same_space accesses; raise = λ p. profiles.Wide; Ends = Ends; wide_stays = refl; core_stays = inr left_out; more = λ n. n; more_next = λ n. refl; none_left = inl (λ n. refl); passes = inr (λ p. refl, λ n. refl) }
+  raised Ends left_out = record { beside = same_space accesses; raise = (λ p. profiles.Wide, λ d. d); Ends = Ends; wide_stays = refl; core_stays = inr left_out; deepens = inl (λ d. refl); more = λ n. n; more_next = λ n. refl; none_left = inl (λ n. refl); passes = inr (λ p. refl, (λ n. refl, λ d. refl)) }
 
   -- terms alone
   unfoldable in_terms : Sides accesses accesses
@@ -66,7 +66,7 @@ module _ {S : Type 0} (accesses : Accesses S) where
   unfolding raised same_space
   machine_comes Ends left_out p q (inl parted) = absurd parted
   machine_comes Ends left_out p q (inr (inl ended)) = inl ended
-  machine_comes Ends left_out p q (inr (inr (t, same, i))) = inr (same ∙ ap (λ s. (p.0, machine_beside (λ r. profiles.Wide) p.1 s)) i)
+  machine_comes Ends left_out p q (inr (inr (t, same, i))) = inr (same ∙ ap (λ s. (p.0, machine_beside (λ r. profiles.Wide, λ d. d) p.1 s)) i)
 
   term_call_widened : {A : Type 0} (m : Change (MachineState S) A) → Together in_terms machines m m → (s : MachineState S) → IsLeftOut (m s).0 ⊎ (m (machine_widened s) ≡ call_widened (m s))
   unfolding in_terms raised same_space
@@ -87,13 +87,13 @@ module _ {S : Type 0} (accesses : Accesses S) where
   unfolding in_terms raised same_space
   listed_world p q (inl parted) = absurd parted
   listed_world p q (inr (inl ended)) = inl (left_out_at p.0 ended)
-  listed_world p q (inr (inr (t, same, i))) = inr (same ∙ ap (λ s. (p.0, world_over (λ r. profiles.Wide) p.1 s)) i)
+  listed_world p q (inr (inr (t, same, i))) = inr (same ∙ ap (λ s. (p.0, world_over (λ r. profiles.Wide, λ d. d) p.1 s)) i)
 
   listed_machine : {A : Type 0} (p q : Outcome A × MachineState S) → Comes (level in_terms 0) machines p q → IsLeftOutAt 0 p.0 ⊎ (q ≡ call_widened p)
   unfolding in_terms raised same_space
   listed_machine p q (inl parted) = absurd parted
   listed_machine p q (inr (inl ended)) = inl (left_out_at p.0 ended)
-  listed_machine p q (inr (inr (t, same, i))) = inr (same ∙ ap (λ s. (p.0, machine_beside (λ r. profiles.Wide) p.1 s)) i)
+  listed_machine p q (inr (inr (t, same, i))) = inr (same ∙ ap (λ s. (p.0, machine_beside (λ r. profiles.Wide, λ d. d) p.1 s)) i)
 
   -- ---- tables, initializing, objects
 

@@ -28,7 +28,7 @@ Told Ends r q = IsEnded Ends r ⊎ (q ≡ r)
 
 -- the right machine is in the same profile, or the likeness ends where the left one refuses a `_HID` or an exclusive offer
 abbrev pub Asks : {S T : Type 0} {accesses : Accesses S} {accesses2 : Accesses T} → Sides accesses accesses2 → Type 0
-Asks side = (side.raise Core ≡ Core) ⊎ (side.Ends (RoutingTable NotALink) × side.Ends (Resource Exclusive))
+Asks side = (side.raise.0 Core ≡ Core) ⊎ (side.Ends (RoutingTable NotALink) × side.Ends (Resource Exclusive))
 
 told_in : {A : Type 0} (Ends : Refusal → Type 0) (f : Profile → Outcome A) → Told Ends (f Core) (f Wide) → (p : Profile) → Told Ends (f Core) (f p)
 told_in Ends f told Core = inr refl
@@ -36,10 +36,10 @@ told_in Ends f told Wide = told
 
 -- what is asked of the profiles of two machines
 pub profile_asked : {S T A : Type 0} {accesses : Accesses S} {accesses2 : Accesses T} (side : Sides accesses accesses2) → Asks side → (f : Profile → Outcome A)
-    → (side.Ends (RoutingTable NotALink) × side.Ends (Resource Exclusive) → Told side.Ends (f Core) (f Wide)) → (p : Profile) → Told side.Ends (f p) (f (side.raise p))
+    → (side.Ends (RoutingTable NotALink) × side.Ends (Resource Exclusive) → Told side.Ends (f Core) (f Wide)) → (p : Profile) → Told side.Ends (f p) (f (side.raise.0 p))
 profile_asked side asks f told Wide = inr (ap f side.wide_stays)
 profile_asked side (inl stays) f told Core = inr (ap f stays)
-profile_asked side (inr ends) f told Core = told_in side.Ends f (told ends) (side.raise Core)
+profile_asked side (inr ends) f told Core = told_in side.Ends f (told ends) (side.raise.0 Core)
 
 -- ---- the `_HID` of a device
 

@@ -2,6 +2,7 @@ pub mod BoundedAccesses
 pub mod Evaluated
 pub mod Initializing
 pub mod KernelLines
+pub mod LoadedInTurn
 pub mod Notes
 pub mod PassedCalls
 pub mod ReportedNotes

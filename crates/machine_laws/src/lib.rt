@@ -5,6 +5,7 @@ mod bounds;
 mod faults;
 mod initializing;
 mod kernel_lines;
+mod loading;
 mod notes;
 mod profiles;
 mod reports;
@@ -24,6 +25,7 @@ pub use kernel_lines::{
     links_are_triggered_as_they_offer, the_bus_of_a_routing_table_is_told_by_its_objects,
     the_device_of_each_pin_has_one_line_bus,
 };
+pub use loading::tables_are_loaded_in_turn;
 pub use notes::{
     machine_faults_are_answers_of_the_last_access, noting_changes_no_call,
     routing_faults_are_answers_of_the_last_access,

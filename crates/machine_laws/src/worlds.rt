@@ -18,7 +18,7 @@ ghost use Rattle.aml_path.specs.declared.segment.Seg.{Seg};
 ghost use Rattle.aml_meaning.specs.Given.{Given};
 ghost use Rattle.aml_meaning.specs.Predefined.{fresh_as};
 ghost use Rattle.aml_meaning.specs.State.{State};
-ghost use Rattle.aml_meaning.specs.declared.profile.Profile.{Profile};
+ghost use Rattle.aml_meaning.specs.declared.settings.EvaluationSettings.{EvaluationSettings};
 ghost use Rattle.aml_laws.specs.Becomes.{Becomes};
 ghost use Rattle.aml_laws.specs.PassedNotes.{KeepsTheFirst, GoesOn};
 ghost use Rattle.acpi_machine.specs.Calls.{called_where_it_stands, evaluated_object, initialized};
@@ -46,9 +46,9 @@ pub fn a_machine_makes_of_its_world_what_evaluations_do<S>()
 /// it evaluates. What was kept before initializing stays, in its order, and the count never falls.
 #[tactic(auto, using(crate::proofs::MachineWorlds::first_of_loading, crate::proofs::MachineWorlds::first_of_initializing, crate::proofs::MachineWorlds::more_of_initializing, crate::proofs::MachineWorlds::first_of_object))]
 pub fn the_first_that_a_machine_passes_over_are_kept<S>()
-    ensures tables { (accesses : Accesses S) (profile : Profile) (width : IntegerWidth) (osi : List (List ℕ))
+    ensures tables { (accesses : Accesses S) (settings : EvaluationSettings) (width : IntegerWidth) (osi : List (List ℕ))
         (space : S) (t : Tables) (steps : ℕ) →
-        KeepsTheFirst (loaded_tables accesses t steps osi (fresh_as profile width osi space)).1.passed }
+        KeepsTheFirst (loaded_tables accesses t steps osi (fresh_as settings width osi space)).1.passed }
     ensures initialization { (accesses : Accesses S) (mode : Mode) (m : MachineState S) →
         KeepsTheFirst m.world.passed → KeepsTheFirst (initialized accesses mode m).1.world.passed }
     ensures goes_on { (accesses : Accesses S) (mode : Mode) (m : MachineState S) →

@@ -3,6 +3,7 @@ use acpiroute_lib::{
     Argument, Arguments, Asked, Asking, Evaluation, Flags, Interrupts, Profile, Question, Request,
     parse,
 };
+use aml_meaning::Nesting;
 use ar_space::PathText;
 use route_report::Mode;
 use std::alloc::{AllocError, Global};
@@ -56,16 +57,29 @@ fn arguments_text(alloc: Global, arguments: &Arguments) -> Result<String, AllocE
     Ok(text)
 }
 
+/// How deep calls and terms may be, as text: nothing where they may be as deep as they ever may.
+fn nesting_text(alloc: Global, nesting: Nesting) -> Result<String, AllocError> {
+    if nesting == Nesting::deepest() {
+        return Ok(String::new(alloc));
+    }
+    let calls = nesting.calls;
+    let levels = nesting.levels;
+    format!(in alloc; " calls {calls} levels {levels}")
+}
+
 /// How AML is evaluated, as text.
 fn evaluation_text(alloc: Global, evaluation: &Evaluation) -> Result<String, AllocError> {
     let steps = evaluation.steps;
-    let profile = match evaluation.profile {
+    let profile = match evaluation.settings.profile {
         Profile::Core => "",
         Profile::Wide => " wide",
     };
+    let nesting = nesting_text(alloc, evaluation.settings.nesting)?;
     match evaluation.accesses {
-        None => format!(in alloc; "steps {steps}{profile}"),
-        Some(accesses) => format!(in alloc; "steps {steps}{profile} accesses {accesses}"),
+        None => format!(in alloc; "steps {steps}{profile}{nesting}"),
+        Some(accesses) => {
+            format!(in alloc; "steps {steps}{profile}{nesting} accesses {accesses}")
+        }
     }
 }
 

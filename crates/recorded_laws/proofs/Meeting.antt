@@ -149,7 +149,7 @@ module _ {S T : Type 0} {accesses : Accesses S} {accesses2 : Accesses T} (side :
           (started_meet m is.after outcome t outcome2 is2.after is.is_started is2.is_started (goes_from side machines _ _ ((one_profile side 0 (initialized_together (alike side) (λ n. refl) settings.mode)).goes m t i))))
 
       loaded_runs_meet : (tables : Tables) (r : Outcome (Unit {0})) (w : State S) (outcome : Outcome RoutingReport) (space : S) (t : T) (outcome2 : Outcome RoutingReport) (space2 : T) → IsLoadedRun accesses settings avoid tables r w outcome space
-          → IsLoadedRun accesses2 settings avoid tables r (world_over (λ r. r) w t) outcome2 space2 → side.InStep w.space t → Meet side space space2
+          → IsLoadedRun accesses2 settings avoid tables r (world_over (λ r. r, λ d. d) w t) outcome2 space2 → side.InStep w.space t → Meet side space space2
       loaded_runs_meet tables (Ok u) w outcome space t outcome2 space2 is is2 i = machine_runs_meet (machine_of tables settings.steps w) outcome space t outcome2 space2 is is2 i
       loaded_runs_meet tables (Err e) w outcome space t outcome2 space2 is is2 i = inr (t, subst (λ s. side.InStep s t) is.1 i)
 
@@ -165,5 +165,5 @@ module _ {S T : Type 0} {accesses : Accesses S} {accesses2 : Accesses T} (side :
       pub described_runs_meet : (d : Outcome Description) (before : S) (outcome : Outcome RoutingReport) (space : S) (t : T) (outcome2 : Outcome RoutingReport) (space2 : T) → IsDescribedRun accesses settings avoid d before outcome space
           → IsDescribedRun accesses2 settings avoid d t outcome2 space2 → side.InStep before t → Meet side space space2
       described_runs_meet (Ok d) before outcome space t outcome2 space2 is is2 i =
-          runs_over_meet d before outcome space t outcome2 space2 is is2 (goes_from side worlds _ _ ((one_profile side 0 (loaded_tables_together (alike side) (λ n. refl) d.0 settings.steps d.1)).goes (fresh_as settings.profile d.0.width d.1 before) t i))
+          runs_over_meet d before outcome space t outcome2 space2 is is2 (goes_from side worlds _ _ ((one_profile side 0 (loaded_tables_together (alike side) (λ n. refl) d.0 settings.steps d.1)).goes (fresh_as settings.evaluation d.0.width d.1 before) t i))
       described_runs_meet (Err e) before outcome space t outcome2 space2 is is2 i = inr (t, subst (λ s. side.InStep s t) is.1 i)

@@ -80,7 +80,7 @@ module _ {S T : Type 0} {accesses : Accesses S} {accesses2 : Accesses T} (side :
   machine_run_carried m outcome space t is i = machine_run_of m is.after outcome space t is.is_space (started_carried m is.after outcome t is.is_started (goes_from side machines _ _ ((one_profile side 0 (initialized_together (alike side) (λ n. refl) settings.mode)).goes m t i)))
 
   loaded_run_carried : (tables : Tables) (r : Outcome (Unit {0})) (w : State S) (outcome : Outcome RoutingReport) (space : S) (t : T) → IsLoadedRun accesses settings avoid tables r w outcome space → side.InStep w.space t
-      → Carried side space (λ v. IsLoadedRun accesses2 settings avoid tables r (world_over (λ r. r) w t) outcome v)
+      → Carried side space (λ v. IsLoadedRun accesses2 settings avoid tables r (world_over (λ r. r, λ d. d) w t) outcome v)
   loaded_run_carried tables (Ok u) w outcome space t is i = machine_run_carried (machine_of tables settings.steps w) outcome space t is i
   loaded_run_carried tables (Err e) w outcome space t is i = inr (t, (is.0, refl), subst (λ s. side.InStep s t) is.1 i)
 
@@ -93,7 +93,7 @@ module _ {S T : Type 0} {accesses : Accesses S} {accesses2 : Accesses T} (side :
 
   pub described_run_carried : (d : Outcome Description) (before : S) (outcome : Outcome RoutingReport) (space : S) (t : T) → IsDescribedRun accesses settings avoid d before outcome space → side.InStep before t
       → Carried side space (λ v. IsDescribedRun accesses2 settings avoid d t outcome v)
-  described_run_carried (Ok d) before outcome space t is i = run_over_goes d before outcome space t is (goes_from side worlds _ _ ((one_profile side 0 (loaded_tables_together (alike side) (λ n. refl) d.0 settings.steps d.1)).goes (fresh_as settings.profile d.0.width d.1 before) t i))
+  described_run_carried (Ok d) before outcome space t is i = run_over_goes d before outcome space t is (goes_from side worlds _ _ ((one_profile side 0 (loaded_tables_together (alike side) (λ n. refl) d.0 settings.steps d.1)).goes (fresh_as settings.evaluation d.0.width d.1 before) t i))
   described_run_carried (Err e) before outcome space t is i = inr (t, (is.0, refl), subst (λ s. side.InStep s t) is.1 i)
 
   pub run_carried : (text : List ℕ) (before : S) (outcome : Outcome RoutingReport) (space : S) (t : T) → IsRun accesses settings avoid text before outcome space → side.InStep before t

@@ -118,7 +118,7 @@ module _ {S : Type 0} (accesses : Accesses S) (settings : Settings) (avoid text 
     run_over_told : (outcome : Outcome RoutingReport) (after : WithNotes S) → IsRunOver (noted accesses) settings avoid d before outcome after → Told outcome before after
     run_over_told outcome after is =
         let loaded = world_over (noted accesses) settings avoid d before in
-        loaded_run_told loaded.0 loaded.1 refl (notes_of_tables accesses d.0 settings.steps d.1 (fresh_as settings.profile d.0.width d.1 before)) outcome after is
+        loaded_run_told loaded.0 loaded.1 refl (notes_of_tables accesses d.0 settings.steps d.1 (fresh_as settings.evaluation d.0.width d.1 before)) outcome after is
 
   described_run_told : (d : Outcome Description) → described text ≡ d → Clean d → (before : WithNotes S) (outcome : Outcome RoutingReport) (after : WithNotes S) → IsDescribedRun (noted accesses) settings avoid d before outcome after → Told outcome before after
   described_run_told (Ok d) is_described clean before outcome after is = run_over_told before d is_described outcome after is

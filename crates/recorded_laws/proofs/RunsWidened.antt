@@ -80,5 +80,5 @@ module _ {S : Type 0} (accesses : Accesses S) (settings : Settings) (avoid : Lis
   pub described_run_widened : (space : S) (description : Outcome Description) (outcome : Outcome RoutingReport) (left : S) → LeavesNothingOut outcome → IsDescribedRun accesses settings avoid description space outcome left
       → IsDescribedRun accesses (settings_widened settings) avoid description space outcome left
   described_run_widened space (Ok d) outcome left whole is =
-      run_by d.0 (world_over accesses settings avoid d space) (world_over accesses (settings_widened settings) avoid d space) outcome left whole is (tables_widened accesses d.0 settings.steps d.1 (fresh_as settings.profile d.0.width d.1 space))
+      run_by d.0 (world_over accesses settings avoid d space) (world_over accesses (settings_widened settings) avoid d space) outcome left whole is (tables_widened accesses d.0 settings.steps d.1 (fresh_as settings.evaluation d.0.width d.1 space))
   described_run_widened space (Err e) outcome left whole is = is

@@ -68,7 +68,7 @@ module _ (mode : Mode) (evaluation : Evaluation) where
   by_loaded t w (Err e) = Err e
 
   abbrev pub by_tables : Registers → List (List ℕ) → Outcome Tables → Outcome (MachineState Registers)
-  by_tables space osi (Ok t) = let l = loaded_tables register_accesses t evaluation.steps osi (fresh_as evaluation.profile t.width osi space) in by_loaded t l.1 l.0
+  by_tables space osi (Ok t) = let l = loaded_tables register_accesses t evaluation.steps osi (fresh_as evaluation.settings t.width osi space) in by_loaded t l.1 l.0
   by_tables space osi (Err e) = Err e
 
   left_by : (t : Tables) (w : State Registers) (r : Outcome (Unit {0})) → machine_left t evaluation.steps w r >>= initialized_machine mode ≡ by_loaded t w r
@@ -78,7 +78,7 @@ module _ (mode : Mode) (evaluation : Evaluation) where
 
   found_by_tables : (space : Registers) (osi : List (List ℕ)) (ts : Outcome Tables) → (ts >>= (λ t. machine_with evaluation t space osi)) >>= initialized_machine mode ≡ by_tables space osi ts
   unfolding ◌>>=◌ machine_with
-  found_by_tables space osi (Ok t) = let l = loaded_tables register_accesses t evaluation.steps osi (fresh_as evaluation.profile t.width osi space) in left_by t l.1 l.0
+  found_by_tables space osi (Ok t) = let l = loaded_tables register_accesses t evaluation.steps osi (fresh_as evaluation.settings t.width osi space) in left_by t l.1 l.0
   found_by_tables space osi (Err e) = refl
 
   pub text_machine : (text : List ℕ) (said : MachineText) → machine_text text ≡ Ok said

@@ -54,7 +54,7 @@ left_streamless t steps w (Err e) h = h
 machine_with_streamless : (evaluation : Evaluation) (t : Tables) (space : Registers) (osi : List (List ℕ)) → Streamless (machine_with evaluation t space osi)
 unfolding machine_with
 machine_with_streamless evaluation t space osi =
-    left_streamless t evaluation.steps _ _ (explained_streamless register_accesses _ _ _ ((loaded_tables_explains register_accesses t evaluation.steps osi).explained (fresh_as evaluation.profile t.width osi space)))
+    left_streamless t evaluation.steps _ _ (explained_streamless register_accesses _ _ _ ((loaded_tables_explains register_accesses t evaluation.steps osi).explained (fresh_as evaluation.settings t.width osi space)))
 
 machine_of_text_streamless : (evaluation : Evaluation) (text : List ℕ) → Streamless (machine_of_text evaluation text)
 unfolding machine_of_text

@@ -62,7 +62,7 @@ loaded_widens t steps p q (inr same) = inr (ap (λ (x : Outcome (Unit {0}) × St
 machine_with_widens : (evaluation : Evaluation) (t : Tables) (space : Registers) (osi : List (List ℕ)) → MachineWidens (machine_with evaluation t space osi) (machine_with (evaluation_widened evaluation) t space osi)
 unfolding machine_with
 machine_with_widens evaluation t space osi =
-    let w = fresh_as evaluation.profile t.width osi space in
+    let w = fresh_as evaluation.settings t.width osi space in
     loaded_widens t evaluation.steps (loaded_tables register_accesses t evaluation.steps osi w) (loaded_tables register_accesses t evaluation.steps osi (widened w)) (tables_widened register_accesses t evaluation.steps osi w)
 
 machine_of_text_widens : (evaluation : Evaluation) (text : List ℕ) → MachineWidens (machine_of_text evaluation text) (machine_of_text (evaluation_widened evaluation) text)

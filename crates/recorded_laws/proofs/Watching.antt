@@ -74,7 +74,7 @@ module _ {S : Type 0} (accesses : Accesses S) (q : Asking) (osi : List (List ℕ
   started_same m s i (inr (u, same, j)) = (sym (ap (λ p. p.0) same), j ∙ sym (ap (λ p. p.1.world.space) same))
 
   loaded_same : (t : Tables) (r : Outcome (Unit {0})) (w : State (Watch S)) (s : S) → w.space.inner ≡ s
-      → Same (after_loading (started (watched accesses) q.mode (asks (watched accesses) q.question)) t q.evaluation.steps r w) (after_loading (started accesses q.mode (asks accesses q.question)) t q.evaluation.steps r (world_over (λ r. r) w s))
+      → Same (after_loading (started (watched accesses) q.mode (asks (watched accesses) q.question)) t q.evaluation.steps r w) (after_loading (started accesses q.mode (asks accesses q.question)) t q.evaluation.steps r (world_over (λ r. r, λ d. d) w s))
   unfolding watching
   loaded_same t (Ok u) w s i = started_same (machine_of t q.evaluation.steps w) s i (goes_from (watching accesses) machines (started (watched accesses) q.mode (asks (watched accesses) q.question) (machine_of t q.evaluation.steps w)) (started accesses q.mode (asks accesses q.question) (machine_over (machine_of t q.evaluation.steps w) s)) ((started_together {side = watching accesses} q.mode q.question).goes (machine_of t q.evaluation.steps w) s i))
   loaded_same t (Err e) w s i = (refl, i)
@@ -92,7 +92,7 @@ module _ {S : Type 0} (accesses : Accesses S) (q : Asking) (osi : List (List ℕ
   unfolding watching
   watched_run (Ok t) before =
       tables_same t before (loaded_over (watched accesses) q t osi before).0 (loaded_over (watched accesses) q t osi before).1
-      (goes_from (watching accesses) worlds (loaded_over (watched accesses) q t osi before) (loaded_over accesses q t osi before.inner) ((one_profile (watching accesses) 0 (loaded_tables_together (alike (watching accesses)) (λ n. refl) t q.evaluation.steps osi)).goes (fresh_as q.evaluation.profile t.width osi before) before.inner refl))
+      (goes_from (watching accesses) worlds (loaded_over (watched accesses) q t osi before) (loaded_over accesses q t osi before.inner) ((one_profile (watching accesses) 0 (loaded_tables_together (alike (watching accesses)) (λ n. refl) t q.evaluation.steps osi)).goes (fresh_as q.evaluation.settings t.width osi before) before.inner refl))
   watched_run (Err e) before = (refl, refl)
 
 -- ---- links that are set and read

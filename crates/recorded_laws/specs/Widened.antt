@@ -16,7 +16,7 @@ use Rattle.machine_laws.specs.Widened.{Withheld, TellsNothingLeftOut}
 
 -- the same settings in the wide profile
 abbrev pub settings_widened : Settings → Settings
-settings_widened settings = record { profile = profile.Wide; mode = settings.mode; steps = settings.steps; dry = settings.dry; kernel = settings.kernel }
+settings_widened settings = record { evaluation = record settings.evaluation { profile = profile.Wide }; mode = settings.mode; steps = settings.steps; dry = settings.dry; kernel = settings.kernel }
 
 -- a refusal of what the core profile leaves out, or one that the wide profile passes over at module level
 abbrev pub IsLeftOrPassed : Refusal → Type 0
@@ -31,7 +31,7 @@ LeavesNothingOut (Err e) = IsLeftOrPassed e → ⊥
 
 -- the same evaluation in the wide profile
 abbrev pub evaluation_widened : Evaluation → Evaluation
-evaluation_widened evaluation = record { profile = profile.Wide; steps = evaluation.steps; accesses = evaluation.accesses }
+evaluation_widened evaluation = record { settings = record evaluation.settings { profile = profile.Wide }; steps = evaluation.steps; accesses = evaluation.accesses }
 
 -- a text is that of a report of a machine, and no line of it tells of what the profile leaves out
 abbrev pub IsWholeReport : RunOptions → Outcome (MachineState Registers) → Written → Type 0

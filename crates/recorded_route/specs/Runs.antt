@@ -90,9 +90,9 @@ module _ {S : Type 0} (accesses : Accesses S) (settings : Settings) (avoid : Lis
   IsLoadedRun tables (Ok u) w outcome space = IsMachineRun (machine_of tables settings.steps w) outcome space
   IsLoadedRun tables (Err e) w outcome space = (outcome ≡ Err e) × (w.space ≡ space)
 
-  -- tables are loaded over a register space in the profile of the settings, where `_OSI` knows these texts
+  -- tables are loaded over a register space by the settings of its evaluation, where `_OSI` knows these texts
   abbrev pub world_over : Description → S → Outcome (Unit {0}) × State S
-  world_over d before = loaded_tables accesses d.0 settings.steps d.1 (fresh_as settings.profile d.0.width d.1 before)
+  world_over d before = loaded_tables accesses d.0 settings.steps d.1 (fresh_as settings.evaluation d.0.width d.1 before)
 
   abbrev pub IsRunOver : Description → S → Outcome RoutingReport → S → Type 0
   IsRunOver d before outcome space = IsLoadedRun d.0 (world_over d before).0 (world_over d before).1 outcome space

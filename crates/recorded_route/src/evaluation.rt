@@ -79,7 +79,14 @@ fn answer_over(
         (seen given_of result.0, after)) result.1 }
 {
     let (tables, osi) = description;
-    match load_tables_as(alloc, settings.profile, tables, space, settings.steps, osi) {
+    match load_tables_as(
+        alloc,
+        settings.evaluation,
+        tables,
+        space,
+        settings.steps,
+        osi,
+    ) {
         Ok(machine) => machine_answer(alloc, machine, settings, question),
         Err((refusal, space)) => (Err(refusal), wanted_of(&space)),
     }

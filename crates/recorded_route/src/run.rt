@@ -65,7 +65,14 @@ fn run_over(
         space result.0) result.1 }
 {
     let (tables, osi) = description;
-    match load_tables_as(alloc, settings.profile, tables, space, settings.steps, osi) {
+    match load_tables_as(
+        alloc,
+        settings.evaluation,
+        tables,
+        space,
+        settings.steps,
+        osi,
+    ) {
         Ok(machine) => machine_run(alloc, machine, settings, avoid),
         Err((refusal, space)) => (Err(refusal), wanted_of(&space)),
     }

@@ -1,11 +1,11 @@
 //! How a machine is configured.
-use acpi_machine::{Mode, Profile};
+use acpi_machine::{EvaluationSettings, Mode};
 
 /// How a machine is configured.
 #[derive(Clone, Copy, Debug)]
 pub struct Settings {
-    /// The profile in which its AML is evaluated.
-    pub profile: Profile,
+    /// In which profile its AML is evaluated, and how deep.
+    pub evaluation: EvaluationSettings,
     /// The interrupt controllers that the machine is told it uses.
     pub mode: Mode,
     /// The budget of steps for each table and each evaluation, from 1 to 1,000,000,000.

@@ -59,7 +59,7 @@ const NAMESPACE: [(&str, NamespaceFault); 2] = [
 ];
 
 /// The faults of an evaluation that are a name alone.
-const EVALUATION: [(&str, EvaluationFault); 11] = [
+const EVALUATION: [(&str, EvaluationFault); 12] = [
     ("out of steps", EvaluationFault::OutOfSteps),
     ("call depth", EvaluationFault::CallDepth),
     ("arity changed", EvaluationFault::ArityChanged),
@@ -71,6 +71,7 @@ const EVALUATION: [(&str, EvaluationFault); 11] = [
     ("not acquired", EvaluationFault::NotAcquired),
     ("index limit", EvaluationFault::IndexLimit),
     ("object limit", EvaluationFault::ObjectLimit),
+    ("depth setting", EvaluationFault::DepthSetting),
 ];
 
 /// The faults of resource descriptors that are a name alone.

@@ -1,5 +1,5 @@
-//! Register spaces over another one: two show what a run needed, its last access and the bytes that are missing, and one
-//! bounds how many accesses are made.
+//! Register spaces over another one: two show what a run needed, its last access and the bytes that are missing, and
+//! one bounds how many accesses are made.
 #![tactic(auto)]
 
 mod last_access;

@@ -37,8 +37,8 @@ impl<S> Metered<S> {
         }
     }
 
-    /// How many accesses are still made, where they are bounded. A `Device` fault while some are left is one of the space
-    /// below.
+    /// How many accesses are still made, where they are bounded. A `Device` fault while some are left is one of the
+    /// space below.
     pub fn left(&self) -> Option<u64>
         ensures { result ≡ self.now.left }
     {

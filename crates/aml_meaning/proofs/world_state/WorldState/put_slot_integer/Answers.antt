@@ -16,7 +16,7 @@ pub returns-clause-change : goal.returns-clause-change
 returns-clause-change g c = λ yes.
     let i = c.self.inside in
     let xs = i.frames.items in
-    let w : State g.row.S.Denot = record { names = i.declarations.names; arities = i.declarations.arities; objects = i.heap; frames = xs; started = i.started; space = i.space; osi = i.osi.items; width = i.width; profile = i.profile; passed = i.passed } in
+    let w : State g.row.S.Denot = record { names = i.declarations.names; arities = i.declarations.arities; objects = i.heap; frames = xs; started = i.started; space = i.space; osi = i.osi.items; width = i.width; profile = i.profile; nesting = i.nesting; passed = i.passed } in
     let n = c.len-count.result in
     let k = n - 1 in
     let f = c.index_mut.result.now in

@@ -11,7 +11,7 @@ use Rattle.aml_meaning.proofs.world_state.WorldState.release_node.Goals as goal
 pub returns-clause-change : goal.returns-clause-change
 returns-clause-change g c = λ yes f at.
     let i = c.self.inside in
-    let w : State g.row.S.Denot = record { names = i.declarations.names; arities = i.declarations.arities; objects = i.heap; frames = i.frames.items; started = i.started; space = i.space; osi = i.osi.items; width = i.width; profile = i.profile; passed = i.passed } in
+    let w : State g.row.S.Denot = record { names = i.declarations.names; arities = i.declarations.arities; objects = i.heap; frames = i.frames.items; started = i.started; space = i.space; osi = i.osi.items; width = i.width; profile = i.profile; nesting = i.nesting; passed = i.passed } in
     let id = c.args.id.number in
     let here : numbered id i.declarations.names.map ≡ Some f = ap (λ (s : State g.row.S.Denot). numbered id s.names.map) c.self.view_is ∙ at in
     let some : c.in-Some.count ≢ 0 = omega arith in

@@ -17,7 +17,7 @@ use Rattle.aml_meaning.proofs.world_state.WorldState.unit_integer.Goals as goal
 pub returns-clause-read : goal.returns-clause-read
 returns-clause-read g c =
     let i = c.self.inside in
-    let w : State g.row.S.Denot = record { names = i.declarations.names; arities = i.declarations.arities; objects = i.heap; frames = i.frames.items; started = i.started; space = i.space; osi = i.osi.items; width = i.width; profile = i.profile; passed = i.passed } in
+    let w : State g.row.S.Denot = record { names = i.declarations.names; arities = i.declarations.arities; objects = i.heap; frames = i.frames.items; started = i.started; space = i.space; osi = i.osi.items; width = i.width; profile = i.profile; nesting = i.nesting; passed = i.passed } in
     let u = c.args.unit in
     let q = c.in-Some.region in
     let plain : IsPlainRegion w u.source q = subst (λ (s : State g.row.S.Denot). IsPlainRegion s u.source q) (sym c.self.view_is) c.in-Some.ensures in
@@ -35,7 +35,7 @@ returns-clause-read g c =
 pub returns-clause-refused : goal.returns-clause-refused
 returns-clause-refused g c =
     let i = c.self.inside in
-    let w : State g.row.S.Denot = record { names = i.declarations.names; arities = i.declarations.arities; objects = i.heap; frames = i.frames.items; started = i.started; space = i.space; osi = i.osi.items; width = i.width; profile = i.profile; passed = i.passed } in
+    let w : State g.row.S.Denot = record { names = i.declarations.names; arities = i.declarations.arities; objects = i.heap; frames = i.frames.items; started = i.started; space = i.space; osi = i.osi.items; width = i.width; profile = i.profile; nesting = i.nesting; passed = i.passed } in
     let u = c.args.unit in
     let q = c.in-Some.region in
     let plain : IsPlainRegion w u.source q = subst (λ (s : State g.row.S.Denot). IsPlainRegion s u.source q) (sym c.self.view_is) c.in-Some.ensures in

@@ -1,0 +1,98 @@
+-- CondRefOf refers to a name that is found, and to a slot that holds a value.
+use Rattle.std.specs.Prelude.{◌≡◌, ◌≢◌, ◌-◌, ◌^◌, ℕ, suc, List, Option, Some, None, Ok, Err, refl}
+use Rattle.std.proofs.Common.{ap, ◌∙◌}
+use Rattle.ar_space.specs.declared.refusal.Refusal.TheVariants as refusal
+use Rattle.ar_space.specs.declared.refusal.NamespaceFault.TheVariants.{NotFound}
+use Rattle.ar_space.specs.Accesses.{Accesses}
+use Rattle.ar_space.specs.Change.{give, settle, go_on, ◌>>=◌}
+use Rattle.aml_path.specs.declared.segment.Seg.{Seg}
+use Rattle.aml_path.specs.Paths.{Name}
+use Rattle.aml_grammar.specs.declared.opcode.Opcode.{Opcode}
+use Rattle.aml_grammar.specs.Tree.{Part, name, inner}
+use Rattle.aml_objects.specs.declared.entry.Entry.{Entry}
+use Rattle.aml_objects.specs.declared.value.Reference.{Reference}
+use Rattle.aml_objects.specs.declared.value.Reference.TheVariants as reference
+use Rattle.aml_objects.specs.declared.value.Slot.{Slot}
+use Rattle.aml_objects.specs.declared.value.Value.{Value}
+use Rattle.aml_objects.specs.declared.value.Value.TheVariants as value
+use Rattle.aml_convert.specs.Integers.{bits_of}
+use Rattle.aml_namespace.specs.Search.{found}
+use Rattle.aml_meaning.specs.declared.flow.Flow.TheVariants as flow
+use Rattle.aml_meaning.specs.declared.store_target.StoreTarget.TheVariants as targets
+use Rattle.aml_meaning.specs.State.{State}
+use Rattle.aml_meaning.specs.Run.{lift}
+use Rattle.aml_meaning.specs.Tasks.{task}
+use Rattle.aml_meaning.specs.Readings.{integer_kept}
+use Rattle.aml_meaning.specs.OperatorTerms.{sought_name, sought_target, sought, reference_stored, conditional_rule}
+use Rattle.aml_meaning.specs.StoreTargets.{latest_frame, frame_found, slot_held, frame_number, slot_reference, unless_empty, slot_initialized, reference_if_found}
+use Rattle.aml_meaning.specs.Evaluation.{rule}
+use Rattle.aml_meaning.specs.Meaning.{meaning}
+use Rattle.aml_laws.specs.OperatorTerms.{alone, NamesSlot, slot, StoresTo, SlotHolds, SlotIsEmpty, Gives}
+use Rattle.aml_laws.specs.ReferringTerms.{conditional, IsNumberedLast}
+use Rattle.aml_laws.proofs.TreesCost.{term_begins}
+use Rattle.aml_laws.proofs.OperatorsComputed.{target_is, stored_at}
+use Rattle.aml_laws.proofs.ConstantsGiven.{all_kept}
+
+some_reference : (v : Value) (r : Reference) → v ≢ value.Uninitialized → unless_empty v r ≡ Some r
+some_reference value.Uninitialized r some = absurd (some refl)
+some_reference (value.Integer n) r some = refl
+some_reference (value.String o) r some = refl
+some_reference (value.Buffer o) r some = refl
+some_reference (value.Package o) r some = refl
+some_reference (value.Reference q) r some = refl
+
+module _ {S : Type 0} (accesses : Accesses S) (scope : List Seg) (depth : ℕ) (w : State S) (steps : ℕ) (p q : Part) where
+  -- what comes of what is sought
+  stored_so : (r : Reference) (end : State S) → StoresTo scope q (value.Reference r) w end → reference_stored accesses (meaning accesses) scope depth (conditional p q) r (w, steps) ≡ (Ok (flow.Value (value.Integer (2 ^ bits_of end.width - 1))), (end, steps))
+  unfolding reference_stored integer_kept lift give go_on ◌>>=◌
+  stored_so r end h = rw (stored_at accesses scope depth (conditional p q) 1 w steps q (value.Reference r) end h refl) (ap (λ (n : ℕ). (Ok (flow.Value (value.Integer n)), (end, steps))) (all_kept end.width))
+
+  referred_so : (r : Reference) (end : State S) → sought accesses (meaning accesses) scope depth (conditional p q) (Some p) (w, steps) ≡ (Ok (Some r), (w, steps)) → StoresTo scope q (value.Reference r) w end
+      → rule accesses (meaning accesses) (task scope depth (conditional p q)) (w, steps) ≡ (Ok (flow.Value (value.Integer (2 ^ bits_of end.width - 1))), (end, steps))
+  unfolding rule conditional_rule go_on ◌>>=◌
+  referred_so r end is h = rw is (stored_so r end h)
+
+  none_so : sought accesses (meaning accesses) scope depth (conditional p q) (Some p) (w, steps) ≡ (Ok None, (w, steps)) → rule accesses (meaning accesses) (task scope depth (conditional p q)) (w, steps) ≡ (Ok (flow.Value (value.Integer 0)), (w, steps))
+  unfolding rule conditional_rule give go_on ◌>>=◌
+  none_so is = rw is refl
+
+  referred : (r : Reference) (end : State S) → sought accesses (meaning accesses) scope depth (conditional p q) (Some p) (w, steps) ≡ (Ok (Some r), (w, steps)) → StoresTo scope q (value.Reference r) w end → Gives accesses scope depth (conditional p q) (w, suc steps) (2 ^ bits_of end.width - 1) (end, steps)
+  referred r end is h = (term_begins accesses (task scope depth (conditional p q))).paid w steps ∙ referred_so r end is h
+
+  not_referred : sought accesses (meaning accesses) scope depth (conditional p q) (Some p) (w, steps) ≡ (Ok None, (w, steps)) → Gives accesses scope depth (conditional p q) (w, suc steps) 0 (w, steps)
+  not_referred is = (term_begins accesses (task scope depth (conditional p q))).paid w steps ∙ none_so is
+
+module _ {S : Type 0} (accesses : Accesses S) (scope : List Seg) (depth : ℕ) (w : State S) (steps : ℕ) (q : Part) where
+  -- ---- names
+
+  name_sought : (n : Name) (path : List Seg) (e : Entry) → found w.names.map scope n ≡ Ok (path, e) → sought accesses (meaning accesses) scope depth (conditional (name n) q) (Some (name n)) (w, steps) ≡ (Ok (Some (reference.Name e.number)), (w, steps))
+  unfolding sought_name reference_if_found settle lift go_on ◌>>=◌
+  name_sought n path e finds = rw finds refl
+
+  none_sought : (n : Name) → found w.names.map scope n ≡ Err (refusal.Namespace NotFound) → sought accesses (meaning accesses) scope depth (conditional (name n) q) (Some (name n)) (w, steps) ≡ (Ok None, (w, steps))
+  unfolding sought_name reference_if_found settle lift go_on ◌>>=◌
+  none_sought n lost = rw lost refl
+
+  pub name_is_referred : (n : Name) (path : List Seg) (e : Entry) (end : State S) → found w.names.map scope n ≡ Ok (path, e) → StoresTo scope q (value.Reference (reference.Name e.number)) w end → Gives accesses scope depth (conditional (name n) q) (w, suc steps) (2 ^ bits_of end.width - 1) (end, steps)
+  name_is_referred n path e end finds h = referred accesses scope depth w steps (name n) q (reference.Name e.number) end (name_sought n path e finds) h
+
+  pub none_is_referred : (n : Name) → found w.names.map scope n ≡ Err (refusal.Namespace NotFound) → Gives accesses scope depth (conditional (name n) q) (w, suc steps) 0 (w, steps)
+  none_is_referred n lost = not_referred accesses scope depth w steps (name n) q (none_sought n lost)
+
+  -- ---- slots
+
+  slot_sought : (op : Opcode) (s : Slot) (v : Value) → NamesSlot op s → (h : SlotHolds w s v) → IsNumberedLast w h.frame h.last
+      → sought accesses (meaning accesses) scope depth (conditional (inner (alone op)) q) (Some (inner (alone op))) (w, steps) ≡ (Ok (Some (reference.Slot s h.frame.number)), (w, steps))
+  unfolding sought_target slot_reference latest_frame frame_number slot_initialized frame_found slot_held lift give go_on ◌>>=◌
+  slot_sought op s v names h numbered = rw (target_is accesses scope depth (conditional (inner (alone op)) q) 0 w steps (inner (alone op)) (targets.Slot s) (slot op s names) refl, h.latest, h.stands, numbered, h.stands, h.holds, some_reference v (reference.Slot s h.frame.number) h.initialized) refl
+
+  empty_sought : (op : Opcode) (s : Slot) → NamesSlot op s → (h : SlotIsEmpty w s) → IsNumberedLast w h.frame h.last → sought accesses (meaning accesses) scope depth (conditional (inner (alone op)) q) (Some (inner (alone op))) (w, steps) ≡ (Ok None, (w, steps))
+  unfolding sought_target slot_reference latest_frame frame_number slot_initialized frame_found slot_held lift give go_on ◌>>=◌
+  empty_sought op s names h numbered = rw (target_is accesses scope depth (conditional (inner (alone op)) q) 0 w steps (inner (alone op)) (targets.Slot s) (slot op s names) refl, h.latest, h.stands, numbered, h.stands, h.empty) refl
+
+  pub slot_is_referred : (op : Opcode) (s : Slot) (v : Value) (end : State S) → NamesSlot op s → (h : SlotHolds w s v) → IsNumberedLast w h.frame h.last → StoresTo scope q (value.Reference (reference.Slot s h.frame.number)) w end
+      → Gives accesses scope depth (conditional (inner (alone op)) q) (w, suc steps) (2 ^ bits_of end.width - 1) (end, steps)
+  slot_is_referred op s v end names h numbered stores = referred accesses scope depth w steps (inner (alone op)) q (reference.Slot s h.frame.number) end (slot_sought op s v names h numbered) stores
+
+  pub empty_is_not_referred : (op : Opcode) (s : Slot) → NamesSlot op s → (h : SlotIsEmpty w s) → IsNumberedLast w h.frame h.last → Gives accesses scope depth (conditional (inner (alone op)) q) (w, suc steps) 0 (w, steps)
+  empty_is_not_referred op s names h numbered = not_referred accesses scope depth w steps (inner (alone op)) q (empty_sought op s names h numbered)

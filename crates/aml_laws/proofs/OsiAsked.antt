@@ -1,0 +1,75 @@
+-- What \_OSI answers of a text.
+use Rattle.std.specs.Prelude.{◌≡◌, ◌||◌, ℕ, suc, List, [], ◌∷◌, Bool, true, false, Ok, refl}
+use Rattle.std.specs.Ordering.{is_eq, nat_cmp}
+use Rattle.std.specs.Cmp.Lexicographic.{slice_cmp}
+use Rattle.std.specs.FinMap.{nat_cmp-IsAntisymmetric, slice_cmp-IsAntisymmetric}
+use Rattle.std.specs.declared.cmp.Ordering.{Ordering}
+use Rattle.std.specs.declared.cmp.Ordering.TheVariants.{Less, Equal, Greater}
+use Rattle.std.proofs.Common.{ap, sym, subst, ◌∙◌}
+use Rattle.std.proofs.lemmas.Cmp.{nat_list_cmp_total}
+use Rattle.ar_space.specs.Accesses.{Accesses}
+use Rattle.ar_space.specs.Change.{give, settle, go_on, ◌>>=◌}
+use Rattle.aml_path.specs.declared.segment.Seg.{Seg}
+use Rattle.aml_path.specs.Paths.{Name}
+use Rattle.aml_grammar.specs.Tree.{Tree}
+use Rattle.aml_objects.specs.declared.value.Value.TheVariants as value
+use Rattle.aml_convert.specs.Integers.{truth}
+use Rattle.aml_meaning.specs.declared.flow.Flow.TheVariants as flow
+use Rattle.aml_meaning.specs.State.{State}
+use Rattle.aml_meaning.specs.Run.{lift}
+use Rattle.aml_meaning.specs.Tasks.{task, operand_value}
+use Rattle.aml_meaning.specs.Readings.{entry_found, arguments_found}
+use Rattle.aml_meaning.specs.Invocations.{named_use, invocation_found}
+use Rattle.aml_meaning.specs.InvocationTerms.{arguments_in_turn, osi_rule, name_value}
+use Rattle.aml_meaning.specs.Osi.{same_text, is_known, osi_answered}
+use Rattle.aml_meaning.specs.Evaluation.{rule}
+use Rattle.aml_meaning.specs.Meaning.{meaning}
+use Rattle.aml_laws.specs.OperatorTerms.{Gives}
+use Rattle.aml_laws.specs.TestTerms.{IsTruth}
+use Rattle.aml_laws.specs.NamesUsed.{call_of_one, IsAmong, first, later, AsksOsi}
+use Rattle.aml_laws.proofs.TreesCost.{term_begins}
+use Rattle.aml_laws.proofs.LimitsRefused.{call_shallow}
+use Rattle.aml_laws.proofs.OrderedValues.{total_itself}
+use Rattle.aml_laws.proofs.TestsTold.{truth_by}
+
+is_equal_by : (o : Ordering) → is_eq o ≡ true → o ≡ Equal
+is_equal_by Less e = absurd (cc e)
+is_equal_by Equal e = refl
+is_equal_by Greater e = absurd (cc e)
+
+same_so : (a b : List ℕ) → same_text a b ≡ true → a ≡ b
+same_so a b e = slice_cmp-IsAntisymmetric nat_cmp-IsAntisymmetric a b (is_equal_by (slice_cmp nat_cmp a b) e)
+
+same_itself : (a : List ℕ) → same_text a a ≡ true
+same_itself a = ap is_eq (total_itself nat_list_cmp_total (slice_cmp-IsAntisymmetric nat_cmp-IsAntisymmetric) a)
+
+among_by : (t : List ℕ) (ts : List (List ℕ)) (text : List ℕ) (b : Bool) → same_text t text ≡ b → (is_known ts text ≡ true → IsAmong text ts) → (b || is_known ts text) ≡ true → IsAmong text (t ∷ ts)
+among_by t ts text true is others e = subst (λ u. IsAmong text (u ∷ ts)) (sym (same_so t text is)) (first ts)
+among_by t ts text false is others e = later t ts (others e)
+
+among_so : (texts : List (List ℕ)) (text : List ℕ) → is_known texts text ≡ true → IsAmong text texts
+among_so [] text e = absurd (cc e)
+among_so (t ∷ ts) text e = among_by t ts text (same_text t text) refl (among_so ts text) e
+
+first_known : (b c : Bool) → b ≡ true → (b || c) ≡ true
+first_known true c e = refl
+first_known false c e = absurd (cc e)
+
+later_known : (b c : Bool) → c ≡ true → (b || c) ≡ true
+later_known true c e = refl
+later_known false c e = e
+
+known_so : (text : List ℕ) (texts : List (List ℕ)) → IsAmong text texts → is_known texts text ≡ true
+known_so text _ (first others) = first_known (same_text text text) (is_known others text) (same_itself text)
+known_so text _ (later other others h) = later_known (same_text other text) (is_known others text) (known_so text others h)
+
+not_among : (texts : List (List ℕ)) (text : List ℕ) → is_known texts text ≡ false → IsAmong text texts → ⊥
+not_among texts text e h = let both : true ≡ false = sym (known_so text texts h) ∙ e in absurd (cc both)
+
+module _ {S : Type 0} (accesses : Accesses S) (scope : List Seg) (depth : ℕ) (n : Name) (x : Tree) (w : State S) (steps : ℕ) (text : List ℕ) (after : State S × ℕ) (h : AsksOsi accesses scope depth n x (w, steps) text after) where
+  answered_so : rule accesses (meaning accesses) (task scope depth (call_of_one n x)) (w, steps) ≡ (Ok (flow.Value (value.Integer (truth after.0.width (is_known after.0.osi text)))), after)
+  unfolding rule name_value invocation_found arguments_found entry_found named_use osi_rule arguments_in_turn operand_value osi_answered settle lift give go_on ◌>>=◌
+  answered_so = rw (h.finds, h.takes_one, h.finds, h.gives, call_shallow depth after.0 h.shallow h.allowed, h.holds) refl
+
+  pub osi_tells : (k : ℕ) × IsTruth after.0.width (IsAmong text after.0.osi) k × Gives accesses scope depth (call_of_one n x) (w, suc steps) k after
+  osi_tells = (truth after.0.width (is_known after.0.osi text), truth_by after.0.width (is_known after.0.osi text) (IsAmong text after.0.osi) (among_so after.0.osi text) (not_among after.0.osi text), (term_begins accesses (task scope depth (call_of_one n x))).paid w steps ∙ answered_so)

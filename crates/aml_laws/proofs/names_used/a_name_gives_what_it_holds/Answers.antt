@@ -1,0 +1,8 @@
+use Rattle.aml_laws.proofs.NamesGiven.{name_gives, slot_is_given}
+use Rattle.aml_laws.proofs.names_used.a_name_gives_what_it_holds.Goals as goal
+
+pub returns-clause-names : goal.returns-clause-names
+returns-clause-names g c = name_gives
+
+pub returns-clause-slots : goal.returns-clause-slots
+returns-clause-slots g c = slot_is_given

@@ -1,0 +1,92 @@
+//! References to parts of objects and to names, and what is asked of objects.
+ghost use Rattle.std.specs.Prelude.{◌≡◌, ◌≢◌, ◌<◌, ◌≤◌, ◌-◌, ◌^◌, ℕ, suc, List, Some, Ok, Err};
+ghost use Rattle.std.specs.FinMap.{get};
+ghost use Rattle.ar_space.specs.Accesses.{Accesses};
+ghost use Rattle.ar_space.specs.declared.refusal.Refusal.TheVariants as refusal;
+ghost use Rattle.ar_space.specs.declared.refusal.EvaluationFault.TheVariants.{IndexLimit};
+ghost use Rattle.ar_space.specs.declared.refusal.NamespaceFault.TheVariants.{NotFound};
+ghost use Rattle.aml_path.specs.declared.segment.Seg.{Seg};
+ghost use Rattle.aml_path.specs.Paths.{Name};
+ghost use Rattle.aml_grammar.specs.Tree.{Tree, Part, name, inner};
+ghost use Rattle.aml_grammar.specs.declared.opcode.Opcode.{Opcode};
+ghost use Rattle.aml_grammar.specs.declared.opcode.Opcode.TheVariants as opcodes;
+ghost use Rattle.aml_objects.specs.declared.entry.Entry.{Entry};
+ghost use Rattle.aml_objects.specs.declared.value.Reference.{Reference};
+ghost use Rattle.aml_objects.specs.declared.value.Reference.TheVariants as reference;
+ghost use Rattle.aml_objects.specs.declared.value.Slot.{Slot};
+ghost use Rattle.aml_objects.specs.declared.value.Value.{Value};
+ghost use Rattle.aml_objects.specs.declared.value.Value.TheVariants as value;
+ghost use Rattle.aml_convert.specs.Integers.{bits_of};
+ghost use Rattle.aml_namespace.specs.Search.{found};
+ghost use Rattle.aml_meaning.specs.declared.store_target.StoreTarget.{StoreTarget};
+ghost use Rattle.aml_meaning.specs.declared.store_target.StoreTarget.TheVariants as targets;
+ghost use Rattle.aml_meaning.specs.State.{State};
+ghost use Rattle.aml_laws.specs.OperatorTerms.{alone, two_to, NamesSlot, NamesTarget, StoresTo, SlotHolds, SlotIsEmpty, TargetHolds, GivesValue, Gives, IsRefused};
+ghost use Rattle.aml_laws.specs.ReferringTerms.{HasParts, HasPart, Indexes, part_read, size_of, object_type, IsNumbered, IsNamedKind, conditional, IsNumberedLast};
+
+/// Index gives a reference to the element of a package, or to the byte of a string or of a buffer, that its second
+/// operand counts from 0, and stores it to its target; from the end on it is refused. DerefOf of it gives that element,
+/// where it holds a value, or that byte. An index that counts from 1, and one past the end, are refused by this.
+pub fn an_index_refers_to_a_part<S>()
+    ensures refers { (accesses : Accesses S) (scope : List Seg) (depth : ℕ) (x y : Tree) (w : State S) (steps : ℕ)
+        (v : Value) (i : ℕ) (after : State S × ℕ) → Indexes accesses scope depth x y (w, steps) v i after → (n : ℕ)
+        (f : ℕ → Reference) → HasParts after.0 v n f → i < n → (p : Part) (end : State S) →
+        StoresTo scope p (value.Reference (f i)) after.0 end → GivesValue accesses scope depth
+        (two_to opcodes.Index x y p) (w, suc steps) (value.Reference (f i)) (end, after.1) }
+    ensures past { (accesses : Accesses S) (scope : List Seg) (depth : ℕ) (x y : Tree) (w : State S) (steps : ℕ)
+        (v : Value) (i : ℕ) (after : State S × ℕ) → Indexes accesses scope depth x y (w, steps) v i after → (n : ℕ)
+        (f : ℕ → Reference) → HasParts after.0 v n f → n ≤ i → (p : Part) → IsRefused accesses scope depth
+        (two_to opcodes.Index x y p) (w, suc steps) (refusal.Evaluation IndexLimit) after }
+    ensures read { (accesses : Accesses S) (scope : List Seg) (depth : ℕ) (x y : Tree) (w : State S) (steps : ℕ)
+        (v r : Value) (i : ℕ) (after : State S × ℕ) → Indexes accesses scope depth x y (w, steps) v i after →
+        HasPart after.0 v i r → r ≢ value.Uninitialized →
+        GivesValue accesses scope depth (part_read x y) (w, suc (suc steps)) r after }
+{}
+
+/// SizeOf of a local, an argument or a name gives the number of bytes of the string or the buffer that it holds, or of
+/// the elements of the package. It changes nothing.
+pub fn a_size_counts_bytes_and_elements<S>()
+    ensures { (accesses : Accesses S) (scope : List Seg) (depth : ℕ) (p : Part) (w : State S) (steps : ℕ)
+        (t : StoreTarget) (v : Value) (n : ℕ) (f : ℕ → Reference) → NamesTarget scope w p t → TargetHolds w t v →
+        HasParts w v n f → Gives accesses scope depth (size_of p) (w, suc steps) n (w, steps) }
+{}
+
+/// ObjectType of a local, an argument or a name that holds a value gives the number of the type of this value, of a name
+/// that holds none that of what it names, of a slot that holds none 0, and of Debug 16 (ACPI 6.5, 19.6: ObjectType, its
+/// table). It changes nothing.
+pub fn object_types_have_their_numbers<S>()
+    ensures values { (accesses : Accesses S) (scope : List Seg) (depth : ℕ) (p : Part) (w : State S) (steps : ℕ)
+        (t : StoreTarget) (v : Value) (k : ℕ) → NamesTarget scope w p t → TargetHolds w t v → IsNumbered v k →
+        Gives accesses scope depth (object_type p) (w, suc steps) k (w, steps) }
+    ensures names { (accesses : Accesses S) (scope : List Seg) (depth : ℕ) (p : Part) (w : State S) (steps : ℕ)
+        (path : List Seg) (e : Entry) (k : ℕ) → NamesTarget scope w p (targets.Name path) →
+        get w.names.map path ≡ Some e → IsNamedKind e.object k →
+        Gives accesses scope depth (object_type p) (w, suc steps) k (w, steps) }
+    ensures nothing_yet { (accesses : Accesses S) (scope : List Seg) (depth : ℕ) (p : Part) (w : State S) (steps : ℕ)
+        (s : Slot) → NamesTarget scope w p (targets.Slot s) → SlotIsEmpty w s →
+        Gives accesses scope depth (object_type p) (w, suc steps) 0 (w, steps) }
+    ensures debug { (accesses : Accesses S) (scope : List Seg) (depth : ℕ) (w : State S) (steps : ℕ) →
+        Gives accesses scope depth (object_type (inner (alone opcodes.Debug))) (w, suc steps) 16 (w, steps) }
+{}
+
+/// CondRefOf of a name that is found stores a reference to its declaration and gives Ones; where none is found it stores
+/// nothing and gives Zero. Of a local or an argument it does the same by whether it holds a value. What it refers to
+/// isn't evaluated, and it changes nothing but its target. One that stores in either case, or that gives One, is refused
+/// by this.
+pub fn a_conditional_reference_tells_what_is_found<S>()
+    ensures name_found { (accesses : Accesses S) (scope : List Seg) (depth : ℕ) (w : State S) (steps : ℕ) (q : Part)
+        (n : Name) (path : List Seg) (e : Entry) (end : State S) → found w.names.map scope n ≡ Ok (path, e) →
+        StoresTo scope q (value.Reference (reference.Name e.number)) w end →
+        Gives accesses scope depth (conditional (name n) q) (w, suc steps) (2 ^ bits_of end.width - 1) (end, steps) }
+    ensures no_name { (accesses : Accesses S) (scope : List Seg) (depth : ℕ) (w : State S) (steps : ℕ) (q : Part)
+        (n : Name) → found w.names.map scope n ≡ Err (refusal.Namespace NotFound) →
+        Gives accesses scope depth (conditional (name n) q) (w, suc steps) 0 (w, steps) }
+    ensures slot_with_value { (accesses : Accesses S) (scope : List Seg) (depth : ℕ) (w : State S) (steps : ℕ) (q : Part)
+        (op : Opcode) (s : Slot) (v : Value) (end : State S) → NamesSlot op s → (h : SlotHolds w s v) →
+        IsNumberedLast w h.frame h.last → StoresTo scope q (value.Reference (reference.Slot s h.frame.number)) w end →
+        Gives accesses scope depth (conditional (inner (alone op)) q) (w, suc steps) (2 ^ bits_of end.width - 1)
+        (end, steps) }
+    ensures empty_slot { (accesses : Accesses S) (scope : List Seg) (depth : ℕ) (w : State S) (steps : ℕ) (q : Part)
+        (op : Opcode) (s : Slot) → NamesSlot op s → (h : SlotIsEmpty w s) → IsNumberedLast w h.frame h.last →
+        Gives accesses scope depth (conditional (inner (alone op)) q) (w, suc steps) 0 (w, steps) }
+{}

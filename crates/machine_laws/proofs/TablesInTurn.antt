@@ -1,0 +1,25 @@
+-- The tables of a machine are loaded one after another.
+use Rattle.std.specs.Prelude.{◌≡◌, ℕ, List, [], ◌∷◌, drop, Ok, Err, refl}
+use Rattle.ar_space.specs.Accesses.{Accesses}
+use Rattle.ar_space.specs.Outcome.{Outcome}
+use Rattle.ar_space.specs.Change.{give, settle, go_on, ◌>>=◌}
+use Rattle.ar_tables.specs.declared.tables.Tables.{Tables}
+use Rattle.aml_meaning.specs.State.{State}
+use Rattle.aml_meaning.specs.Predefined.{predefined}
+use Rattle.acpi_machine.specs.Loading.{few_texts, table_loaded, each_loaded, all_loaded, loaded_tables}
+use Rattle.machine_laws.specs.LoadedInTurn.{LoadedInTurn, no_more, refused, next}
+
+module _ {S : Type 0} (accesses : Accesses S) (steps : ℕ) where
+  each_in_turn : (tables : List (List ℕ)) (w end : State S) (r : Outcome (Unit {0})) → LoadedInTurn accesses steps tables w r end → each_loaded accesses steps tables w ≡ (r, end)
+  unfolding each_loaded table_loaded give go_on ◌>>=◌
+  each_in_turn ts u v x (no_more w) = refl
+  each_in_turn ts u v x (refused table tables w after e is) = rw is refl
+  each_in_turn ts u v x (next table tables w after end r is rest) = rw is (each_in_turn tables after end r rest)
+
+  pub all_in_turn : (t : Tables) (w end : State S) (r : Outcome (Unit {0})) → LoadedInTurn accesses steps (t.dsdt ∷ t.ssdts) w r end → all_loaded accesses t steps w ≡ (r, end)
+  unfolding all_loaded each_loaded table_loaded give go_on ◌>>=◌
+  all_in_turn t w end r is = each_in_turn (t.dsdt ∷ t.ssdts) w end r is
+
+  pub loaded_behind_the_predefined : (t : Tables) (osi : List (List ℕ)) (w before : State S) → few_texts osi ≡ Ok tt → predefined w ≡ (Ok tt, before) → loaded_tables accesses t steps osi w ≡ all_loaded accesses t steps before
+  unfolding loaded_tables settle go_on ◌>>=◌
+  loaded_behind_the_predefined t osi w before few is = rw (few, is) refl
