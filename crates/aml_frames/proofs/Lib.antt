@@ -32,5 +32,5 @@ mod MatchShapes
 pub mod UnitSteps
 pub mod Unwinding
 pub mod WideSteps
-pub mod Turns
+pub mod LoopTurns
 mod Arguments

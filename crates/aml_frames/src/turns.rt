@@ -27,7 +27,7 @@ fn waiting_loop(stack: &Stack) -> Option<Loop>
 }
 
 /// A list has ended: what waits for it goes on.
-#[tactic(auto, using(crate::proofs::Turns::turning))]
+#[tactic(auto, using(crate::proofs::LoopTurns::turning))]
 pub(crate) fn end_list<S: Space>(
     run: &mut Running<S>,
     stack: &mut Stack,
@@ -49,7 +49,7 @@ pub(crate) fn end_list<S: Space>(
 
 /// The list of a While has ended, which waits on the top of the stack.
 #[inline(always)]
-#[tactic(auto, using(crate::proofs::Turns::turning))]
+#[tactic(auto, using(crate::proofs::LoopTurns::turning))]
 fn end_turn<S: Space>(
     run: &mut Running<S>,
     stack: &mut Stack,
