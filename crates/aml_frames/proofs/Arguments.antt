@@ -24,7 +24,7 @@ use Rattle.aml_frames.proofs.Stepping.{leads_argument, leads_no_argument, ends_a
 abbrev pub fewer : Call → Call
 fewer k = record k { left = k.left - 1 }
 
-module _ {S : Type 0} {ac : Accesses S} where
+module _ {S : Type 0} (ac : Accesses S) where
   -- an argument is there, and the call goes on behind it
   argument_taken : (c d : Site) (k j : Call) (n : ℕ) (s s1 : State S × ℕ) → 0 < k.left → Does (Ok (flow.Value (value.Integer n))) s1 (term_run ac (meaning ac) c k.levels) s → d ≡ behind_term c k.levels
       → j.callee ≡ k.callee → j.left ≡ k.left - 1 → j.levels ≡ k.levels → j.done.items ≡ k.done.items ++ value.Integer n ∷ []
@@ -40,6 +40,7 @@ module _ {S : Type 0} {ac : Accesses S} where
       → Same m s0 (arguments_left ac (meaning ac) j j.done.items d) s1
   same_argument {s = s} {s1 = s1} c d k j n h some g at callee left levels done = record { is = h.is ∙ argument_taken c d k j n s s1 some g at callee left levels done }
 
+module _ {S : Type 0} {ac : Accesses S} where
   -- an argument is refused
   pub argument_refused : {m : Run S Flow} {r : Outcome Next} {d : Site} {s0 s s1 : State S × ℕ} (c : Site) (k : Call) (e : Refusal) → Same m s0 (arguments_left ac (meaning ac) k k.done.items c) s → 0 < k.left → Does {A = Flow} (Err e) s1 (term_run ac (meaning ac) c k.levels) s → IsErr r × IsErrAnd r (λ y. y ≡ e)
       → Leads ac (meaning ac) r d s1 m s0

@@ -299,10 +299,10 @@ module _ {S : Type 0} {ac : Accesses S} where
       goes_then (control.Term i.levels) (item_waits c xs i n (never_passed c b flag s same told fails) some left one) (goes_leads x d (behind_term c i.levels) ys _ (rw same at l) (rw same at ends) g)
 
   -- an item that is done at once leaves what it leaves to the items behind it
-  pub item_done : {r : Outcome Control} {e : Site} {ys : List Entry} {s s1 s2 : State S × ℕ} (f : Flow) (c b d : Site) (xs : List Entry) (i : Items) (n : ℕ) (flag : Bool) → flag ≡ passes_over b.depth s.0.profile → flag ≡ false → 0 < i.left → 0 < length c.place.rest → n ≡ i.left - 1 → Does (Ok f) s1 (term_run ac (meaning ac) b i.levels) s → b ≡ c → d ≡ behind_term b i.levels
+  pub item_at_once : {r : Outcome Control} {e : Site} {ys : List Entry} {s s1 s2 : State S × ℕ} (f : Flow) (c b d : Site) (xs : List Entry) (i : Items) (n : ℕ) (flag : Bool) → flag ≡ passes_over b.depth s.0.profile → flag ≡ false → 0 < i.left → 0 < length c.place.rest → n ≡ i.left - 1 → Does (Ok f) s1 (term_run ac (meaning ac) b i.levels) s → b ≡ c → d ≡ behind_term b i.levels
       → Goes ac (meaning ac) r e ys s2 (machine ac (meaning ac) (control.Flow f) d (xs ++ entry.Frame (frames.Items (record { left = n; levels = i.levels; outer = i.outer })) ∷ [])) s1
       → Goes ac (meaning ac) r e ys s2 (machine ac (meaning ac) (control.Items i) c xs) s
-  item_done f c b d xs i n flag told fails some left one h same ends g = item_next (next.Flow f) c b d xs i n flag told fails some left one (leads_done f _ h) same ends g
+  item_at_once f c b d xs i n flag told fails some left one h same ends g = item_next (next.Flow f) c b d xs i n flag told fails some left one (leads_done f _ h) same ends g
 
   -- an item that isn't done at once has changed nothing where it begins
   pub item_begins : {r : Outcome Control} {e : Site} {ys : List Entry} {s t s1 s2 : State S × ℕ} (x : Next) (c b a d : Site) (xs : List Entry) (i : Items) (n : ℕ) (flag : Bool) → flag ≡ passes_over b.depth s.0.profile → flag ≡ false → 0 < i.left → 0 < length c.place.rest → n ≡ i.left - 1 → b ≡ c → t ≡ s → a ≡ b → Leads ac (meaning ac) (Ok x) d s1 (term_run ac (meaning ac) a i.levels) t → next_ends x d ≡ behind_term a i.levels
@@ -351,7 +351,7 @@ falls_kept (Ok c) a levels xs ys x pushed next =
     omega (arith, k, none)
 falls_kept (Err e) a levels xs ys x pushed next = tt
 
-pub ruleset listing_on = (list_over, list_passed, falls_once, item_done, falls_kept, weight_on, falls_item, falls_done, item_last, item_on, item_none, item_over, item_begins, item_begin_refused, item_next, item_refused, item_kept, given_ok, never_refused, never_err, never_memory, refused_begun, goes_memory)
+pub ruleset listing_on = (list_over, list_passed, falls_once, item_at_once, falls_kept, weight_on, falls_item, falls_done, item_last, item_on, item_none, item_over, item_begins, item_begin_refused, item_next, item_refused, item_kept, given_ok, never_refused, never_err, never_memory, refused_begun, goes_memory)
 
 pub ruleset going = (never_refused, weight_on, goes_flow, goes_items, goes_package, goes_term, goes_turn, goes_scope, goes_body, goes_body_then, goes_target, goes_division, goes_found, goes_read, goes_counted, goes_access_then, goes_flow_then, goes_memory)
 

@@ -24,13 +24,14 @@ pub arguments-preserved : goal.arguments-preserved
 arguments-preserved g c =
     let some : 0 < c.arguments.call.left = rw c.get.ensures at c.arguments-test.true in
     let taken : c.deref_mut.result.now ≡ fewer c.arguments.call = c.deref_mut.ensures.value ∙ (c.call-in-Some.view_is ∙ c.one_fewer-call.ensures) in
+    let j : Call = record c.deref_mut.result.now { done = c.push.new.self } in
     let integer = rw (c.in-Some.is, c.get-in-arguments.ensures) at c.in_ok-known.ensures.integer in
     let behind = rw (c.in-Some.is, c.get-in-arguments.ensures) at c.in_ok-known.ensures.behind in
     let pushed = c.in_ok-push-in-Some.ensures.items ∙ ap (λ (k : Call). k.done.items ++ value.Integer c.in-Some.number ∷ []) taken in
     record {
       spent = omega (arith, c.in_ok-known.ensures.spent, c.arguments.invariant.spent);
-      same = same_argument c.arguments.act c.known_integer.new.act c.arguments.call _ c.in-Some.number c.arguments.invariant.same some integer behind (ap (λ (k : Call). k.callee) taken) (ap (λ (k : Call). k.left) taken) (ap (λ (k : Call). k.levels) taken) pushed;
-      ends = ends_taken _ c.arguments.act c.known_integer.new.act c.arguments.call _ c.arguments.invariant.ends some behind (ap (λ (k : Call). k.left) taken) (ap (λ (k : Call). k.levels) taken);
+      same = same_argument g.S.Space.accesses c.arguments.act c.known_integer.new.act c.arguments.call j c.in-Some.number c.arguments.invariant.same some integer behind (ap (λ (k : Call). k.callee) taken) (ap (λ (k : Call). k.left) taken) (ap (λ (k : Call). k.levels) taken) pushed;
+      ends = ends_taken _ c.arguments.act c.known_integer.new.act c.arguments.call j c.arguments.invariant.ends some behind (ap (λ (k : Call). k.left) taken) (ap (λ (k : Call). k.levels) taken);
     }
 
 pub returns-clause-means : goal.returns-clause-means
