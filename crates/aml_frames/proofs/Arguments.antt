@@ -1,6 +1,6 @@
 -- Arguments of a call that are integers which are there already: the call goes on behind them.
 use Rattle.std.specs.Prelude.{◌≡◌, ◌<◌, ◌-◌, ℕ, [], ◌∷◌, ◌++◌, Ok, Err, IsErr, IsErrAnd, refl}
-use Rattle.std.proofs.Common.{◌∙◌, ap, sym, subst}
+use Rattle.std.proofs.Common.{◌∙◌, subst}
 use Rattle.ar_space.specs.Accesses.{Accesses}
 use Rattle.ar_space.specs.Outcome.{Outcome}
 use Rattle.ar_space.specs.Change.{Does, Same, settle, go_on, ◌>>=◌}

@@ -1,5 +1,5 @@
 -- The turns of a While that waits on the top of the stack.
-use Rattle.std.specs.Prelude.{◌≡◌, ℕ, ◌+◌, ◌-◌, ◌<◌, ◌≤◌, true, List, [], ◌∷◌, ◌++◌, length, take, slice_get, Some, Ok, Err, IfOk, IfErr, IsErr, IsErrAnd, refl}
+use Rattle.std.specs.Prelude.{◌≡◌, ℕ, ◌+◌, ◌-◌, ◌<◌, ◌≤◌, true, List, [], ◌∷◌, ◌++◌, length, take, slice_get, Some, Ok, Err, IfOk, IfErr, IsErr, IsErrAnd}
 use Rattle.std.proofs.Common.{◌∙◌, ap, sym, subst, arith}
 use Rattle.ar_space.specs.Accesses.{Accesses}
 use Rattle.ar_space.specs.declared.refusal.Refusal.{Refusal}
@@ -19,16 +19,13 @@ use Rattle.aml_frames.specs.declared.frames.Next.{Next}
 use Rattle.aml_frames.specs.declared.frames.Next.TheVariants as next
 use Rattle.aml_frames.specs.Places.{Site}
 use Rattle.aml_frames.specs.Follow.{ends, turn_items, resumed, next_run, next_ends, Leads}
-use Rattle.aml_frames.specs.Weights.{next_weight, charged}
+use Rattle.aml_frames.specs.Weights.{charged}
 use Rattle.aml_frames.specs.Stack.{TurnWaits, then_all, machine, Goes, stack_weight, control_weight}
 use Rattle.aml_frames.proofs.Machine.{weight_on, goes_flow, goes_frame, goes_leads, goes_leads_err, goes_turn}
 use Rattle.aml_frames.proofs.PassedItems.{never_refused, never_memory}
 use Rattle.aml_frames.proofs.Weighing.{charged_less}
 
 -- ---- the entry on the top
-
-one_less : (n : ℕ) → (n + 1) - 1 ≡ n
-one_less n = omega arith
 
 last_at : (y : Entry) (ys : List Entry) (x : Entry) → slice_get (y ∷ ys) (length ys) ≡ Some x → y ∷ ys ≡ take (length ys) (y ∷ ys) ++ x ∷ []
 last_at y [] x e = ap (λ z. z ∷ []) (cc e)

@@ -1,10 +1,10 @@
-use Rattle.std.proofs.Common.{refl, ap}
+use Rattle.std.proofs.Common.{refl}
 use Rattle.aml_frames.proofs.Machine.{falls_item, falls_once}
 use Rattle.aml_frames.proofs.PassedItems.{refused_begun}
 use Rattle.aml_frames.proofs.lists.step_items.Goals as goal
 
-pub returns-in-None-clause-falls : goal.returns-in-None-clause-falls
-returns-in-None-clause-falls g c =
+pub returns-in_ok-next-in-None-clause-falls : goal.returns-in_ok-next-in-None-clause-falls
+returns-in_ok-next-in-None-clause-falls g c =
     let paid = rw (c.in-None.ensures.none refl) at c.in_ok-next-in-None.ensures.paid in
     falls_item c.follow_item.result c.begin_term.new.run.1 c.args.run.now.1 _ _ _ _ paid c.in_ok-next-in-None.ensures.falls c.follow_item.ensures.falls
 
