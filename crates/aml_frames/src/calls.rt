@@ -13,6 +13,7 @@ use crate::activation::Activation;
 use crate::addresses::PciAccess;
 use crate::boxed::Boxed;
 use crate::frames::{Call, Callee, Frame, Next};
+use crate::known::known_integer;
 use crate::position::MethodPath;
 use crate::tracing::told_path;
 use aml_meaning::{Flow, Running};
@@ -21,8 +22,9 @@ use aml_path::Path;
 use ar_space::{Refusal, Space};
 use std::alloc::Global;
 
-/// A call whose arguments that are left stand next: the first of them is evaluated, or the call is made.
-#[tactic(auto, using(crate::proofs::Stepping::calls))]
+/// A call whose arguments that are left stand next: those that are integers which are there already are taken at once.
+/// The first other one is evaluated, or the call is made.
+#[tactic(auto, using(crate::proofs::Stepping::calls, crate::proofs::Arguments::arguing))]
 pub fn begin_call<S: Space>(
     alloc: Global,
     run: &mut Running<S>,
@@ -35,11 +37,17 @@ pub fn begin_call<S: Space>(
         (arguments_left S.accesses (meaning S.accesses) call call.done.items act.old) run.old }
     ensures ends { EndsAt result act.new (behind_arguments call act.old) }
 {
-    if call.get().left == 0 {
-        return begin_callee(alloc, run, act, call.into_inner());
+    let mut call = call;
+    'arguments: while call.get().left > 0 {
+        let levels = call.get().levels;
+        let known = known_integer(run, act, levels)?;
+        call = one_fewer(call);
+        match known {
+            None => return Ok(Next::Term(levels, Frame::Argument(call))),
+            Some(number) => call.inside.done.push(Value::Integer(number))?,
+        }
     }
-    let levels = call.get().levels;
-    Ok(Next::Term(levels, Frame::Argument(one_fewer(call))))
+    begin_callee(alloc, run, act, call.into_inner())
 }
 
 /// The same call, of which one argument fewer is left.

@@ -3,6 +3,7 @@ ghost use Rattle.std.specs.Prelude.{◌≡◌, ◌≤◌, ◌<◌, ◌+◌, Ok, 
 ghost use Rattle.ar_space.specs.Outcome.{NotMemory};
 ghost use Rattle.aml_meaning.specs.Meaning.{meaning};
 ghost use Rattle.aml_frames.specs.declared.frames.Frame.TheVariants as frames;
+ghost use Rattle.aml_frames.specs.declared.frames.Loop.{Loop};
 ghost use Rattle.aml_frames.specs.declared.frames.Next.TheVariants as next;
 ghost use Rattle.aml_frames.specs.Follow.{at_position, turn_left, resumed, ends, next_run, next_ends, Leads, EndsAt};
 ghost use Rattle.aml_frames.specs.Weights.{weight, next_weight, charged};
@@ -106,6 +107,7 @@ fn resume_predicate<S: Space>(
 #[tactic(auto, using(crate::proofs::Stepping::looping))]
 fn next_turn<S: Space>(run: &Running<S>, act: &mut Activation, turn: Loop, holds: bool) -> Next
     ensures falls { next_weight result < 6 }
+    ensures same { (again : Loop) → result ≡ next.Turn again → again ≡ turn }
     ensures means { Leads S.accesses (meaning S.accesses) (Ok result) act.new run.now
         (turn_left S.accesses (meaning S.accesses) turn act.old holds) run.now }
     ensures ends { next_ends result act.new ≡ at_position act.old turn.outer }
@@ -129,6 +131,7 @@ pub(crate) fn begin_predicate<S: Space>(
     ensures spent { run.new.1 ≤ run.old.1 }
     ensures few { IfOk result (λ n. next_weight n < 6) }
     ensures falls { IfOk result (λ n. charged run.new.1 + next_weight n < charged run.old.1 + 4) }
+    ensures same { IfOk result (λ n. (again : Loop) → n ≡ next.Turn again → again ≡ turn) }
     ensures memory { NotMemory result }
     ensures means { Leads S.accesses (meaning S.accesses) result act.new run.new
         (next_run S.accesses (meaning S.accesses) (next.Term turn.levels (frames.Predicate turn)) act.old) run.old }
@@ -142,13 +145,14 @@ pub(crate) fn begin_predicate<S: Space>(
 
 /// A turn of a While is done.
 #[tactic(auto, using(crate::proofs::Stepping::looping, crate::proofs::Knowing::going_on))]
-fn resume_turn<S: Space>(
+pub(crate) fn resume_turn<S: Space>(
     run: &mut Running<S>,
     act: &mut Activation,
     turn: Loop,
     flow: Flow,
 ) -> Result<Next, Refusal>
     ensures spent { run.new.1 ≤ run.old.1 }
+    ensures same { IfOk result (λ n. (again : Loop) → n ≡ next.Turn again → again ≡ turn) }
     ensures falls { IfOk result (λ n. charged run.new.1 + next_weight n < charged run.old.1 + 4) }
     ensures memory { NotMemory result }
     ensures means { Leads S.accesses (meaning S.accesses) result act.new run.new
@@ -248,20 +252,14 @@ pub fn resume<S: Space>(
         Frame::Fatal => resume_fatal(run, act, flow),
         Frame::Argument(call) => resume_argument(alloc, run, act, call, flow),
         Frame::Buffer(outer) => resume_buffer(alloc, run, act, outer, flow),
-        Frame::VarPackage(levels, outer) => {
-            resume_var_package(alloc, run, act, levels, outer, flow)
-        }
+        Frame::VarPackage(levels, end) => resume_var_package(alloc, run, act, levels, end, flow),
         Frame::Element(filling) => resume_element(run, act, filling, flow),
         Frame::Operand(kind, levels) => resume_operand(alloc, run, act, kind, levels, flow),
         Frame::First(kind, levels) => resume_first(alloc, run, act, kind, levels, flow),
         Frame::Second(operator) => resume_second(alloc, run, act, operator, flow),
-        Frame::Third(levels, source, start) => {
-            resume_third(alloc, run, act, levels, (source, start), flow)
-        }
+        Frame::Third(levels, value, at) => resume_third(alloc, run, act, levels, (value, at), flow),
         Frame::Give(value) => leave(Flow::Value(value)),
-        Frame::Quotient(levels, quotient) => {
-            resume_quotient(alloc, run, act, levels, quotient, flow)
-        }
+        Frame::Quotient(levels, value) => resume_quotient(alloc, run, act, levels, value, flow),
         Frame::Found => resume_found(run, act, flow),
         Frame::IndexTarget(target_use) => resume_index_target(alloc, run, act, target_use, flow),
         Frame::DerefTarget(target_use) => resume_dereferenced(alloc, run, act, target_use, flow),
@@ -272,9 +270,7 @@ pub fn resume<S: Space>(
         Frame::UnitMerged(writes, number) => write_merged(alloc, run, act, writes, number),
         Frame::UnitWritten(writes) => next_write(alloc, run, act, writes.into_inner()),
         Frame::BankRead(units, unit) => read_selected(alloc, run, act, units, unit),
-        Frame::BankWrite(writes, offset, number) => {
-            write_selected(alloc, run, act, writes, offset, number)
-        }
+        Frame::BankWrite(unit, at, number) => write_selected(alloc, run, act, unit, at, number),
         Frame::Named(name) => resume_named(alloc, run, act, name, flow),
         Frame::Declaration(part) => resume_declaration(alloc, run, act, part, flow),
         Frame::Scope(scope, node) => resume_scope(run, act, scope, node, flow),

@@ -1,5 +1,5 @@
 //! The machine: a loop over a stack of frames.
-ghost use Rattle.std.specs.Prelude.{◌≡◌, ◌≢◌, ◌≤◌, ◌<◌, ◌+◌, ◌*◌, [], ◌∷◌, ◌++◌, true, Ok, Err, OnOk, OnErr, IfOk, IfErr, IsOk};
+ghost use Rattle.std.specs.Prelude.{◌≡◌, ◌≢◌, ◌≤◌, ◌<◌, ◌+◌, ◌*◌, [], ◌∷◌, ◌++◌, true, Ok, Err, OnOk, OnErr, IfOk, IfErr};
 ghost use Rattle.ar_space.specs.Change.{Does, stop};
 ghost use Rattle.ar_space.specs.Outcome.{NotMemory, seen};
 ghost use Rattle.ar_space.specs.declared.refusal.Refusal.TheVariants.{OutOfMemory};
@@ -26,10 +26,10 @@ use crate::activation::Activation;
 use crate::addresses::PciAccess;
 use crate::boxed::Boxed;
 use crate::field_access::begin_access;
-use crate::frames::{Control, Entry, Frame, Items, ListItem, Next, Package};
+use crate::frames::{Control, Entry, Frame, Items, Next, Package};
 use crate::lists::{next_item, step_items};
 use crate::packages::begin_element;
-use crate::passing::pass_item_over;
+use crate::passing::{meet_item, pass_item_over};
 use crate::position::{MethodPath, Position};
 use crate::resuming::resume;
 use crate::targets::begin_target;
@@ -320,25 +320,6 @@ fn step_entry<S: Space>(
             Ok(Control::Flow(flow.of_call()))
         }
     }
-}
-
-/// A flow meets an item that might have been passed over: the list goes on, or it ends.
-#[cold]
-#[tactic(auto, using(crate::proofs::Machine::taking))]
-fn meet_item<S: Space>(
-    run: &Running<S>,
-    stack: &mut Stack,
-    item: Boxed<ListItem>,
-    flow: Flow,
-) -> Result<Control, Refusal>
-    ensures falls { IfOk result (λ c. stack_weight stack.new.entries.items + control_weight c <
-        stack_weight stack.old.entries.items + 6) }
-    ensures given { IsOk result }
-    ensures means { Goes S.accesses (meaning S.accesses) result stack.new.act stack.new.entries.items run.now
-        (machine S.accesses (meaning S.accesses) (control.Flow flow) stack.old.act
-        (stack.old.entries.items ++ entry.Item item ∷ [])) run.now }
-{
-    next_item(run, stack, item.get().behind, flow)
 }
 
 /// What is left to do is put on the stack.
