@@ -7,11 +7,11 @@ import re
 from pages import Wrong, files_in, text_of
 
 CODE = "crates/aml_frames/src"
-# The files that have no steps: the loop, which puts on the stack what a step leaves and begins it; and the types.
-LOOP, TYPES = "stack", "frames"
+# The files that have no steps: those of the loop, which puts on the stack what a step leaves and begins it; and the types.
+LOOPS, TYPES = ("stack", "waiting"), "frames"
 # What all terms share isn't followed: other terms, lists, targets, stores and accesses of fields, and going over what was read.
 SHARED = {
-    "begin_term", "begin_items", "begin_target", "begin_access", "begin_read", "begin_write", "store_value", "complete", "done", "resume",
+    "begin_term", "told_turn", "begin_target", "begin_access", "begin_read", "begin_write", "store_value", "complete", "done", "resume",
 }
 SHARED_USE = ("TargetUse", "Store")
 # A function: how far it stands in, its name, its head with the contract, and its body.
@@ -34,7 +34,7 @@ class Sources:
             file = os.path.basename(path)[:-3]
             for _, name, head, body in FUNCTION.findall(text_of(path)):
                 self.functions[file, name] = body
-                if STEP.search(f"{head}\n") and file not in (LOOP, TYPES):
+                if STEP.search(f"{head}\n") and file not in (*LOOPS, TYPES):
                     self.steps[file, name] = body
 
     def callee(self, file, name):
@@ -58,14 +58,14 @@ class Sources:
 
     def in_loop(self, enum, variant):
         """What the loop does for a variant: the text of its arm, and of the functions of the loop that it calls."""
-        loop = {name: body for (file, name), body in self.functions.items() if file == LOOP}
+        loop = {name: body for (file, name), body in self.functions.items() if file in LOOPS}
         found = [text for body in loop.values() for _, pattern, text in arms(body) if VARIANT.match(pattern).groups() == (enum, variant)]
         return found + [loop[name] for text in found for name in re.findall(r"(\w+)\(", text) if name in loop]
 
     def after(self, variant):
         """The frames that the loop puts on the stack for what a step leaves (`Next`), and the steps by which it begins this."""
         put = [it[1] for text in self.in_loop("Next", variant) for it in VARIANT.findall(text) if it[0] == "Frame"]
-        return put, [step for text in self.in_loop("Control", variant) for step in self.called(LOOP, text)]
+        return put, [step for text in self.in_loop("Control", variant) for step in self.called(LOOPS[0], text)]
 
 
 def arms(text):

@@ -30,7 +30,7 @@ use Rattle.aml_meaning.specs.Bridges.{bridges_above}
 use Rattle.aml_meaning.specs.Regions.{space_numbered, region_declared, integer_only, integer_alone, pci_space}
 use Rattle.aml_meaning.specs.Fields.{field_unit_bits, field_unit_written, region_bits, region_written, located, space_at, pci_address, inherited, bus_behind_all, field_part, bits_in}
 use Rattle.aml_meaning.specs.FieldCalls.{asked, answer_within, answer_over, method_integer}
-use Rattle.aml_meaning.specs.Invocations.{leaving, invoked, method_value, shallow, value_of_call}
+use Rattle.aml_meaning.specs.Invocations.{leaving, invoked, method_value, call_allowed, value_of_call}
 use Rattle.aml_meaning.proofs.Runs.{running, does_lift}
 use Rattle.aml_frames.specs.declared.addresses.Asked.{Asked}
 use Rattle.aml_frames.specs.declared.addresses.Asked.TheVariants as answers
@@ -197,7 +197,7 @@ module _ {S : Type 0} {ac : Accesses S} where
   asks_err {r = Ok x} b m k h i = absurd (cc i.0)
   asks_err {r = Err x} b m k h i = record { is = λ ne. rw (h.is (λ q. ne (i.1 ∙ q)), i.1) refl }
 
-  pub asks_over : {r : Outcome Asked} {s s1 : State S × ℕ} (calls : ℕ) (i : Invocation) → calls ≢ 0 → Asks ac (meaning ac) r s1 (lift (shallow (32 - calls)) >>= (λ few. answer_over ac (meaning ac) (calls - 1) (asked (answer_within ac (meaning ac) (calls - 1))) i)) s → Asks ac (meaning ac) r s1 (answer_within ac (meaning ac) calls i) s
+  pub asks_over : {r : Outcome Asked} {s s1 : State S × ℕ} (calls : ℕ) (i : Invocation) → calls ≢ 0 → Asks ac (meaning ac) r s1 (lift (call_allowed (32 - calls)) >>= (λ few. answer_over ac (meaning ac) (calls - 1) (asked (answer_within ac (meaning ac) (calls - 1))) i)) s → Asks ac (meaning ac) r s1 (answer_within ac (meaning ac) calls i) s
   unfolding answer_within
   asks_over zero i l h = absurd (l refl)
   asks_over (suc n) i l h = let made : 32 - suc n ≡ 31 - n = omega arith in rw (sub-one, made) at h

@@ -11,6 +11,7 @@ pub mod Using
 pub mod Beginning
 pub mod Entering
 pub mod ShortNames
+mod ShortItems
 mod ShortOperations
 mod ShortOperators
 pub mod ShortTerms
@@ -31,3 +32,5 @@ mod MatchShapes
 pub mod UnitSteps
 pub mod Unwinding
 pub mod WideSteps
+pub mod LoopTurns
+mod Arguments

@@ -46,7 +46,8 @@ use Rattle.aml_frames.specs.Uses.{optional, target_ends, target_run, access_run}
 use Rattle.aml_meaning.specs.Meaning.{meaning}
 use Rattle.aml_frames.proofs.PassedItems.{given_ok, never_refused, never_err, never_memory, refused_begun, refused_paid, refused_free, refused_met, access_enough, target_enough, four_enough, most_enough}
 use Rattle.aml_frames.proofs.Stepping.{leads_goes_on, leads_goes_off, leads_item, list_passing, leads_no_item, leads_end}
-use Rattle.aml_frames.proofs.Weighing.{charged_step, falling}
+use Rattle.aml_frames.proofs.Weighing.{charged_step, step_enough, falling}
+use Rattle.aml_frames.proofs.Knowing.{leads_done}
 use Rattle.aml_frames.specs.Places.{Site, behind_term}
 use Rattle.aml_frames.specs.Data.{package_run}
 use Rattle.aml_frames.specs.Follow.{at_position, ends, turn_items, read_access, term_run, items_run, list_run, all_left, body_run, resumed, next_run, next_ends, Leads}
@@ -267,6 +268,13 @@ module _ {S : Type 0} {ac : Accesses S} where
   pub item_over : {s : State S × ℕ} (c d : Site) (xs : List Entry) (i : Items) → length c.place.rest ≡ 0 → d ≡ at_position c i.outer → Goes ac (meaning ac) (Ok (control.Flow flow.Next)) d xs s (machine ac (meaning ac) (control.Items i) c xs) s
   item_over c d xs i over j = goes_leads (next.Flow flow.Next) d (at_position c i.outer) xs _ (leads_end c d i over) j (goes_flow flow.Next)
 
+  -- what waits for a list goes on where it ends
+  pub list_over : {r : Outcome Control} {e : Site} {ys : List Entry} {s s1 : State S × ℕ} (c d : Site) (xs : List Entry) (i : Items) → i.left ≡ 0 → d ≡ at_position c i.outer → Goes ac (meaning ac) r e ys s1 (machine ac (meaning ac) (control.Flow flow.Next) d xs) s → Goes ac (meaning ac) r e ys s1 (machine ac (meaning ac) (control.Items i) c xs) s
+  list_over {s = s} c d xs i none at g = record { is = λ ne. (item_none {s = s} c d xs i none at).is tt ∙ g.is ne }
+
+  pub list_passed : {r : Outcome Control} {e : Site} {ys : List Entry} {s s1 : State S × ℕ} (c d : Site) (xs : List Entry) (i : Items) → length c.place.rest ≡ 0 → d ≡ at_position c i.outer → Goes ac (meaning ac) r e ys s1 (machine ac (meaning ac) (control.Flow flow.Next) d xs) s → Goes ac (meaning ac) r e ys s1 (machine ac (meaning ac) (control.Items i) c xs) s
+  list_passed {s = s} c d xs i none at g = record { is = λ ne. (item_over {s = s} c d xs i none at).is tt ∙ g.is ne }
+
   -- an item begins, and the items behind it wait
   item_waits : {s : State S × ℕ} (c : Site) (xs : List Entry) (i : Items) (n : ℕ) → passes_over c.depth s.0.profile ≡ false → 0 < i.left → 0 < length c.place.rest → n ≡ i.left - 1 → Goes ac (meaning ac) (Ok (control.Term i.levels)) c (xs ++ entry.Frame (frames.Items (record { left = n; levels = i.levels; outer = i.outer })) ∷ []) s (machine ac (meaning ac) (control.Items i) c xs) s
   item_waits c xs i n fails some left one =
@@ -290,6 +298,21 @@ module _ {S : Type 0} {ac : Accesses S} where
       let ys = xs ++ entry.Frame (frames.Items (record { left = n; levels = i.levels; outer = i.outer })) ∷ [] in
       goes_then (control.Term i.levels) (item_waits c xs i n (never_passed c b flag s same told fails) some left one) (goes_leads x d (behind_term c i.levels) ys _ (rw same at l) (rw same at ends) g)
 
+  -- an item that is done at once leaves what it leaves to the items behind it
+  pub item_at_once : {r : Outcome Control} {e : Site} {ys : List Entry} {s s1 s2 : State S × ℕ} (f : Flow) (c b d : Site) (xs : List Entry) (i : Items) (n : ℕ) (flag : Bool) → flag ≡ passes_over b.depth s.0.profile → flag ≡ false → 0 < i.left → 0 < length c.place.rest → n ≡ i.left - 1 → Does (Ok f) s1 (term_run ac (meaning ac) b i.levels) s → b ≡ c → d ≡ behind_term b i.levels
+      → Goes ac (meaning ac) r e ys s2 (machine ac (meaning ac) (control.Flow f) d (xs ++ entry.Frame (frames.Items (record { left = n; levels = i.levels; outer = i.outer })) ∷ [])) s1
+      → Goes ac (meaning ac) r e ys s2 (machine ac (meaning ac) (control.Items i) c xs) s
+  item_at_once f c b d xs i n flag told fails some left one h same ends g = item_next (next.Flow f) c b d xs i n flag told fails some left one (leads_done f _ h) same ends g
+
+  -- an item that isn't done at once has changed nothing where it begins
+  pub item_begins : {r : Outcome Control} {e : Site} {ys : List Entry} {s t s1 s2 : State S × ℕ} (x : Next) (c b a d : Site) (xs : List Entry) (i : Items) (n : ℕ) (flag : Bool) → flag ≡ passes_over b.depth s.0.profile → flag ≡ false → 0 < i.left → 0 < length c.place.rest → n ≡ i.left - 1 → b ≡ c → t ≡ s → a ≡ b → Leads ac (meaning ac) (Ok x) d s1 (term_run ac (meaning ac) a i.levels) t → next_ends x d ≡ behind_term a i.levels
+      → Goes ac (meaning ac) r e ys s2 (then_all ac (meaning ac) (next_run ac (meaning ac) x d) (next_ends x d) (xs ++ entry.Frame (frames.Items (record { left = n; levels = i.levels; outer = i.outer })) ∷ [])) s1
+      → Goes ac (meaning ac) r e ys s2 (machine ac (meaning ac) (control.Items i) c xs) s
+  item_begins x c b a d xs i n flag told fails some left one same steps stays l ends g =
+      let begun = rw (steps, stays) at l in
+      let there = rw stays at ends in
+      item_next x c b d xs i n flag told fails some left one begun same there g
+
   -- an item that is refused passes the items behind it
   pub item_refused : {e : Refusal} {r : Outcome Control} {s s1 : State S × ℕ} (c b d : Site) (xs : List Entry) (i : Items) (flag : Bool) → flag ≡ passes_over b.depth s.0.profile → flag ≡ false → 0 < i.left → 0 < length c.place.rest → Leads ac (meaning ac) (Err e) d s1 (term_run ac (meaning ac) b i.levels) s → b ≡ c → IsErr r × IsErrAnd r (λ x. x ≡ e) → Goes ac (meaning ac) r d xs s1 (machine ac (meaning ac) (control.Items i) c xs) s
   item_refused {r = Ok y} c b d xs i flag told fails some left l same h = absurd (cc h.0)
@@ -297,6 +320,11 @@ module _ {S : Type 0} {ac : Accesses S} where
       let x = frames.Items (record { left = i.left - 1; levels = i.levels; outer = i.outer }) in
       let g = goes_then {r = Err y} (control.Term i.levels) (item_waits c xs i (i.left - 1) (never_passed c b flag s same told fails) some left refl) (goes_leads_err d (behind_term c i.levels) (xs ++ entry.Frame x ∷ []) _ (rw same at l) h) in
       record { is = λ ne. g.is ne ∙ unwound_frame ac (meaning ac) y d xs x s1 }
+
+  pub item_begin_refused : {e : Refusal} {r : Outcome Control} {s t s1 : State S × ℕ} (c b a d : Site) (xs : List Entry) (i : Items) (flag : Bool) → flag ≡ passes_over b.depth s.0.profile → flag ≡ false → 0 < i.left → 0 < length c.place.rest → b ≡ c → t ≡ s → a ≡ b → Leads ac (meaning ac) (Err e) d s1 (term_run ac (meaning ac) a i.levels) t → IsErr r × IsErrAnd r (λ x. x ≡ e) → Goes ac (meaning ac) r d xs s1 (machine ac (meaning ac) (control.Items i) c xs) s
+  item_begin_refused c b a d xs i flag told fails some left same steps stays l h =
+      let begun = rw (steps, stays) at l in
+      item_refused c b d xs i flag told fails some left begun same h
 
 -- an item pays a step, and the items behind it may wait
 pub falls_item : (r : Outcome Control) (a b w n x y : ℕ) → a < b → w < step_weight → IfOk r (λ c. n + (x + control_weight c) ≤ charged a + (y + 3 + w)) → IfOk r (λ c. n + (x + control_weight c) < charged b + (y + 4))
@@ -308,6 +336,13 @@ pub falls_done : (r : Outcome Control) (a x y : ℕ) → IfOk r (λ c. x + contr
 falls_done (Ok c) a x y h = omega (arith, h)
 falls_done (Err z) a x y h = tt
 
+-- an item that is done at once pays a step
+pub falls_once : (r : Outcome Control) (a b x y : ℕ) → a < b → IfOk r (λ c. x + control_weight c < y + 6) → IfOk r (λ c. charged a + (x + control_weight c) < charged b + (y + 4))
+falls_once r a b x y h i =
+    let enough = step_enough in
+    let few : 3 < step_weight = omega (arith, enough) in
+    falls_item r a b 3 (charged a) x y h few (falls_done r a x y i)
+
 -- an item that may be passed over begins
 pub falls_kept : (r : Outcome Control) (a levels : ℕ) (xs ys : List Entry) (x : ListItem) → OnOk r (ys ≡ xs ++ entry.Item x ∷ []) → IfOk r (λ c. c ≡ control.Term levels) → IfOk r (λ c. charged a + (stack_weight ys + control_weight c) < charged a + (stack_weight xs + 4))
 falls_kept (Ok c) a levels xs ys x pushed next =
@@ -316,7 +351,7 @@ falls_kept (Ok c) a levels xs ys x pushed next =
     omega (arith, k, none)
 falls_kept (Err e) a levels xs ys x pushed next = tt
 
-pub ruleset listing_on = (falls_kept, weight_on, falls_item, falls_done, item_last, item_on, item_none, item_over, item_next, item_refused, item_kept, given_ok, never_refused, never_err, never_memory, refused_begun, goes_memory)
+pub ruleset listing_on = (list_over, list_passed, falls_once, item_at_once, falls_kept, weight_on, falls_item, falls_done, item_last, item_on, item_none, item_over, item_begins, item_begin_refused, item_next, item_refused, item_kept, given_ok, never_refused, never_err, never_memory, refused_begun, goes_memory)
 
 pub ruleset going = (never_refused, weight_on, goes_flow, goes_items, goes_package, goes_term, goes_turn, goes_scope, goes_body, goes_body_then, goes_target, goes_division, goes_found, goes_read, goes_counted, goes_access_then, goes_flow_then, goes_memory)
 

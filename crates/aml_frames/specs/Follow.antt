@@ -45,7 +45,7 @@ use Rattle.aml_meaning.specs.OperatorTerms.{operator_rule}
 use Rattle.aml_meaning.specs.WideTerms.{in_wide, wide_rule}
 use Rattle.aml_meaning.specs.StatementTerms.{statement_rule, branch, turn_of, after_turn, loop, loop_end}
 use Rattle.aml_meaning.specs.InvocationTerms.{arguments_in_turn, invocation_rule}
-use Rattle.aml_meaning.specs.Invocations.{leaving, invoked, invocation_found, shallow}
+use Rattle.aml_meaning.specs.Invocations.{leaving, invoked, invocation_found, call_allowed}
 use Rattle.aml_frames.specs.declared.position.Position.{Position}
 use Rattle.aml_frames.specs.declared.frames.Call.{Call}
 use Rattle.aml_frames.specs.declared.frames.Callee.{Callee}
@@ -224,7 +224,7 @@ module _ {S : Type 0} (accesses : Accesses S) (ev : Task → Run S Flow) where
   abbrev pub called : Callee → ℕ → List Value → Run S Flow
   called (callee.Method p body) depth vs = invoked ev depth p body vs
   called callee.Osi depth vs = do
-    few ← lift (shallow depth)
+    few ← lift (call_allowed depth)
     v ← lift (osi_answered vs)
     give (flow.Value v)
 

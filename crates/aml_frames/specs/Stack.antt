@@ -1,5 +1,5 @@
 -- The machine: what is on its stack means what is still to do.
-use Rattle.std.specs.Prelude.{◌≡◌, ℕ, ◌+◌, List, [], ◌∷◌, length, Ok, Err}
+use Rattle.std.specs.Prelude.{◌≡◌, ℕ, ◌+◌, ◌-◌, List, [], ◌∷◌, length, slice_get, Some, Ok, Err}
 use Rattle.ar_space.specs.Accesses.{Accesses}
 use Rattle.ar_space.specs.Outcome.{Outcome, NotMemory, seen}
 use Rattle.ar_space.specs.Change.{give, stop, settle, go_on}
@@ -19,6 +19,7 @@ use Rattle.aml_frames.specs.declared.frames.Frame.{Frame}
 use Rattle.aml_frames.specs.declared.frames.Frame.TheVariants as frames
 use Rattle.aml_frames.specs.declared.frames.Items.{Items}
 use Rattle.aml_frames.specs.declared.frames.ListItem.{ListItem}
+use Rattle.aml_frames.specs.declared.frames.Loop.{Loop}
 use Rattle.aml_frames.specs.declared.frames.Next.{Next}
 use Rattle.aml_frames.specs.declared.frames.Next.TheVariants as next
 use Rattle.aml_frames.specs.Places.{Site, behind_term}
@@ -107,6 +108,10 @@ abbrev pub given_up : {S : Type 0} → Next → State S × ℕ → State S × �
 given_up (next.Body b) s = (left b.scope s.0, s.1)
 given_up (next.BodyThen b x) s = (left b.scope s.0, s.1)
 given_up _ s = s
+
+-- a While waits on the top of the stack
+abbrev pub TurnWaits : Loop → List Entry → Type 0
+TurnWaits l xs = slice_get xs (length xs - 1) ≡ Some (entry.Frame (frames.Turn l))
 
 -- ---- how much entries may ask for without a step being paid
 

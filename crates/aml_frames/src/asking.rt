@@ -50,7 +50,7 @@ fn answer<S: Space>(run: &Running<S>, calls: usize, found: Invocation) -> Result
     if calls == 0 {
         return Err(Refusal::Evaluation(EvaluationFault::CallDepth));
     }
-    run.world.shallow(calls_left(calls))?;
+    run.world.call_allowed(calls_left(calls))?;
     answer_allowed(run, calls, found)
 }
 

@@ -13,6 +13,7 @@ use crate::activation::Activation;
 use crate::addresses::PciAccess;
 use crate::boxed::Boxed;
 use crate::frames::{Call, Callee, Frame, Next};
+use crate::known::known_integer;
 use crate::position::MethodPath;
 use crate::tracing::told_path;
 use aml_meaning::{Flow, Running};
@@ -21,8 +22,9 @@ use aml_path::Path;
 use ar_space::{Refusal, Space};
 use std::alloc::Global;
 
-/// A call whose arguments that are left stand next: the first of them is evaluated, or the call is made.
-#[tactic(auto, using(crate::proofs::Stepping::calls))]
+/// Evaluates the arguments that are left of a call, and makes it then. Integers that are there already are taken at
+/// once; for the first other argument the call waits (`Frame::Argument`).
+#[tactic(auto, using(crate::proofs::Stepping::calls, crate::proofs::Arguments::arguing))]
 pub fn begin_call<S: Space>(
     alloc: Global,
     run: &mut Running<S>,
@@ -35,11 +37,17 @@ pub fn begin_call<S: Space>(
         (arguments_left S.accesses (meaning S.accesses) call call.done.items act.old) run.old }
     ensures ends { EndsAt result act.new (behind_arguments call act.old) }
 {
-    if call.get().left == 0 {
-        return begin_callee(alloc, run, act, call.into_inner());
+    let mut call = call;
+    'arguments: while call.get().left > 0 {
+        let levels = call.get().levels;
+        let known = known_integer(run, act, levels)?;
+        call = one_fewer(call);
+        match known {
+            None => return Ok(Next::Term(levels, Frame::Argument(call))),
+            Some(number) => call.inside.done.push(Value::Integer(number))?,
+        }
     }
-    let levels = call.get().levels;
-    Ok(Next::Term(levels, Frame::Argument(one_fewer(call))))
+    begin_callee(alloc, run, act, call.into_inner())
 }
 
 /// The same call, of which one argument fewer is left.
@@ -74,7 +82,7 @@ pub(crate) fn resume_argument<S: Space>(
     begin_call(alloc, run, act, call)
 }
 
-/// A call whose arguments are evaluated.
+/// Makes a call whose arguments are evaluated: a control method is entered, and `\_OSI` answers at once.
 #[tactic(auto, using(crate::proofs::Stepping::calls))]
 fn begin_callee<S: Space>(
     alloc: Global,
@@ -92,14 +100,14 @@ fn begin_callee<S: Space>(
     match call.callee {
         Callee::Method(path, body) => begin_body(alloc, run, act, path, body, &done),
         Callee::Osi => {
-            run.world.shallow(act.depth())?;
+            run.world.call_allowed(act.depth())?;
             let value = run.world.osi(&done)?;
             Ok(Next::Flow(Flow::Value(value)))
         }
     }
 }
 
-/// The body of a called control method.
+/// Enters a control method: its body is next.
 #[tactic(auto, using(crate::proofs::Entering::entered))]
 fn begin_body<S: Space>(
     alloc: Global,
@@ -121,7 +129,8 @@ fn begin_body<S: Space>(
     }
 }
 
-/// The body of a control method that takes no arguments, where so many are being called, and then a frame.
+/// Enters a control method without arguments that gives a part of an address, where `depth` control methods are being
+/// called: its body is next, and then what is left of the access.
 #[tactic(auto, using(crate::proofs::Entering::entered))]
 pub(crate) fn enter_then<S: Space>(
     alloc: Global,
@@ -143,7 +152,8 @@ pub(crate) fn enter_then<S: Space>(
     }
 }
 
-/// The body of a control method, at its first byte, in a frame of slots of its own.
+/// Enters a control method: tests the depth of calls, scans the body, and opens a frame of slots. Gives the activation
+/// at the first byte of the body. Where it is refused no frame is open.
 #[tactic(auto, using(crate::proofs::Entering::entering), unfolding(aml_meaning::specs::Invocations::invoked))]
 pub(crate) fn enter<S: Space>(
     alloc: Global,
@@ -157,7 +167,7 @@ pub(crate) fn enter<S: Space>(
         (invoked (meaning S.accesses) depth called.0 called.1 arguments.now) run.old }
 {
     let (path, body) = called;
-    run.world.shallow(depth)?;
+    run.world.call_allowed(depth)?;
     let marks = run.world.body_marks(alloc, &path, &body);
     let marks = told_path(alloc, &mut run.world, &path, marks)?;
     let node = run.world.scope(&path).node;

@@ -18,7 +18,8 @@ use ar_space::Refusal;
 /// The items of a list that are left.
 #[derive(Clone, Copy, Debug)]
 pub struct Items {
-    /// At most so many are left.
+    /// At most so many items are left: at first as many as the list has bytes. Definitions count it down; the bytes end
+    /// no later.
     pub left: usize,
     /// How many levels of terms are read.
     pub levels: u8,
@@ -26,7 +27,8 @@ pub struct Items {
     pub outer: Position,
 }
 
-/// A While.
+/// A While: where its predicate stands, and where evaluation goes on behind it. It is the same at each turn. Parameters
+/// of this type are named `turn`.
 #[derive(Clone, Copy, Debug)]
 pub struct Loop {
     /// How many levels of terms are read below it.
@@ -66,7 +68,7 @@ pub struct Package {
     pub count: usize,
     /// How many of them are left.
     pub left: usize,
-    /// At most so many stand next.
+    /// At most so many elements stand next: at first as many as the package has bytes.
     pub turns: usize,
     /// How many levels of terms are read below it.
     pub levels: u8,

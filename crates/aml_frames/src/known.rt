@@ -20,9 +20,9 @@ use aml_meaning::{Count, Running};
 use aml_objects::Value;
 use ar_space::{Refusal, Space};
 
-/// The integer that the term gives which stands next, where it is there already: that of a local, an argument, a
-/// constant, a name, or of a field unit whose bits are read at once. It takes the steps that the term takes; in every
-/// other case nothing changes.
+/// The integer that the term gives which stands next, where no frame is needed: that of a local, an argument, a
+/// constant, a name, a field unit whose bits are read at once, or an operator without a target over two short terms.
+/// It takes the steps that the term takes, and is refused as the term is. Where it answers none, nothing changes.
 #[inline(always)]
 pub(crate) fn known_integer<S: Space>(
     run: &mut Running<S>,
@@ -51,8 +51,8 @@ pub(crate) fn known_integer<S: Space>(
 }
 
 /// What is done with the target that stands next, where it is done at once: an integer is stored to a local, an
-/// argument, or a name that takes one, or what one of these holds is counted. It gives the value of the term; in
-/// every other case nothing changes.
+/// argument, or a name that takes one, or what one of these holds is counted. It gives the value of the term, and is
+/// refused as the term is. Where it answers none, nothing changes.
 #[inline(always)]
 pub(crate) fn use_known<S: Space>(
     run: &mut Running<S>,

@@ -1,9 +1,13 @@
-//! The frames of evaluation: what waits, in memory and not on the processor's stack, for a term that is being
-//! evaluated.
+//! The evaluator: one loop over a stack of frames in memory, in place of functions that call themselves.
 //!
-//! Begin with `call_method` and `evaluate_list`, which evaluate the body of a control method and a list of terms in
-//! one loop. A step of a term takes it up to the first part that is evaluated, and leaves what is to be done then
-//! (`Next`).
+//! Begin with `call_method`, `evaluate_list` and `ask_integer`. A step (`begin_x`, `resume_x`) takes a term up to the
+//! first part that is evaluated, and answers what is left to do (`Next`); what waits for that part is a `Frame`. The
+//! loop is in `stack`. What gives an integer without a frame is asked first: by items of lists (`short_items`), by
+//! operands and targets (`known`, over the other `short_` files). A frame here is one of this stack; the locals and
+//! arguments of a call are in a frame of slots (`aml_meaning`).
+//!
+//! `#[inline(always)]` is on the way that every term goes, `#[cold]` and `#[inline(never)]` off it: they change nothing
+//! but the time.
 #![tactic(auto)]
 
 mod accesses;
@@ -37,6 +41,7 @@ mod references;
 mod regions;
 mod resuming;
 mod searching;
+mod short_items;
 mod short_names;
 mod short_operations;
 mod short_operators;
@@ -47,6 +52,7 @@ mod target_uses;
 mod targets;
 mod terms;
 mod tracing;
+mod turns;
 mod uses;
 mod values;
 mod waiting;

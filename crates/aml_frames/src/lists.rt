@@ -12,10 +12,13 @@ ghost use Rattle.aml_frames.specs.Weights.{next_weight, charged};
 
 use crate::frames::{Control, Entry, Frame, Items, Next};
 use crate::passing::{passes_over, wait_for_list_item};
+use crate::short_items::item_integer;
 use crate::stack::{end_call, follow};
 use crate::terms::begin_term;
+use crate::turns::end_list;
 use crate::waiting::{Stack, go_to_flow, go_to_items};
 use aml_meaning::{Flow, Running};
+use aml_objects::Value;
 use ar_space::{Refusal, Space};
 use std::alloc::Global;
 
@@ -39,12 +42,12 @@ pub(crate) fn step_items<S: Space>(
 {
     if items.left == 0 {
         stack.act.go_to(items.outer);
-        return go_to_flow(Flow::Next);
+        return end_list(run, stack);
     }
     let rest = stack.act.rest().len();
     if rest == 0 {
         stack.act.go_to(items.outer);
-        return go_to_flow(Flow::Next);
+        return end_list(run, stack);
     }
     stack.act.begin_item();
     let behind = Items {
@@ -54,8 +57,13 @@ pub(crate) fn step_items<S: Space>(
     if passes_over(run, &stack.act) {
         return wait_for_list_item(alloc, stack, behind);
     }
-    let next = begin_term(alloc, run, &mut stack.act, items.levels)?;
-    follow_item(run, stack, behind, next)
+    match item_integer(run, &mut stack.act, items.levels) {
+        Some(number) => next_item(run, stack, behind, Flow::Value(Value::Integer(number))),
+        None => {
+            let next = begin_term(alloc, run, &mut stack.act, items.levels)?;
+            follow_item(run, stack, behind, next)
+        }
+    }
 }
 
 /// What an item leaves to do is put on the stack, above the items behind it; where it leaves nothing, the list goes on.
@@ -100,7 +108,7 @@ fn follow_above<S: Space>(
     follow(run, stack, next)
 }
 
-/// A flow meets the list that it is an item of: the list goes on, or it ends.
+/// An item is done, and its list goes on, or ends with the same flow.
 #[inline(always)]
 #[tactic(auto, using(crate::proofs::Machine::listing_on))]
 pub(crate) fn next_item<S: Space>(

@@ -1,7 +1,7 @@
 //! Items that the wide profile passes over: at module level a list goes on behind an item that is refused. What the
 //! item left behind of the list, the scope and the place in it, is given up, so that each item is kept with a share
 //! of its list.
-ghost use Rattle.std.specs.Prelude.{◌≡◌, ◌+◌, ◌<◌, [], ◌∷◌, ◌++◌, true, OnOk, OnErr, IfOk, IfErr};
+ghost use Rattle.std.specs.Prelude.{◌≡◌, ◌+◌, ◌<◌, [], ◌∷◌, ◌++◌, true, OnOk, OnErr, IfOk, IfErr, IsOk};
 ghost use Rattle.ar_space.specs.Change.{stop};
 ghost use Rattle.ar_space.specs.Outcome.{NotMemory};
 ghost use Rattle.ar_space.specs.declared.refusal.Refusal.TheVariants.{OutOfMemory};
@@ -10,13 +10,14 @@ ghost use Rattle.aml_meaning.specs.PassedOver.{is_passable};
 ghost use Rattle.aml_meaning.specs.Tasks.{passes_over};
 ghost use Rattle.aml_frames.specs.declared.frames.Control.TheVariants as control;
 ghost use Rattle.aml_frames.specs.declared.frames.Entry.TheVariants as entry;
-ghost use Rattle.aml_frames.specs.Stack.{then_all, Goes};
+ghost use Rattle.aml_frames.specs.Stack.{then_all, machine, Goes, stack_weight, control_weight};
 
 use crate::activation::Activation;
 use crate::boxed::Boxed;
 use crate::frames::{Control, Entry, Items, ListItem};
+use crate::lists::next_item;
 use crate::waiting::Stack;
-use aml_meaning::Running;
+use aml_meaning::{Flow, Running};
 use ar_space::{Refusal, Space};
 use std::alloc::Global;
 
@@ -71,4 +72,23 @@ pub(crate) fn pass_item_over<S: Space>(
     stack.act = list;
     stack.act.over_term(behind.levels);
     Ok(Control::Items(behind))
+}
+
+/// An item is done that might have been passed over: its list goes on, or ends.
+#[cold]
+#[tactic(auto, using(crate::proofs::Machine::taking))]
+pub(crate) fn meet_item<S: Space>(
+    run: &Running<S>,
+    stack: &mut Stack,
+    item: Boxed<ListItem>,
+    flow: Flow,
+) -> Result<Control, Refusal>
+    ensures falls { IfOk result (λ c. stack_weight stack.new.entries.items + control_weight c <
+        stack_weight stack.old.entries.items + 6) }
+    ensures given { IsOk result }
+    ensures means { Goes S.accesses (meaning S.accesses) result stack.new.act stack.new.entries.items run.now
+        (machine S.accesses (meaning S.accesses) (control.Flow flow) stack.old.act
+        (stack.old.entries.items ++ entry.Item item ∷ [])) run.now }
+{
+    next_item(run, stack, item.get().behind, flow)
 }

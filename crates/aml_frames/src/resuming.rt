@@ -3,6 +3,7 @@ ghost use Rattle.std.specs.Prelude.{◌≡◌, ◌≤◌, ◌<◌, ◌+◌, Ok, 
 ghost use Rattle.ar_space.specs.Outcome.{NotMemory};
 ghost use Rattle.aml_meaning.specs.Meaning.{meaning};
 ghost use Rattle.aml_frames.specs.declared.frames.Frame.TheVariants as frames;
+ghost use Rattle.aml_frames.specs.declared.frames.Loop.{Loop};
 ghost use Rattle.aml_frames.specs.declared.frames.Next.TheVariants as next;
 ghost use Rattle.aml_frames.specs.Follow.{at_position, turn_left, resumed, ends, next_run, next_ends, Leads, EndsAt};
 ghost use Rattle.aml_frames.specs.Weights.{weight, next_weight, charged};
@@ -33,7 +34,8 @@ use aml_meaning::{Flow, Running};
 use ar_space::{EvaluationFault, Refusal, Space};
 use std::alloc::Global;
 
-/// A list goes on behind an item, or it ends.
+/// A list goes on behind an item, or it ends. The loop doesn't come here: it takes such a frame itself (`next_item` in
+/// `lists`), and this says the same as a step.
 #[tactic(auto, using(crate::proofs::Stepping::listing))]
 #[inline(always)]
 fn resume_items<S: Space>(
@@ -77,7 +79,8 @@ fn resume_if<S: Space>(
     next_branch(run, act, levels, outer, is_true(number))
 }
 
-/// A While whose predicate was evaluated.
+/// A While whose predicate was evaluated. Where it is refused the trace names the While, since a predicate is no item
+/// of a list.
 #[tactic(auto, using(crate::proofs::Stepping::stepping))]
 fn resume_predicate<S: Space>(
     run: &mut Running<S>,
@@ -102,10 +105,11 @@ fn resume_predicate<S: Space>(
     }
 }
 
-/// The list of a While, where its predicate holds.
+/// Where the predicate of a While holds, its list is next; else the While ends.
 #[tactic(auto, using(crate::proofs::Stepping::looping))]
 fn next_turn<S: Space>(run: &Running<S>, act: &mut Activation, turn: Loop, holds: bool) -> Next
     ensures falls { next_weight result < 6 }
+    ensures same { (again : Loop) → result ≡ next.Turn again → again ≡ turn }
     ensures means { Leads S.accesses (meaning S.accesses) (Ok result) act.new run.now
         (turn_left S.accesses (meaning S.accesses) turn act.old holds) run.now }
     ensures ends { next_ends result act.new ≡ at_position act.old turn.outer }
@@ -118,7 +122,8 @@ fn next_turn<S: Space>(run: &Running<S>, act: &mut Activation, turn: Loop, holds
     }
 }
 
-/// The predicate of a While, which stands next.
+/// The predicate of a While stands next: an integer that is there already decides at once, and for any other term the
+/// While waits (`Frame::Predicate`).
 #[inline(always)]
 #[tactic(auto, using(crate::proofs::Knowing::taking_known))]
 pub(crate) fn begin_predicate<S: Space>(
@@ -129,6 +134,7 @@ pub(crate) fn begin_predicate<S: Space>(
     ensures spent { run.new.1 ≤ run.old.1 }
     ensures few { IfOk result (λ n. next_weight n < 6) }
     ensures falls { IfOk result (λ n. charged run.new.1 + next_weight n < charged run.old.1 + 4) }
+    ensures same { IfOk result (λ n. (again : Loop) → n ≡ next.Turn again → again ≡ turn) }
     ensures memory { NotMemory result }
     ensures means { Leads S.accesses (meaning S.accesses) result act.new run.new
         (next_run S.accesses (meaning S.accesses) (next.Term turn.levels (frames.Predicate turn)) act.old) run.old }
@@ -140,15 +146,17 @@ pub(crate) fn begin_predicate<S: Space>(
     }
 }
 
-/// A turn of a While is done.
+/// The list of a While is done: after Break or Return the While ends, and else its predicate stands next again. Its
+/// frame was taken off the stack (`step_entry`), or is still there (`end_turn`).
 #[tactic(auto, using(crate::proofs::Stepping::looping, crate::proofs::Knowing::going_on))]
-fn resume_turn<S: Space>(
+pub(crate) fn resume_turn<S: Space>(
     run: &mut Running<S>,
     act: &mut Activation,
     turn: Loop,
     flow: Flow,
 ) -> Result<Next, Refusal>
     ensures spent { run.new.1 ≤ run.old.1 }
+    ensures same { IfOk result (λ n. (again : Loop) → n ≡ next.Turn again → again ≡ turn) }
     ensures falls { IfOk result (λ n. charged run.new.1 + next_weight n < charged run.old.1 + 4) }
     ensures memory { NotMemory result }
     ensures means { Leads S.accesses (meaning S.accesses) result act.new run.new
@@ -186,7 +194,7 @@ fn resume_return<S: Space>(
     Ok(Next::Flow(Flow::Return(value)))
 }
 
-/// A Stall or a Sleep: no time passes.
+/// A Stall, a Sleep or a Notify, whose last operand was evaluated: no time passes, and nobody is notified.
 #[tactic(auto, using(crate::proofs::Stepping::stepping))]
 fn resume_pause<S: Space>(
     run: &mut Running<S>,
@@ -248,20 +256,14 @@ pub fn resume<S: Space>(
         Frame::Fatal => resume_fatal(run, act, flow),
         Frame::Argument(call) => resume_argument(alloc, run, act, call, flow),
         Frame::Buffer(outer) => resume_buffer(alloc, run, act, outer, flow),
-        Frame::VarPackage(levels, outer) => {
-            resume_var_package(alloc, run, act, levels, outer, flow)
-        }
+        Frame::VarPackage(levels, end) => resume_var_package(alloc, run, act, levels, end, flow),
         Frame::Element(filling) => resume_element(run, act, filling, flow),
         Frame::Operand(kind, levels) => resume_operand(alloc, run, act, kind, levels, flow),
         Frame::First(kind, levels) => resume_first(alloc, run, act, kind, levels, flow),
         Frame::Second(operator) => resume_second(alloc, run, act, operator, flow),
-        Frame::Third(levels, source, start) => {
-            resume_third(alloc, run, act, levels, (source, start), flow)
-        }
+        Frame::Third(levels, value, at) => resume_third(alloc, run, act, levels, (value, at), flow),
         Frame::Give(value) => leave(Flow::Value(value)),
-        Frame::Quotient(levels, quotient) => {
-            resume_quotient(alloc, run, act, levels, quotient, flow)
-        }
+        Frame::Quotient(levels, value) => resume_quotient(alloc, run, act, levels, value, flow),
         Frame::Found => resume_found(run, act, flow),
         Frame::IndexTarget(target_use) => resume_index_target(alloc, run, act, target_use, flow),
         Frame::DerefTarget(target_use) => resume_dereferenced(alloc, run, act, target_use, flow),
@@ -272,9 +274,7 @@ pub fn resume<S: Space>(
         Frame::UnitMerged(writes, number) => write_merged(alloc, run, act, writes, number),
         Frame::UnitWritten(writes) => next_write(alloc, run, act, writes.into_inner()),
         Frame::BankRead(units, unit) => read_selected(alloc, run, act, units, unit),
-        Frame::BankWrite(writes, offset, number) => {
-            write_selected(alloc, run, act, writes, offset, number)
-        }
+        Frame::BankWrite(unit, at, number) => write_selected(alloc, run, act, unit, at, number),
         Frame::Named(name) => resume_named(alloc, run, act, name, flow),
         Frame::Declaration(part) => resume_declaration(alloc, run, act, part, flow),
         Frame::Scope(scope, node) => resume_scope(run, act, scope, node, flow),

@@ -1,7 +1,8 @@
 //! Operators without a target whose operands are locals, arguments or constants that are integers (ACPI 6.5, 19.6):
 //! most predicates.
 //!
-//! Each function answers at once. Where it doesn't, only steps were taken, and `operation_integer` gives these back.
+//! Each function does its term whole, or answers none. Then steps may have been taken and the place may have moved, and
+//! nothing else has changed: `operation_integer` gives both back.
 ghost use Rattle.std.specs.Prelude.{◌≡◌, ◌≤◌, ◌<◌, Ok, None, IfSome};
 ghost use Rattle.ar_space.specs.Change.{Does};
 ghost use Rattle.aml_objects.specs.declared.value.Value.TheVariants as values;

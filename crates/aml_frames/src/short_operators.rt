@@ -14,7 +14,8 @@ use crate::short_terms::take_step;
 use aml_convert::{BinaryOperator, Comparison, LogicalOperator};
 use aml_meaning::{Count, OperatorKind, Running, Test, TwoOperands};
 
-/// The operator whose opcode a byte is by itself, if it is done at once where its operands are there already.
+/// The operator with an opcode of this one byte, if it can be done at once: `operator_item` and `operator_integer` say
+/// which of them where.
 #[inline(always)]
 #[tactic(auto, unfolding(aml_grammar::specs::Table::row_of, aml_grammar::specs::Names::starts_name))]
 fn operator_at(byte: u8) -> Option<OperatorKind>
@@ -46,7 +47,7 @@ fn operator_at(byte: u8) -> Option<OperatorKind>
 }
 
 /// Takes the step of the operator that stands next, goes over its opcode, and says which it is, where `operator_at`
-/// knows it. In every other case, where no step or no level is left among them, nothing changes.
+/// knows it. In every other case nothing changes, also where no step or no level is left.
 #[inline(always)]
 pub(crate) fn take_operator<S>(
     run: &mut Running<S>,

@@ -88,8 +88,8 @@ pub(crate) fn take_step<S>(run: &mut Running<S>) -> bool
 }
 
 /// The integer of a short term that stands next: a local or an argument that holds an integer, a constant, or an
-/// integer behind its opcode. It takes a step, and evaluation goes behind the term. In every other case, where no
-/// step is left among them, nothing changes.
+/// integer behind its opcode. It takes a step, and evaluation goes behind the term. In every other case nothing
+/// changes, also where no step is left.
 #[inline(always)]
 pub(crate) fn short_integer<S: Space>(
     run: &mut Running<S>,
@@ -198,7 +198,8 @@ fn short_number<S: Space>(
     Some(run.world.number_kept(number))
 }
 
-/// The integer of the next bytes, the lowest first; missing ones are zero.
+/// The integer of the next bytes, the lowest first; missing ones are zero. One, two and four bytes are read without a
+/// call, since most numbers have so many.
 #[inline(always)]
 fn number_at(act: &Activation, count: usize) -> u64
     requires { count ≤ 8 }
@@ -261,8 +262,8 @@ fn number_of(bytes: &[u8], count: usize) -> u64
     little_endian(&bytes[..here])
 }
 
-/// Stores an integer to a local or an argument that stands next. Where another term stands, or no control method
-/// runs, or the argument holds a reference, it answers no, and nothing changes.
+/// Stores an integer to a local or an argument that stands next. Where another term stands, no level is left, there is
+/// no frame of slots, or the argument holds a reference, it answers no, and nothing changes.
 #[inline(always)]
 pub(crate) fn put_integer_to_slot<S: Space>(
     run: &mut Running<S>,

@@ -1,5 +1,5 @@
 //! The machine: a loop over a stack of frames.
-ghost use Rattle.std.specs.Prelude.{◌≡◌, ◌≢◌, ◌≤◌, ◌<◌, ◌+◌, ◌*◌, [], ◌∷◌, ◌++◌, true, Ok, Err, OnOk, OnErr, IfOk, IfErr, IsOk};
+ghost use Rattle.std.specs.Prelude.{◌≡◌, ◌≢◌, ◌≤◌, ◌<◌, ◌+◌, ◌*◌, [], ◌∷◌, ◌++◌, true, Ok, Err, OnOk, OnErr, IfOk, IfErr};
 ghost use Rattle.ar_space.specs.Change.{Does, stop};
 ghost use Rattle.ar_space.specs.Outcome.{NotMemory, seen};
 ghost use Rattle.ar_space.specs.declared.refusal.Refusal.TheVariants.{OutOfMemory};
@@ -26,10 +26,10 @@ use crate::activation::Activation;
 use crate::addresses::PciAccess;
 use crate::boxed::Boxed;
 use crate::field_access::begin_access;
-use crate::frames::{Control, Entry, Frame, Items, ListItem, Next, Package};
+use crate::frames::{Control, Entry, Frame, Items, Next, Package};
 use crate::lists::{next_item, step_items};
 use crate::packages::begin_element;
-use crate::passing::pass_item_over;
+use crate::passing::{meet_item, pass_item_over};
 use crate::position::{MethodPath, Position};
 use crate::resuming::resume;
 use crate::targets::begin_target;
@@ -46,7 +46,8 @@ use std::alloc::Global;
 use std::mem;
 
 /// Evaluates the body of a control method whose slots stand already, in one loop; `body` stands at its first byte.
-/// However the body ends, its call ends, unless memory runs out: its frame of slots, and the names below it.
+/// However the body ends, its call ends, unless memory runs out: its frame of slots is closed, and the names below it
+/// are removed.
 #[tactic(auto, using(crate::proofs::Machine::beginning))]
 pub fn evaluate<S: Space>(
     alloc: Global,
@@ -113,7 +114,7 @@ fn of_call(outcome: Result<Flow, Refusal>) -> Result<Flow, Refusal>
     }
 }
 
-/// All of the list of a body.
+/// All of a list, of a body or of a table. Nothing is evaluated behind it, so where it ends doesn't matter.
 fn whole(body: &Activation) -> Items
     ensures { result ≡ whole body.now }
 {
@@ -288,7 +289,7 @@ fn step_read<S: Space>(
     follow(run, stack, next)
 }
 
-/// A flow meets what waited for it.
+/// What was on top of the stack goes on with the flow that it waited for.
 #[inline(always)]
 #[tactic(auto, using(crate::proofs::Machine::taking))]
 fn step_entry<S: Space>(
@@ -322,26 +323,7 @@ fn step_entry<S: Space>(
     }
 }
 
-/// A flow meets an item that might have been passed over: the list goes on, or it ends.
-#[cold]
-#[tactic(auto, using(crate::proofs::Machine::taking))]
-fn meet_item<S: Space>(
-    run: &Running<S>,
-    stack: &mut Stack,
-    item: Boxed<ListItem>,
-    flow: Flow,
-) -> Result<Control, Refusal>
-    ensures falls { IfOk result (λ c. stack_weight stack.new.entries.items + control_weight c <
-        stack_weight stack.old.entries.items + 6) }
-    ensures given { IsOk result }
-    ensures means { Goes S.accesses (meaning S.accesses) result stack.new.act stack.new.entries.items run.now
-        (machine S.accesses (meaning S.accesses) (control.Flow flow) stack.old.act
-        (stack.old.entries.items ++ entry.Item item ∷ [])) run.now }
-{
-    next_item(run, stack, item.get().behind, flow)
-}
-
-/// What is left to do is put on the stack.
+/// What a step leaves to do is what the machine does next, and what waits for it is put on the stack.
 #[inline(always)]
 #[tactic(auto, using(crate::proofs::Machine::going))]
 pub(crate) fn follow<S: Space>(
@@ -377,7 +359,7 @@ pub(crate) fn follow<S: Space>(
     }
 }
 
-/// The body of a control method that gives a part of an address, and what is left of the access.
+/// Goes into the body of a control method that gives a part of an address, for which the access waits.
 #[tactic(auto, using(crate::proofs::Machine::going))]
 fn run_then<S: Space>(
     run: &mut Running<S>,
@@ -419,7 +401,8 @@ fn push_frame<S: Space>(
     }
 }
 
-/// The body of a control method is evaluated, whose slots stand already; without memory for its caller the call ends.
+/// Goes into the body of a control method whose slots stand already; its caller waits (`Entry::Leave`). Without memory
+/// for that the call ends.
 fn run_in<S: Space>(
     run: &mut Running<S>,
     stack: &mut Stack,
@@ -493,7 +476,7 @@ fn unwind<S: Space>(
     }
 }
 
-/// The call of the control method at a path ends: its frame of slots, and the names below it.
+/// The call of the control method at a path ends: its frame of slots is closed, and the names below it are removed.
 pub(crate) fn end_call<S: Space>(run: &mut Running<S>, method: &Path)
     ensures { run.new ≡ (left method.now run.old.0, run.old.1) }
 {

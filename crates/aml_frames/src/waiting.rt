@@ -20,7 +20,7 @@ use aml_objects::{Field, NodeId, Reference, Value};
 use ar_space::Refusal;
 use std::alloc::Global;
 
-/// What is evaluated, and what waits for it.
+/// The machine's state: the activation that is evaluated, and the entries that wait for it.
 #[derive(Drop)]
 pub(crate) struct Stack {
     pub(crate) act: Activation,

@@ -34,7 +34,7 @@ use Rattle.aml_objects.specs.Contents as held
 use Rattle.aml_meaning.specs.Osi.{osi_answered}
 use Rattle.aml_meaning.specs.Operations.{made_of, integers_operated, operated, divided_in, integer_operated, operated_on_one, integers_tested, operated_logically, integer_turned, turned, next_integer, integer_before, compared_in, joined_contents, joined, joined_items, joined_resources, to_integer_in, buffer_bytes, new_buffer_of, to_buffer_in, size_held, element_indexed, byte_indexed, indexed, size_in}
 use Rattle.aml_meaning.specs.OperatorTerms.{result_of_two, result_of_one, result_of_test, counted_by}
-use Rattle.aml_meaning.specs.Invocations.{body_terms, named_use, invocation_found, shallow}
+use Rattle.aml_meaning.specs.Invocations.{body_terms, named_use, invocation_found, call_allowed}
 use Rattle.aml_laws.proofs.ObjectKinds.{KeepsObjectKinds, make_string_keeps_kinds, make_buffer_keeps_kinds, make_package_keeps_kinds}
 use Rattle.aml_laws.proofs.Preorders.{give_respects, stop_respects}
 use Rattle.aml_laws.proofs.FoundNamesStand.{called_method_stands}
@@ -231,9 +231,9 @@ module _ {S : Type 0} {listed : Bool} {accesses : Accesses S} {relation : WorldR
   unfolding osi_answered
   osi_answered_preserves arguments = unchanged_preserves _ (λ w. refl)
 
-  pub shallow_preserves : (depth : ℕ) → Preserves relation (shallow depth)
-  unfolding shallow
-  shallow_preserves depth = unchanged_preserves _ (λ w. refl)
+  pub call_allowed_preserves : (depth : ℕ) → Preserves relation (call_allowed depth)
+  unfolding call_allowed
+  call_allowed_preserves depth = unchanged_preserves _ (λ w. refl)
 
   pub body_terms_preserves : (q : List Seg) (body : List ℕ) → Preserves relation (body_terms q body)
   unfolding body_terms

@@ -26,7 +26,7 @@ use Rattle.aml_meaning.specs.Slots.{opened}
 use Rattle.aml_laws.specs.Counted.{beside_counter}
 use Rattle.aml_laws.proofs.CountedChanges.{Counts, RunCounts, give_counts, stop_counts, settle_counts, then_counts, direct_counts, either_branch_counts, lift_counts}
 use Rattle.aml_laws.proofs.ItemsOfLists.{item_counts}
-use Rattle.aml_laws.proofs.CountedOperations.{integer_in_counts, body_terms_counts, invocation_found_counts, shallow_counts}
+use Rattle.aml_laws.proofs.CountedOperations.{integer_in_counts, body_terms_counts, invocation_found_counts, call_allowed_counts}
 use Rattle.aml_laws.proofs.CountedStoreTargets.{stored_counts}
 use Rattle.aml_laws.proofs.CountedFields.{field_value_counts, field_stored_counts, field_integer_counts, field_referent_counts, field_part_counts}
 
@@ -70,7 +70,7 @@ module _ {S : Type 0} (accesses : Accesses S) (ev : Task → Run (S × ℕ) Flow
   pub invoked_counts : (depth : ℕ) (q : List Seg) (body : List ℕ) (arguments : List Value) → RunCounts {S = S} (invoked ev depth q body arguments) (invoked uncounted depth q body arguments)
   unfolding invoked
   invoked_counts depth q body arguments =
-      then_counts _ _ _ _ (lift_counts _ _ (shallow_counts _)) (λ few. then_counts _ _ _ _ (lift_counts _ _ (body_terms_counts q body)) (λ ts. then_counts _ _ _ _ (lift_counts _ _ (opened_counts _)) (λ n. leaving_counts q _ _ (in_turn_counts q _ ts))))
+      then_counts _ _ _ _ (lift_counts _ _ (call_allowed_counts _)) (λ few. then_counts _ _ _ _ (lift_counts _ _ (body_terms_counts q body)) (λ ts. then_counts _ _ _ _ (lift_counts _ _ (opened_counts _)) (λ n. leaving_counts q _ _ (in_turn_counts q _ ts))))
 
   pub method_value_counts : (depth : ℕ) (q : List Seg) (body : List ℕ) (arguments : List Value) → RunCounts {S = S} (method_value ev depth q body arguments) (method_value uncounted depth q body arguments)
   unfolding method_value
@@ -92,7 +92,7 @@ module _ {S : Type 0} (accesses : Accesses S) (ev : Task → Run (S × ℕ) Flow
   answer_within_counts : (k : ℕ) (i : Invocation) → RunCounts (answer_within (beside_counter accesses) ev k i) (answer_within accesses uncounted k i)
   unfolding answer_within
   answer_within_counts zero i = stop_counts _
-  answer_within_counts (suc k) i = then_counts _ _ _ _ (lift_counts _ _ (shallow_counts _)) (λ few. answer_over_counts k _ _ (asked_counts _ _ (answer_within_counts k)) i)
+  answer_within_counts (suc k) i = then_counts _ _ _ _ (lift_counts _ _ (call_allowed_counts _)) (λ few. answer_over_counts k _ _ (asked_counts _ _ (answer_within_counts k)) i)
 
   pub called_at_counts : (depth : ℕ) (q : List Seg) → RunCounts (called_at (beside_counter accesses) ev depth q) (called_at accesses uncounted depth q)
   called_at_counts depth q = asked_counts _ _ (answer_within_counts _) q

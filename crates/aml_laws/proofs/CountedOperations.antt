@@ -27,7 +27,7 @@ use Rattle.aml_meaning.specs.TargetTerms.{target_named}
 use Rattle.aml_meaning.specs.Osi.{osi_answered}
 use Rattle.aml_meaning.specs.Operations.{integers_operated, operated, divided_in, integer_operated, operated_on_one, integers_tested, operated_logically, integer_turned, turned, next_integer, integer_before, compared_in, joined_contents, joined, joined_items, joined_resources, to_integer_in, buffer_bytes, new_buffer_of, to_buffer_in, size_held, element_indexed, byte_indexed, indexed, size_in}
 use Rattle.aml_meaning.specs.OperatorTerms.{result_of_two, result_of_one, result_of_test, counted_by}
-use Rattle.aml_meaning.specs.Invocations.{named_use, invocation_found, body_terms, shallow}
+use Rattle.aml_meaning.specs.Invocations.{named_use, invocation_found, body_terms, call_allowed}
 use Rattle.aml_laws.proofs.CountedChanges.{Counts, give_counts, stop_counts, settle_counts, then_counts, direct_counts, on_objects_counts, on_names_counts}
 
 module _ {S : Type 0} where
@@ -215,9 +215,9 @@ module _ {S : Type 0} where
   unfolding osi_answered
   osi_answered_counts arguments = direct_counts _ _ (λ w. refl) (λ w. refl)
 
-  pub shallow_counts : (depth : ℕ) → Counts {S = S} (shallow depth) (shallow depth)
-  unfolding shallow
-  shallow_counts depth = direct_counts _ _ (λ w. refl) (λ w. refl)
+  pub call_allowed_counts : (depth : ℕ) → Counts {S = S} (call_allowed depth) (call_allowed depth)
+  unfolding call_allowed
+  call_allowed_counts depth = direct_counts _ _ (λ w. refl) (λ w. refl)
 
   pub body_terms_counts : (q : List Seg) (body : List ℕ) → Counts {S = S} (body_terms q body) (body_terms q body)
   unfolding body_terms

@@ -47,7 +47,7 @@ use Rattle.aml_meaning.specs.FieldTerms.{fields_laid, region_rule, field_list_ru
 use Rattle.aml_meaning.specs.Evaluation.{kind_rule, code_rule, rule}
 use Rattle.aml_laws.specs.Counted.{beside_counter}
 use Rattle.aml_laws.proofs.CountedChanges.{RunCounts, give_counts, stop_counts, settle_counts, then_counts, on_objects_counts, lift_counts, charge_counts}
-use Rattle.aml_laws.proofs.CountedOperations.{integer_kept_counts, integer_in_counts, path_found_counts, scope_found_counts, target_named_counts, within_counts, new_buffer_counts, new_package_counts, new_name_counts, new_method_counts, divided_in_counts, turned_counts, size_in_counts, result_of_two_counts, result_of_one_counts, result_of_test_counts, counted_by_counts, osi_answered_counts, invocation_found_counts, shallow_counts}
+use Rattle.aml_laws.proofs.CountedOperations.{integer_kept_counts, integer_in_counts, path_found_counts, scope_found_counts, target_named_counts, within_counts, new_buffer_counts, new_package_counts, new_name_counts, new_method_counts, divided_in_counts, turned_counts, size_in_counts, result_of_two_counts, result_of_one_counts, result_of_test_counts, counted_by_counts, osi_answered_counts, invocation_found_counts, call_allowed_counts}
 use Rattle.aml_laws.proofs.CountedStoreTargets.{slot_read_counts, tested_counts, dereferenced_counts, target_read_counts, reference_of_counts, if_initialized_counts, reference_if_found_counts, target_referent_counts, value_referent_counts, copied_to_counts, acquired_at_counts, given_back_at_counts}
 use Rattle.aml_laws.proofs.CountedFields.{elements_laid_counts, region_found_counts, field_found_counts}
 use Rattle.aml_laws.proofs.CountedCalls.{operand_value_counts, operand_integer_counts, value_at_counts, two_values_counts, in_turn_counts, invoked_counts, field_read_counts, held_integer_counts, referent_read_counts, completed_counts, stored_to_counts, held_value_counts, stored_back_counts}
@@ -417,7 +417,7 @@ module _ {S : Type 0} (accesses : Accesses S) (ev : Task → Run (S × ℕ) Flow
 
   osi_rule_counts : (scope : List Seg) (depth : ℕ) (ts : Trees) → RunCounts {S = S} (osi_rule ev scope depth ts) (osi_rule uncounted scope depth ts)
   unfolding osi_rule
-  osi_rule_counts scope depth ts = then_counts _ _ _ _ (arguments_in_turn_counts scope depth ts _) (λ arguments. then_counts _ _ _ _ (lift_counts _ _ (shallow_counts _)) (λ few. then_counts _ _ _ _ (lift_counts _ _ (osi_answered_counts arguments)) (λ v. give_counts _)))
+  osi_rule_counts scope depth ts = then_counts _ _ _ _ (arguments_in_turn_counts scope depth ts _) (λ arguments. then_counts _ _ _ _ (lift_counts _ _ (call_allowed_counts _)) (λ few. then_counts _ _ _ _ (lift_counts _ _ (osi_answered_counts arguments)) (λ v. give_counts _)))
 
   invocation_rule_counts : (scope : List Seg) (depth : ℕ) (ts : Trees) (i : Invocation) → RunCounts {S = S} (invocation_rule (beside_counter accesses) ev scope depth ts i) (invocation_rule accesses uncounted scope depth ts i)
   unfolding field_rule call_rule

@@ -77,18 +77,18 @@ module _ {S : Type 0} (accesses : Accesses S) (scope : List Seg) (depth : ℕ) (
 -- ---- one more and one less
 
 module _ {S : Type 0} (w : State S) (a : ℕ) where
-  next_is : counted_by count.Up a w ≡ (Ok (value.Integer (truncated w.width (a + 1))), w)
+  pub next_is : counted_by count.Up a w ≡ (Ok (value.Integer (truncated w.width (a + 1))), w)
   unfolding next_integer
   next_is = refl
 
-  abbrev less : ℕ
+  abbrev pub less : ℕ
   less = truncated w.width (a + (2 ^ bits_of w.width - truncated w.width 1))
 
-  before_is : counted_by count.Down a w ≡ (Ok (value.Integer less), w)
+  pub before_is : counted_by count.Down a w ≡ (Ok (value.Integer less), w)
   unfolding integer_before
   before_is = refl
 
-one_less : (width : IntegerWidth) (a : ℕ) → (truncated width (a + (2 ^ bits_of width - truncated width 1)) < 2 ^ bits_of width) × ((truncated width (a + (2 ^ bits_of width - truncated width 1)) + 1) % 2 ^ bits_of width ≡ a % 2 ^ bits_of width)
+pub one_less : (width : IntegerWidth) (a : ℕ) → (truncated width (a + (2 ^ bits_of width - truncated width 1)) < 2 ^ bits_of width) × ((truncated width (a + (2 ^ bits_of width - truncated width 1)) + 1) % 2 ^ bits_of width ≡ a % 2 ^ bits_of width)
 one_less Bits32 a = (omega arith, omega arith)
 one_less Bits64 a = (omega arith, omega arith)
 

@@ -19,7 +19,7 @@ use Rattle.aml_meaning.specs.State.{State}
 use Rattle.aml_meaning.specs.Run.{Run, lift}
 use Rattle.aml_meaning.specs.Slots.{opened, closed}
 use Rattle.aml_meaning.specs.Tasks.{Task}
-use Rattle.aml_meaning.specs.Invocations.{body_terms, shallow, leaving, left, invoked}
+use Rattle.aml_meaning.specs.Invocations.{body_terms, call_allowed, leaving, left, invoked}
 use Rattle.aml_laws.specs.Calls.{body_frame, NoneBelow}
 use Rattle.aml_laws.proofs.OutsideOfMethods.{retained_apart}
 
@@ -54,9 +54,9 @@ module _ {S : Type 0} (p : List Seg) where
   unfolding lift body_terms ◌>>=◌
   body_terms_body_begins body m k h = record { begun = λ s n is. go_on_begun _ s.0 s.1 n m k h is; refused = λ s e is. go_on_refused _ s.0 s.1 e m k h is }
 
-  shallow_body_begins : (depth : ℕ) (m : Unit {0} → Run S Flow) (k : Unit {0} → Change (State S) ℕ) → ((a : Unit {0}) → BodyBegins p (m a) (k a)) → BodyBegins p (lift (shallow depth) >>= m) (shallow depth >>= k)
-  unfolding lift shallow ◌>>=◌
-  shallow_body_begins depth m k h = record { begun = λ s n is. go_on_begun _ s.0 s.1 n m k h is; refused = λ s e is. go_on_refused _ s.0 s.1 e m k h is }
+  call_allowed_body_begins : (depth : ℕ) (m : Unit {0} → Run S Flow) (k : Unit {0} → Change (State S) ℕ) → ((a : Unit {0}) → BodyBegins p (m a) (k a)) → BodyBegins p (lift (call_allowed depth) >>= m) (call_allowed depth >>= k)
+  unfolding lift call_allowed ◌>>=◌
+  call_allowed_body_begins depth m k h = record { begun = λ s n is. go_on_begun _ s.0 s.1 n m k h is; refused = λ s e is. go_on_refused _ s.0 s.1 e m k h is }
 
   begun_by_cases : (b : Bool) (e : Refusal) (n j c : ℕ) (w v : State S) (m : Run S Flow) → (if◌then◌else◌ {A = Outcome ℕ × State S} b (Err e, w) (Ok j, v)).0 ≡ Ok n
       → NoneBelow (go_on (if◌then◌else◌ {A = Outcome ℕ × State S} b (Err e, w) (Ok j, v)).0 ((if◌then◌else◌ {A = Outcome ℕ × State S} b (Err e, w) (Ok j, v)).1, c) (λ i. leaving p m)).1.0 p
@@ -79,7 +79,7 @@ module _ {S : Type 0} (p : List Seg) where
 
   invoked_body_begins : (ev : Task → Run S Flow) (depth : ℕ) (body : List ℕ) (arguments : List Value) → BodyBegins p (invoked ev depth p body arguments) (body_frame depth p body arguments)
   unfolding invoked body_frame
-  invoked_body_begins ev depth body arguments = shallow_body_begins depth _ _ (λ few. body_terms_body_begins body _ _ (λ ts. opened_body_begins _ _))
+  invoked_body_begins ev depth body arguments = call_allowed_body_begins depth _ _ (λ few. body_terms_body_begins body _ _ (λ ts. opened_body_begins _ _))
 
 pub none_below_after_call : {S : Type 0} (ev : Task → Run S Flow) (depth : ℕ) (p : List Seg) (body : List ℕ) (arguments : List Value) (s : State S × ℕ) (n : ℕ) → (body_frame depth p body arguments s.0).0 ≡ Ok n → NoneBelow (invoked ev depth p body arguments s).1.0 p
 none_below_after_call ev depth p body arguments s n is = (invoked_body_begins p ev depth body arguments).begun s n is

@@ -28,7 +28,7 @@ use Rattle.aml_laws.proofs.FaultsOfChanges.{Explained, RunExplains, Spent, World
 use Rattle.aml_laws.proofs.ItemsOfLists.{item_explains}
 use Rattle.aml_laws.proofs.SetDepths.{is_low, seen_of_setting}
 use Rattle.aml_laws.proofs.FaultsOfFields.{field_integer_explains, field_part_explains, field_referent_explains, field_stored_explains, field_value_explains}
-use Rattle.aml_laws.proofs.FaultsOfOperations.{body_terms_explains, integer_in_explains, invocation_found_explains, shallow_explains}
+use Rattle.aml_laws.proofs.FaultsOfOperations.{body_terms_explains, integer_in_explains, invocation_found_explains, call_allowed_explains}
 use Rattle.aml_laws.proofs.FaultsOfStoreTargets.{stored_explains}
 
 module _ {S : Type 0} (accesses : Accesses S) (ev : Task → Run S Flow) (parts : (t : Task) → RunExplains accesses (ev t)) where
@@ -78,7 +78,7 @@ module _ {S : Type 0} (accesses : Accesses S) (ev : Task → Run S Flow) (parts 
   pub invoked_explains : (depth : ℕ) (q : List Seg) (body : List ℕ) (arguments : List Value) → RunExplains accesses (invoked ev depth q body arguments)
   unfolding invoked
   invoked_explains depth q body arguments =
-      then_explains _ _ (lift_explains _ (shallow_explains _)) (λ few. then_explains _ _ (lift_explains _ (body_terms_explains q body)) (λ ts. then_explains _ _ (lift_explains _ (opened_explains _)) (λ n. leaving_explains q _ (in_turn_explains q _ ts))))
+      then_explains _ _ (lift_explains _ (call_allowed_explains _)) (λ few. then_explains _ _ (lift_explains _ (body_terms_explains q body)) (λ ts. then_explains _ _ (lift_explains _ (opened_explains _)) (λ n. leaving_explains q _ (in_turn_explains q _ ts))))
 
   pub method_value_explains : (depth : ℕ) (q : List Seg) (body : List ℕ) (arguments : List Value) → RunExplains accesses (method_value ev depth q body arguments)
   unfolding method_value
@@ -100,7 +100,7 @@ module _ {S : Type 0} (accesses : Accesses S) (ev : Task → Run S Flow) (parts 
   answer_within_explains : (k : ℕ) (i : Invocation) → RunExplains accesses (answer_within accesses ev k i)
   unfolding answer_within
   answer_within_explains zero i = stop_explains _ tt
-  answer_within_explains (suc k) i = then_explains _ _ (lift_explains _ (shallow_explains _)) (λ few. answer_over_explains k _ (asked_explains _ (answer_within_explains k)) i)
+  answer_within_explains (suc k) i = then_explains _ _ (lift_explains _ (call_allowed_explains _)) (λ few. answer_over_explains k _ (asked_explains _ (answer_within_explains k)) i)
 
   pub called_at_explains : (depth : ℕ) (q : List Seg) → RunExplains accesses (called_at accesses ev depth q)
   called_at_explains depth q = asked_explains _ (answer_within_explains _) q

@@ -23,7 +23,7 @@ use Rattle.aml_convert.specs.declared.operators.UnaryOperator.{UnaryOperator}
 use Rattle.aml_namespace.specs.Namespace.{above}
 use Rattle.aml_namespace.specs.Search.{found}
 use Rattle.aml_meaning.specs.Declaring.{new_method, new_name, not_in_method}
-use Rattle.aml_meaning.specs.Invocations.{body_arities, body_terms, invocation_found, named_use, shallow, shallow_within}
+use Rattle.aml_meaning.specs.Invocations.{body_arities, body_terms, invocation_found, named_use, call_allowed, call_allowed_within}
 use Rattle.aml_meaning.specs.NewObjects.{new_buffer, new_package, within}
 use Rattle.aml_meaning.specs.Operations.{buffer_bytes, byte_indexed, compared_in, divided_in, element_indexed, indexed, integer_before, integer_operated, integer_turned, integers_operated, integers_tested, joined, joined_contents, joined_items, joined_resources, new_buffer_of, next_integer, operated, operated_logically, operated_on_one, size_held, size_in, size_of_referent, to_buffer_in, to_integer_in, turned}
 use Rattle.aml_meaning.specs.OperatorTerms.{counted_by, result_of_one, result_of_test, result_of_two}
@@ -45,7 +45,7 @@ use Rattle.aml_laws.proofs.CleanOutcomes.{if_clean, seen_clean}
 use Rattle.aml_laws.proofs.CleanReading.{reading_within_clean}
 use Rattle.aml_laws.proofs.CleanValues.{compared_clean, concatenated_clean, divided_clean, explicit_integer_of_clean, resources_joined_clean, result_of_clean, to_buffer_of_clean, to_integer_of_clean}
 use Rattle.aml_laws.proofs.CleanWorlds.{as_many_clean, below_clean, invocation_of_clean, made_of_clean, no_method_in_clean, osi_answer_clean, scope_or_not_clean, size_of_referent_clean, size_of_value_clean}
-use Rattle.aml_laws.proofs.SetDepths.{few_calls, few_levels, low_so, seen_within, shallow_clean}
+use Rattle.aml_laws.proofs.SetDepths.{few_calls, few_levels, low_so, seen_within, call_allowed_clean}
 use Rattle.aml_laws.proofs.FaultsOfChanges.{WorldExplains, direct_explains, direct_or_set_explains, give_explains, on_names_explains, on_objects_explains, settle_explains, stop_explains, then_explains}
 
 module _ {S : Type 0} {accesses : Accesses S} where
@@ -233,9 +233,9 @@ module _ {S : Type 0} {accesses : Accesses S} where
   unfolding osi_answered
   osi_answered_explains arguments = direct_explains _ (λ w. osi_answer_clean w.width w.osi (content_in w.objects (slice_index_or arguments 0 value.Uninitialized))) (λ w. refl)
 
-  pub shallow_explains : (depth : ℕ) → WorldExplains accesses (shallow depth)
-  unfolding shallow
-  shallow_explains depth = direct_or_set_explains _ (λ w. low_so _ _ (shallow_within w.nesting.calls depth) (few_calls w.nesting) (shallow_clean w.nesting.calls depth)) (λ w. refl)
+  pub call_allowed_explains : (depth : ℕ) → WorldExplains accesses (call_allowed depth)
+  unfolding call_allowed
+  call_allowed_explains depth = direct_or_set_explains _ (λ w. low_so _ _ (call_allowed_within w.nesting.calls depth) (few_calls w.nesting) (call_allowed_clean w.nesting.calls depth)) (λ w. refl)
 
   pub body_terms_explains : (q : List Seg) (body : List ℕ) → WorldExplains accesses (body_terms q body)
   unfolding body_terms

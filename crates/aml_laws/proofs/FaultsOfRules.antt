@@ -54,7 +54,7 @@ use Rattle.aml_laws.proofs.FaultsOfChanges.{RunExplains, charge_explains, give_e
 use Rattle.aml_laws.proofs.Costs.{Costs}
 use Rattle.aml_laws.proofs.FaultsOfLoops.{loop_explains}
 use Rattle.aml_laws.proofs.FaultsOfFields.{elements_laid_explains, field_found_explains, region_found_explains}
-use Rattle.aml_laws.proofs.FaultsOfOperations.{counted_by_explains, divided_in_explains, integer_in_explains, integer_kept_explains, invocation_found_explains, new_buffer_explains, new_method_explains, new_name_explains, new_package_explains, osi_answered_explains, path_found_explains, result_of_one_explains, result_of_test_explains, result_of_two_explains, scope_found_explains, size_in_explains, target_named_explains, turned_explains, within_explains, shallow_explains}
+use Rattle.aml_laws.proofs.FaultsOfOperations.{counted_by_explains, divided_in_explains, integer_in_explains, integer_kept_explains, invocation_found_explains, new_buffer_explains, new_method_explains, new_name_explains, new_package_explains, osi_answered_explains, path_found_explains, result_of_one_explains, result_of_test_explains, result_of_two_explains, scope_found_explains, size_in_explains, target_named_explains, turned_explains, within_explains, call_allowed_explains}
 use Rattle.aml_laws.proofs.FaultsOfStoreTargets.{acquired_at_explains, copied_to_explains, dereferenced_explains, given_back_at_explains, if_initialized_explains, reference_if_found_explains, reference_of_explains, slot_read_explains, target_read_explains, target_referent_explains, tested_explains, value_referent_explains}
 use Rattle.aml_laws.proofs.FaultsOfWideTerms.{connections_asked_explains, in_wide_explains}
 
@@ -400,7 +400,7 @@ module _ {S : Type 0} (accesses : Accesses S) (ev : Task → Run S Flow) (parts 
 
   osi_rule_explains : (scope : List Seg) (depth : ℕ) (ts : Trees) → RunExplains accesses (osi_rule ev scope depth ts)
   unfolding osi_rule
-  osi_rule_explains scope depth ts = then_explains _ _ (arguments_in_turn_explains scope depth ts _) (λ arguments. then_explains _ _ (lift_explains _ (shallow_explains _)) (λ few. then_explains _ _ (lift_explains _ (osi_answered_explains arguments)) (λ v. give_explains _)))
+  osi_rule_explains scope depth ts = then_explains _ _ (arguments_in_turn_explains scope depth ts _) (λ arguments. then_explains _ _ (lift_explains _ (call_allowed_explains _)) (λ few. then_explains _ _ (lift_explains _ (osi_answered_explains arguments)) (λ v. give_explains _)))
 
   invocation_rule_explains : (scope : List Seg) (depth : ℕ) (ts : Trees) (i : Invocation) → RunExplains accesses (invocation_rule accesses ev scope depth ts i)
   unfolding field_rule call_rule

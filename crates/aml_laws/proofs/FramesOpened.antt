@@ -14,7 +14,7 @@ use Rattle.aml_objects.specs.declared.value.Value.TheVariants as value
 use Rattle.aml_meaning.specs.declared.flow.Flow.{Flow}
 use Rattle.aml_meaning.specs.declared.flow.Flow.TheVariants as flow
 use Rattle.aml_meaning.specs.declared.frame.Frame.{Frame}
-use Rattle.aml_meaning.specs.Invocations.{shallow, body_terms, frame_arguments, returned_by, leaving, left, invoked, method_value}
+use Rattle.aml_meaning.specs.Invocations.{call_allowed, body_terms, frame_arguments, returned_by, leaving, left, invoked, method_value}
 use Rattle.aml_meaning.specs.Run.{Run, lift}
 use Rattle.aml_meaning.specs.Slots.{opened}
 use Rattle.aml_meaning.specs.State.{State}
@@ -75,24 +75,24 @@ module _ {S : Type 0} where
   -- ---- the beginning of a call: it isn't too deep, and its body is read
 
   pub record Begins (depth : ℕ) (p : List Seg) (body : List ℕ) (arguments : List Value) (w after : State S) (n : ℕ) : Type 0 where
-    pub few : shallow depth w ≡ (Ok tt, w)
+    pub few : call_allowed depth w ≡ (Ok tt, w)
     pub terms : Trees
     pub read : (body_terms p body w).0 ≡ Ok terms
     pub opens : opened (frame_arguments arguments) w ≡ (Ok n, after)
 
-  unmoved : (depth : ℕ) (w v : State S) (u : Unit {0}) → shallow depth w ≡ (Ok u, v) → w ≡ v
-  unfolding shallow
+  unmoved : (depth : ℕ) (w v : State S) (u : Unit {0}) → call_allowed depth w ≡ (Ok u, v) → w ≡ v
+  unfolding call_allowed
   unmoved depth w v u is = ap (λ (r : Outcome (Unit {0}) × State S). r.1) is
 
   pub begins : (depth : ℕ) (p : List Seg) (body : List ℕ) (arguments : List Value) (w after : State S) (n : ℕ) → body_frame depth p body arguments w ≡ (Ok n, after) → Begins depth p body arguments w after n
-  unfolding body_frame body_terms shallow
+  unfolding body_frame body_terms call_allowed
   begins depth p body arguments w after n e =
-      let one = steps (shallow depth) _ w n after e in
+      let one = steps (call_allowed depth) _ w n after e in
       let here : w ≡ one.middle = unmoved depth w one.middle one.value one.first in
       let two = steps (body_terms p body) (λ ts. opened (frame_arguments arguments)) one.middle n after one.second in
       let same : one.middle ≡ two.middle = ap (λ (r : Outcome Trees × State S). r.1) two.first in
       record {
-        few = subst (λ (u : State S). shallow depth w ≡ (Ok tt, u)) (sym here) one.first;
+        few = subst (λ (u : State S). call_allowed depth w ≡ (Ok tt, u)) (sym here) one.first;
         terms = two.value;
         read = subst (λ (u : State S). (body_terms p body u).0 ≡ Ok two.value) (sym here) (ap (λ (r : Outcome Trees × State S). r.0) two.first);
         opens = subst (λ (u : State S). opened (frame_arguments arguments) u ≡ (Ok n, after)) (sym (here ∙ same)) two.second;

@@ -1,6 +1,6 @@
 -- Which integers values convert to.
-use Rattle.std.specs.Prelude.{◌≡◌, ◌⊎◌, ◌<◌, ◌≤◌, ◌+◌, ◌-◌, ◌*◌, ◌^◌, ◌%◌, ◌&&◌, ℕ, zero, suc, nat_le, List, [], ◌∷◌, ◌++◌, length, take, slice_get, Option, Some, None, Bool, true, false, Ok, Err, refl, if◌then◌else◌}
-use Rattle.std.proofs.Common.{arith, ap, sym, subst, ◌∙◌}
+use Rattle.std.specs.Prelude.{◌≡◌, ◌≤◌, ◌+◌, ◌-◌, ◌*◌, ◌^◌, ◌%◌, ◌&&◌, ℕ, zero, suc, nat_le, List, [], ◌∷◌, ◌++◌, length, take, slice_get, Some, None, Bool, true, false, Ok, Err, refl, if◌then◌else◌}
+use Rattle.std.proofs.Common.{arith, ap, subst, ◌∙◌}
 use Rattle.std.proofs.Math.Seq.{take-append-add}
 use Rattle.std.proofs.lemmas.Bool.Decides.{nat_tests}
 use Rattle.std.specs.Int.Digits.{number_from_digits}
@@ -12,7 +12,7 @@ use Rattle.ar_space.specs.declared.refusal.ValueFault.TheVariants.{EmptyValue, W
 use Rattle.aml_objects.specs.declared.object.Object.TheVariants as object
 use Rattle.aml_objects.specs.declared.value.Value.TheVariants as value
 use Rattle.aml_convert.specs.Integers.{bits_of, bytes_of, truncated}
-use Rattle.aml_convert.specs.Digits.{digit_value, digit_and, leading_digits, leading_number}
+use Rattle.aml_convert.specs.Digits.{digit_and, leading_digits, leading_number}
 use Rattle.aml_convert.specs.declared.digits.Base.TheVariants.{Hexadecimal}
 use Rattle.aml_meaning.specs.State.{State}
 use Rattle.aml_meaning.specs.Readings.{integer_in}
@@ -25,7 +25,7 @@ no_bytes : (i k : ℕ) → little_from i k [] ≡ 0
 no_bytes i zero = refl
 no_bytes i (suc k) = let others = no_bytes (suc i) k in omega (arith, others)
 
-little_is : (k : ℕ) (bytes : List ℕ) → little_from 0 k bytes ≡ lowest_first (take k bytes)
+pub little_is : (k : ℕ) (bytes : List ℕ) → little_from 0 k bytes ≡ lowest_first (take k bytes)
 little_is zero bytes = refl
 little_is (suc k) [] = no_bytes 0 (suc k)
 little_is (suc k) (b ∷ bs) = ap (λ n. b + 256 * n) (little_rest 0 k b bs ∙ little_is k bs)
@@ -58,10 +58,10 @@ both_so true c e = (refl, e)
 both_so false c e = absurd (cc e)
 
 -- a character that is no digit has no value
-in_range : (k m c : ℕ) → (nat_le k c && nat_le c m) ≡ true → (k ≤ c) × (c ≤ m)
+pub in_range : (k m c : ℕ) → (nat_le k c && nat_le c m) ≡ true → (k ≤ c) × (c ≤ m)
 in_range k m c e = let p = both_so (nat_le k c) (nat_le c m) e in (at_least k c p.0, at_least c m p.1)
 
-no_value : (c : ℕ) → ((d : ℕ) → IsDigit c d → ⊥) → hex_digit_value c ≡ None
+pub no_value : (c : ℕ) → ((d : ℕ) → IsDigit c d → ⊥) → hex_digit_value c ≡ None
 no_value c not = by (nat_le 65 c && nat_le c 70) (nat_le 97 c && nat_le c 102) (nat_le 48 c && nat_le c 57) refl refl refl
   where
     by : (p q r : Bool) → (nat_le 65 c && nat_le c 70) ≡ p → (nat_le 97 c && nat_le c 102) ≡ q → (nat_le 48 c && nat_le c 57) ≡ r → (if p then Some (c - 55) else if q then Some (c - 87) else if r then Some (c - 48) else None) ≡ None
@@ -70,7 +70,7 @@ no_value c not = by (nat_le 65 c && nat_le c 70) (nat_le 97 c && nat_le c 102) (
     by false false true e f g = let l = in_range 48 57 c g in let is : 48 + (c - 48) ≡ c = omega (arith, l.0) in absurd (not (c - 48) (subst (λ x. IsDigit x (c - 48)) is (figure (c - 48) (omega (arith, l.0, l.1)))))
     by false false false e f g = refl
 
-digits_lead : (cs ds rest : List ℕ) → AreDigits cs ds → leading_digits Hexadecimal rest ≡ [] → leading_digits Hexadecimal (cs ++ rest) ≡ ds
+pub digits_lead : (cs ds rest : List ℕ) → AreDigits cs ds → leading_digits Hexadecimal rest ≡ [] → leading_digits Hexadecimal (cs ++ rest) ≡ ds
 unfolding leading_digits
 digits_lead _ _ rest none stop = stop
 digits_lead _ _ rest (more c d cs ds is others) stop = ap (λ o. digit_and o (leading_digits Hexadecimal (cs ++ rest))) (digit_is c d is) ∙ ap (λ es. d ∷ es) (digits_lead cs ds rest others stop)
@@ -95,7 +95,7 @@ digits_taken most cs ds rest are le ends =
     ap (λ k. leading_digits Hexadecimal (take k (cs ++ rest))) sum
     ∙ (ap (leading_digits Hexadecimal) (take-append-add cs rest (most - length cs)) ∙ digits_lead cs ds (take (most - length cs) rest) are (stops most cs rest le ends))
 
-number_led : (width : IntegerWidth) (text digits : List ℕ) → leading_digits Hexadecimal text ≡ digits → leading_number width Hexadecimal text ≡ number_from_digits 16 digits % 2 ^ bits_of width
+pub number_led : (width : IntegerWidth) (text digits : List ℕ) → leading_digits Hexadecimal text ≡ digits → leading_number width Hexadecimal text ≡ number_from_digits 16 digits % 2 ^ bits_of width
 unfolding leading_number
 number_led width text digits e = ap (λ ds. truncated width (number_from_digits 16 ds)) e
 

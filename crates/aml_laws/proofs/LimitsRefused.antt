@@ -13,7 +13,7 @@ use Rattle.aml_objects.specs.declared.object.Object.{Object}
 use Rattle.aml_objects.specs.declared.value.Value.{Value}
 use Rattle.aml_meaning.specs.State.{State}
 use Rattle.aml_meaning.specs.Run.{lift}
-use Rattle.aml_meaning.specs.Invocations.{shallow, invoked}
+use Rattle.aml_meaning.specs.Invocations.{call_allowed, invoked}
 use Rattle.aml_meaning.specs.Meaning.{meaning}
 
 pub object_made : (x : Object) (h : Objects) → length h < 262144 → make x h ≡ (Ok (length h), h ++ x ∷ [])
@@ -48,19 +48,19 @@ pub package_refused : (es : List Element) (h : Objects) → 65535 < length es �
 unfolding make_package settle go_on ◌>>=◌
 package_refused es h full = rw (few_refused es full) refl
 
-pub call_shallow : {S : Type 0} (depth : ℕ) (w : State S) → depth < 32 → depth < w.nesting.calls → shallow depth w ≡ (Ok tt, w)
-unfolding shallow
-call_shallow depth w less few =
+pub call_is_allowed : {S : Type 0} (depth : ℕ) (w : State S) → depth < 32 → depth < w.nesting.calls → call_allowed depth w ≡ (Ok tt, w)
+unfolding call_allowed
+call_is_allowed depth w less few =
     let test : nat_lt depth 32 ≡ true = grind (arith, nat_tests) in
     let allowed : nat_lt depth w.nesting.calls ≡ true = grind (arith, nat_tests) in
     rw (test, allowed) refl
 
-call_deep : {S : Type 0} (depth : ℕ) (w : State S) → 32 ≤ depth → shallow depth w ≡ (Err (refusal.Evaluation CallDepth), w)
-unfolding shallow
+call_deep : {S : Type 0} (depth : ℕ) (w : State S) → 32 ≤ depth → call_allowed depth w ≡ (Err (refusal.Evaluation CallDepth), w)
+unfolding call_allowed
 call_deep depth w more = let test : nat_lt depth 32 ≡ false = grind (arith, nat_tests) in rw test refl
 
-call_set : {S : Type 0} (depth : ℕ) (w : State S) → depth < 32 → w.nesting.calls ≤ depth → shallow depth w ≡ (Err (refusal.Evaluation DepthSetting), w)
-unfolding shallow
+call_set : {S : Type 0} (depth : ℕ) (w : State S) → depth < 32 → w.nesting.calls ≤ depth → call_allowed depth w ≡ (Err (refusal.Evaluation DepthSetting), w)
+unfolding call_allowed
 call_set depth w less many =
     let test : nat_lt depth 32 ≡ true = grind (arith, nat_tests) in
     let allowed : nat_lt depth w.nesting.calls ≡ false = grind (arith, nat_tests) in

@@ -22,7 +22,7 @@ use Rattle.aml_meaning.specs.Exporting.{value_exported, held_exported, element_e
 use Rattle.aml_laws.specs.Calls.{body_frame}
 use Rattle.aml_laws.specs.Limits.{nested, IsNested, innermost, round}
 use Rattle.aml_laws.proofs.Charges.{charge_one}
-use Rattle.aml_laws.proofs.LimitsRefused.{object_made, bytes_fit, call_shallow}
+use Rattle.aml_laws.proofs.LimitsRefused.{object_made, bytes_fit, call_is_allowed}
 
 pub string_made : (bytes : List ℕ) (h : Objects) → length bytes ≤ 1048576 → length h < 262144 → make_string bytes h ≡ (Ok (value.String (length h)), h ++ object.String bytes ∷ [])
 unfolding make_string settle give go_on ◌>>=◌
@@ -44,7 +44,7 @@ pub call_begins : {S : Type 0} (depth : ℕ) (p : List Seg) (body : List ℕ) (a
 unfolding body_frame go_on ◌>>=◌
 call_begins depth p body arguments w less few =
     let some : 0 < w.nesting.calls = omega arith in
-    rw (call_shallow depth w less few, call_shallow 0 w (omega arith) some) refl
+    rw (call_is_allowed depth w less few, call_is_allowed 0 w (omega arith) some) refl
 
 -- ---- packages that are handed in
 

@@ -1,21 +1,24 @@
 -- How lists of terms go on behind items that are refused.
-use Rattle.std.specs.Prelude.{◌≡◌, ℕ, List, Bool, true, false, Ok, Err, refl, if◌then◌else◌}
-use Rattle.std.proofs.Common.{ap, sym, subst, ◌∙◌}
+use Rattle.std.specs.Prelude.{◌≡◌, ◌<◌, ◌==◌, ◌&&◌, ℕ, List, Bool, true, false, Ok, Err, refl, if◌then◌else◌}
+use Rattle.std.proofs.Common.{arith, ap, sym, subst, ◌∙◌}
+use Rattle.std.proofs.lemmas.Bool.Decides.{nat_tests}
 use Rattle.ar_space.specs.declared.refusal.Refusal.{Refusal}
 use Rattle.ar_space.specs.Accesses.{Accesses}
 use Rattle.ar_space.specs.Change.{give, go_on, ◌>>=◌}
 use Rattle.ar_space.specs.Outcome.{Outcome}
 use Rattle.aml_path.specs.declared.segment.Seg.{Seg}
 use Rattle.aml_grammar.specs.Tree.{Tree, Trees, no_trees, tree}
+use Rattle.aml_objects.specs.declared.value.Value.{Value}
 use Rattle.aml_meaning.specs.declared.flow.Flow.{Flow}
 use Rattle.aml_meaning.specs.declared.flow.Flow.TheVariants as flow
+use Rattle.aml_meaning.specs.declared.profile.Profile.{Profile}
 use Rattle.aml_meaning.specs.declared.profile.Profile.TheVariants as profiles
 use Rattle.aml_meaning.specs.Meaning.{meaning}
 use Rattle.aml_meaning.specs.PassedOver.{is_passable}
 use Rattle.aml_meaning.specs.Passing.{with_passed, item_done, passing}
 use Rattle.aml_meaning.specs.Run.{Run}
 use Rattle.aml_meaning.specs.State.{State}
-use Rattle.aml_meaning.specs.Tasks.{task, passes_over, goes_on, item, in_turn}
+use Rattle.aml_meaning.specs.Tasks.{task, module_level, passes_over, goes_on, item, in_turn}
 use Rattle.aml_laws.proofs.ProfileKept.{profile_relation}
 use Rattle.aml_laws.proofs.RulesPreserve.{meaning_preserves}
 
@@ -57,12 +60,27 @@ module _ {S : Type 0} (accesses : Accesses S) (scope : List Seg) (depth : ℕ) w
   unfolding go_on
   done_then t ts s after f is = first_then t ts s (Ok f) after (item_done_by (passes_over depth s.0.profile) t s after f refl is)
 
-  pub next_list : (t : Tree) (ts : Trees) (s after : State S × ℕ) (f : Flow) → goes_on f ≡ true → meaning accesses (task scope depth t) s ≡ (Ok f, after) → in_turn (meaning accesses) scope depth (tree t ts) s ≡ in_turn (meaning accesses) scope depth ts after
-  next_list t ts s after f more is = done_then t ts s after f is ∙ ap (λ b. (if b then in_turn (meaning accesses) scope depth ts else give f) after) more
+  pub behind_nothing : (t : Tree) (ts : Trees) (s after : State S × ℕ) → meaning accesses (task scope depth t) s ≡ (Ok flow.Next, after) → in_turn (meaning accesses) scope depth (tree t ts) s ≡ in_turn (meaning accesses) scope depth ts after
+  behind_nothing t ts s after is = done_then t ts s after flow.Next is
 
-  pub left_list : (t : Tree) (ts : Trees) (s after : State S × ℕ) (f : Flow) → goes_on f ≡ false → meaning accesses (task scope depth t) s ≡ (Ok f, after) → in_turn (meaning accesses) scope depth (tree t ts) s ≡ (Ok f, after)
+  pub behind_a_value : (t : Tree) (ts : Trees) (s after : State S × ℕ) (v : Value) → meaning accesses (task scope depth t) s ≡ (Ok (flow.Value v), after) → in_turn (meaning accesses) scope depth (tree t ts) s ≡ in_turn (meaning accesses) scope depth ts after
+  behind_a_value t ts s after v is = done_then t ts s after (flow.Value v) is
+
+  pub ends_at_a_return : (t : Tree) (ts : Trees) (s after : State S × ℕ) (v : Value) → meaning accesses (task scope depth t) s ≡ (Ok (flow.Return v), after) → in_turn (meaning accesses) scope depth (tree t ts) s ≡ (Ok (flow.Return v), after)
   unfolding give
-  left_list t ts s after f more is = done_then t ts s after f is ∙ ap (λ b. (if b then in_turn (meaning accesses) scope depth ts else give f) after) more
+  ends_at_a_return t ts s after v is = done_then t ts s after (flow.Return v) is
+
+  pub ends_at_a_break : (t : Tree) (ts : Trees) (s after : State S × ℕ) → meaning accesses (task scope depth t) s ≡ (Ok flow.Break, after) → in_turn (meaning accesses) scope depth (tree t ts) s ≡ (Ok flow.Break, after)
+  unfolding give
+  ends_at_a_break t ts s after is = done_then t ts s after flow.Break is
+
+  pub ends_at_a_continue : (t : Tree) (ts : Trees) (s after : State S × ℕ) → meaning accesses (task scope depth t) s ≡ (Ok flow.Continue, after) → in_turn (meaning accesses) scope depth (tree t ts) s ≡ (Ok flow.Continue, after)
+  unfolding give
+  ends_at_a_continue t ts s after is = done_then t ts s after flow.Continue is
+
+  pub comes_to_its_end : (s : State S × ℕ) → in_turn (meaning accesses) scope depth no_trees s ≡ (Ok flow.Next, s)
+  unfolding in_turn give
+  comes_to_its_end s = refl
 
   -- ---- an item that is refused
 
@@ -78,6 +96,24 @@ module _ {S : Type 0} (accesses : Accesses S) (scope : List Seg) (depth : ℕ) w
 
   pub ended_list : (t : Tree) (ts : Trees) (s after : State S × ℕ) (e : Refusal) → is_passable e ≡ false → meaning accesses (task scope depth t) s ≡ (Err e, after) → in_turn (meaning accesses) scope depth (tree t ts) s ≡ (Err e, after)
   ended_list t ts s after e fails is = ended_by (passes_over depth s.0.profile) t ts s after e refl fails is
+
+none_in_core : (depth : ℕ) → passes_over depth profiles.Core ≡ false
+none_in_core depth = by (module_level depth)
+  where
+    by : (b : Bool) → (b && false) ≡ false
+    by true = refl
+    by false = refl
+
+none_in_body : (depth : ℕ) (p : Profile) → 0 < depth → passes_over depth p ≡ false
+none_in_body depth p some = let inside : (depth == 0) ≡ false = grind (arith, nat_tests) in rw inside refl
+
+pub refused_in_core : {S : Type 0} (accesses : Accesses S) (scope : List Seg) (depth : ℕ) (t : Tree) (ts : Trees) (s after : State S × ℕ) (e : Refusal) → s.0.profile ≡ profiles.Core → meaning accesses (task scope depth t) s ≡ (Err e, after)
+    → in_turn (meaning accesses) scope depth (tree t ts) s ≡ (Err e, after)
+refused_in_core accesses scope depth t ts s after e core is = refused_list accesses scope depth t ts s after e (ap (passes_over depth) core ∙ none_in_core depth) is
+
+pub refused_in_body : {S : Type 0} (accesses : Accesses S) (scope : List Seg) (depth : ℕ) (t : Tree) (ts : Trees) (s after : State S × ℕ) (e : Refusal) → 0 < depth → meaning accesses (task scope depth t) s ≡ (Err e, after)
+    → in_turn (meaning accesses) scope depth (tree t ts) s ≡ (Err e, after)
+refused_in_body accesses scope depth t ts s after e some is = refused_list accesses scope depth t ts s after e (none_in_body depth s.0.profile some) is
 
 wide_passes : {S : Type 0} (s : State S × ℕ) → s.0.profile ≡ profiles.Wide → passes_over 0 s.0.profile ≡ true
 wide_passes s wide = ap (passes_over 0) wide

@@ -1,6 +1,7 @@
--- The lists within terms are evaluated in turn, as deep in calls as the term itself.
-use Rattle.std.specs.Prelude.{◌≡◌, ℕ, suc, List, true, false, Some, None, Ok, Err, refl}
-use Rattle.std.proofs.Common.{ap, sym, ◌∙◌}
+-- The lists within terms are evaluated in turn, as deep in calls as the term itself, and what ends the term.
+use Rattle.std.specs.Prelude.{◌≡◌, ◌<◌, ℕ, suc, List, true, false, Option, Some, None, Ok, Err, refl}
+use Rattle.std.proofs.Common.{arith, ap, sym, ◌∙◌}
+use Rattle.std.proofs.lemmas.Bool.Decides.{nat_tests}
 use Rattle.ar_space.specs.declared.refusal.Refusal.{Refusal}
 use Rattle.ar_space.specs.Accesses.{Accesses}
 use Rattle.ar_space.specs.Outcome.{Outcome}
@@ -10,9 +11,10 @@ use Rattle.aml_path.specs.Paths.{Name, resolved}
 use Rattle.aml_grammar.specs.declared.opcode.Opcode.{Opcode}
 use Rattle.aml_grammar.specs.declared.opcode.Opcode.TheVariants as opcodes
 use Rattle.aml_grammar.specs.declared.opcode.TermCode.TheVariants as codes
-use Rattle.aml_grammar.specs.Tree.{Tree, Trees, inner, list}
+use Rattle.aml_grammar.specs.Tree.{Tree, Trees, Part, null, name, number as a_number, bytes, inner, list}
 use Rattle.aml_grammar.specs.Apart.{code_of, operand_of, name_of}
 use Rattle.aml_objects.specs.declared.entry.NamedObject.{NamedObject}
+use Rattle.aml_objects.specs.declared.value.Value.{Value}
 use Rattle.aml_convert.specs.Operators.{is_true}
 use Rattle.aml_meaning.specs.declared.flow.Flow.{Flow}
 use Rattle.aml_meaning.specs.declared.flow.Flow.TheVariants as flow
@@ -20,15 +22,28 @@ use Rattle.aml_meaning.specs.Evaluation.{rule}
 use Rattle.aml_meaning.specs.Meaning.{meaning}
 use Rattle.aml_meaning.specs.Run.{Run, lift}
 use Rattle.aml_meaning.specs.State.{State}
-use Rattle.aml_meaning.specs.Tasks.{Task, task, module_level, operand_integer, in_turn}
+use Rattle.aml_meaning.specs.Tasks.{Task, task, module_level, operand_value, operand_integer, in_turn}
 use Rattle.aml_meaning.specs.Terms.{else_of}
 use Rattle.aml_meaning.specs.Readings.{scope_found}
 use Rattle.aml_meaning.specs.Declaring.{new_name}
 use Rattle.aml_meaning.specs.DeclarationTerms.{scope_rule, new_scope}
 use Rattle.aml_meaning.specs.StatementTerms.{branch, if_rule, else_rule, while_rule, loop, turn, turn_of, after_turn, loop_end}
 use Rattle.aml_meaning.proofs.Loops.{loop_is}
-use Rattle.aml_laws.specs.InnerLists.{DeclaresScope, of_device, of_processor, of_power_resource, of_thermal_zone}
+use Rattle.aml_laws.specs.InnerLists.{DeclaresScope, of_device, of_processor, of_power_resource, of_thermal_zone, Tests, Turns}
+use Rattle.aml_laws.specs.OperatorTerms.{OneInteger}
 use Rattle.aml_laws.proofs.TreesCost.{term_begins}
+
+holds : (x : ℕ) → 0 < x → is_true x ≡ true
+holds x some = grind (arith, nat_tests)
+
+no_else : (o : Option Part) → ((e : Tree) → o ≡ Some (inner e) → ⊥) → else_of o ≡ None
+no_else None none = refl
+no_else (Some null) none = refl
+no_else (Some (name n)) none = refl
+no_else (Some (a_number n)) none = refl
+no_else (Some (bytes bs)) none = refl
+no_else (Some (inner e)) none = absurd (none e refl)
+no_else (Some (list ts)) none = refl
 
 module _ {S : Type 0} (accesses : Accesses S) where
   abbrev ev : Task → Run S Flow
@@ -40,20 +55,28 @@ module _ {S : Type 0} (accesses : Accesses S) where
 
   -- ---- conditions
 
-  module _ (scope : List Seg) (depth : ℕ) (t c : Tree) (ts : Trees) (w : State S) (steps x : ℕ) (after : State S × ℕ) where
-    if_begins : code_of t ≡ codes.Opcode opcodes.If → operand_of t 0 ≡ Some (inner c) → operand_of t 1 ≡ Some (list ts) → operand_integer ev scope depth c (w, steps) ≡ (Ok x, after)
-        → ev (task scope depth t) (w, suc steps) ≡ branch ev scope depth ts (else_of (operand_of t 2)) (is_true x) after
+  integer_given : (scope : List Seg) (depth : ℕ) (c : Tree) (s : State S × ℕ) (x : ℕ) (after : State S × ℕ) → OneInteger accesses scope depth c s x after → operand_integer ev scope depth c s ≡ (Ok x, after)
+  unfolding operand_integer operand_value settle lift ◌>>=◌ go_on
+  integer_given scope depth c s x after h = rw (h.gives, h.converts) refl
+
+  module _ (scope : List Seg) (depth : ℕ) (t : Tree) (ts : Trees) (w : State S) (steps x : ℕ) (after : State S × ℕ) (h : Tests accesses scope depth opcodes.If t ts (w, steps) x after) where
+    if_begins : ev (task scope depth t) (w, suc steps) ≡ branch ev scope depth ts (else_of (operand_of t 2)) (is_true x) after
     unfolding rule if_rule settle ◌>>=◌ go_on
-    if_begins code condition items is = by_rule scope depth t w steps ∙ rw (code, condition, items, is) refl
+    if_begins = by_rule scope depth t w steps ∙ rw (h.code, h.first, h.second, integer_given scope depth h.condition (w, steps) x after h.gives) refl
 
-    pub if_true : code_of t ≡ codes.Opcode opcodes.If → operand_of t 0 ≡ Some (inner c) → operand_of t 1 ≡ Some (list ts) → operand_integer ev scope depth c (w, steps) ≡ (Ok x, after) → is_true x ≡ true
-        → ev (task scope depth t) (w, suc steps) ≡ in_turn ev scope depth ts after
-    if_true code condition items is holds = if_begins code condition items is ∙ ap (λ b. branch ev scope depth ts (else_of (operand_of t 2)) b after) holds
+    pub if_true : 0 < x → ev (task scope depth t) (w, suc steps) ≡ in_turn ev scope depth ts after
+    if_true some = if_begins ∙ ap (λ b. branch ev scope depth ts (else_of (operand_of t 2)) b after) (holds x some)
 
-    pub if_else : (e : Tree) → code_of t ≡ codes.Opcode opcodes.If → operand_of t 0 ≡ Some (inner c) → operand_of t 1 ≡ Some (list ts) → operand_of t 2 ≡ Some (inner e) → operand_integer ev scope depth c (w, steps) ≡ (Ok x, after) → is_true x ≡ false
-        → ev (task scope depth t) (w, suc steps) ≡ ev (task scope depth e) after
-    if_else e code condition items others is fails =
-        if_begins code condition items is ∙ ap (λ b. branch ev scope depth ts (else_of (operand_of t 2)) b after) fails ∙ ap (λ o. branch ev scope depth ts (else_of o) false after) others
+  module _ (scope : List Seg) (depth : ℕ) (t : Tree) (ts : Trees) (w : State S) (steps : ℕ) (after : State S × ℕ) (h : Tests accesses scope depth opcodes.If t ts (w, steps) 0 after) where
+    if_false : (o : Option Tree) → else_of (operand_of t 2) ≡ o → ev (task scope depth t) (w, suc steps) ≡ branch ev scope depth ts o false after
+    if_false o others = if_begins scope depth t ts w steps 0 after h ∙ ap (λ o. branch ev scope depth ts o false after) others
+
+    pub if_else : (e : Tree) → operand_of t 2 ≡ Some (inner e) → ev (task scope depth t) (w, suc steps) ≡ ev (task scope depth e) after
+    if_else e others = if_false (Some e) (ap else_of others)
+
+    pub if_alone : ((e : Tree) → operand_of t 2 ≡ Some (inner e) → ⊥) → ev (task scope depth t) (w, suc steps) ≡ (Ok flow.Next, after)
+    unfolding give
+    if_alone none = if_false None (no_else (operand_of t 2) none)
 
   pub else_list : (scope : List Seg) (depth : ℕ) (t : Tree) (ts : Trees) (w : State S) (steps : ℕ) → code_of t ≡ codes.Opcode opcodes.Else → operand_of t 0 ≡ Some (list ts) → ev (task scope depth t) (w, suc steps) ≡ in_turn ev scope depth ts (w, steps)
   unfolding rule else_rule settle ◌>>=◌ go_on
@@ -78,24 +101,41 @@ module _ {S : Type 0} (accesses : Accesses S) where
       unfolding ◌>>=◌
       turn_begins = while_is w steps ∙ loop_is accesses scope depth c ts (w, steps) ∙ ap behind_turn turn_is
 
-      in_turn_begins : is_true x ≡ true → (r : Outcome Flow) (end : State S × ℕ) → in_turn ev scope depth ts after ≡ (r, end) → ev (task scope depth t) (w, suc steps) ≡ behind_turn (r, end)
-      in_turn_begins holds r end done = turn_begins ∙ ap (λ b. behind_turn (turn_of ev scope depth ts b after)) holds ∙ ap behind_turn done
+      turn_ends : is_true x ≡ true → (r : Outcome Flow) (end : State S × ℕ) → in_turn ev scope depth ts after ≡ (r, end) → ev (task scope depth t) (w, suc steps) ≡ behind_turn (r, end)
+      turn_ends holds r end done = turn_begins ∙ ap (λ b. behind_turn (turn_of ev scope depth ts b after)) holds ∙ ap behind_turn done
 
-      pub loop_refused : is_true x ≡ true → (e : Refusal) (end : State S × ℕ) → in_turn ev scope depth ts after ≡ (Err e, end) → ev (task scope depth t) (w, suc steps) ≡ (Err e, end)
-      unfolding go_on
-      loop_refused holds e end done = in_turn_begins holds (Err e) end done
+  module _ (scope : List Seg) (depth : ℕ) (t : Tree) (w : State S) (steps : ℕ) where
+    behind : (r : Outcome Flow) (end : State S × ℕ) (h : Turns accesses scope depth t (w, steps) r end) → ev (task scope depth t) (w, suc steps) ≡ go_on r end (λ f. after_turn ev (loop_end f) (loop ev scope depth h.tests.condition h.items))
+    behind r end h =
+        let is = integer_given scope depth h.tests.condition (w, steps) h.x h.after h.tests.gives in
+        turn_ends scope depth t h.tests.condition h.items h.tests.code h.tests.first h.tests.second w steps h.x h.after is (holds h.x h.holds) r end h.comes_to
 
-      pub loop_ends : is_true x ≡ true → (f g : Flow) (end : State S × ℕ) → in_turn ev scope depth ts after ≡ (Ok f, end) → loop_end f ≡ Some g → ev (task scope depth t) (w, suc steps) ≡ (Ok g, end)
-      unfolding go_on give
-      loop_ends holds f g end done ends = in_turn_begins holds (Ok f) end done ∙ ap (λ o. after_turn ev o (loop ev scope depth c ts) end) ends
+    pub loop_refused : (e : Refusal) (end : State S × ℕ) → Turns accesses scope depth t (w, steps) (Err e) end → ev (task scope depth t) (w, suc steps) ≡ (Err e, end)
+    unfolding go_on
+    loop_refused e end h = behind (Err e) end h
 
-      pub loop_goes_on : is_true x ≡ true → (f : Flow) (u : State S) (left : ℕ) → in_turn ev scope depth ts after ≡ (Ok f, (u, left)) → loop_end f ≡ None → ev (task scope depth t) (w, suc steps) ≡ ev (task scope depth t) (u, suc left)
-      unfolding go_on
-      loop_goes_on holds f u left done more = in_turn_begins holds (Ok f) (u, left) done ∙ ap (λ o. after_turn ev o (loop ev scope depth c ts) (u, left)) more ∙ sym (while_is u left)
+    pub loop_broken : (end : State S × ℕ) → Turns accesses scope depth t (w, steps) (Ok flow.Break) end → ev (task scope depth t) (w, suc steps) ≡ (Ok flow.Next, end)
+    unfolding go_on give
+    loop_broken end h = behind (Ok flow.Break) end h
 
-      pub loop_is_over : is_true x ≡ false → ev (task scope depth t) (w, suc steps) ≡ (Ok flow.Next, after)
-      unfolding go_on give
-      loop_is_over fails = turn_begins ∙ ap (λ b. behind_turn (turn_of ev scope depth ts b after)) fails
+    pub loop_returned : (v : Value) (end : State S × ℕ) → Turns accesses scope depth t (w, steps) (Ok (flow.Return v)) end → ev (task scope depth t) (w, suc steps) ≡ (Ok (flow.Return v), end)
+    unfolding go_on give
+    loop_returned v end h = behind (Ok (flow.Return v)) end h
+
+    again : (r : Outcome Flow) (u : State S) (left : ℕ) (h : Turns accesses scope depth t (w, steps) r (u, left)) → loop ev scope depth h.tests.condition h.items (u, left) ≡ ev (task scope depth t) (u, suc left)
+    again r u left h = sym (while_is scope depth t h.tests.condition h.items h.tests.code h.tests.first h.tests.second u left)
+
+    pub loop_goes_on : (u : State S) (left : ℕ) → Turns accesses scope depth t (w, steps) (Ok flow.Next) (u, left) → ev (task scope depth t) (w, suc steps) ≡ ev (task scope depth t) (u, suc left)
+    unfolding go_on
+    loop_goes_on u left h = behind (Ok flow.Next) (u, left) h ∙ again (Ok flow.Next) u left h
+
+    pub loop_continued : (u : State S) (left : ℕ) → Turns accesses scope depth t (w, steps) (Ok flow.Continue) (u, left) → ev (task scope depth t) (w, suc steps) ≡ ev (task scope depth t) (u, suc left)
+    unfolding go_on
+    loop_continued u left h = behind (Ok flow.Continue) (u, left) h ∙ again (Ok flow.Continue) u left h
+
+    pub loop_is_over : (ts : Trees) (after : State S × ℕ) → Tests accesses scope depth opcodes.While t ts (w, steps) 0 after → ev (task scope depth t) (w, suc steps) ≡ (Ok flow.Next, after)
+    unfolding go_on give
+    loop_is_over ts after h = turn_begins scope depth t h.condition ts h.code h.first h.second w steps 0 after (integer_given scope depth h.condition (w, steps) 0 after h.gives)
 
   -- ---- scopes
 

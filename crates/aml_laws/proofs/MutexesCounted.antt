@@ -5,13 +5,23 @@ use Rattle.std.proofs.lemmas.Bool.Decides.{nat_tests}
 use Rattle.std.specs.FinMap.{get}
 use Rattle.ar_space.specs.declared.refusal.Refusal.TheVariants as refusal
 use Rattle.ar_space.specs.declared.refusal.EvaluationFault.TheVariants.{NotAcquired, ObjectLimit}
-use Rattle.ar_space.specs.Change.{settle, go_on, ◌>>=◌}
+use Rattle.ar_space.specs.declared.refusal.ValueFault.TheVariants.{WrongType}
+use Rattle.ar_space.specs.Change.{stop, settle, go_on, ◌>>=◌}
 use Rattle.aml_path.specs.declared.segment.Seg.{Seg}
+use Rattle.aml_objects.specs.declared.entry.Entry.{Entry}
+use Rattle.aml_objects.specs.declared.entry.NamedObject.{NamedObject}
 use Rattle.aml_objects.specs.declared.entry.NamedObject.TheVariants as object
+use Rattle.aml_objects.specs.declared.value.Reference.{Reference}
+use Rattle.aml_objects.specs.declared.value.Reference.TheVariants as reference
+use Rattle.aml_objects.specs.declared.value.Slot.{Slot}
+use Rattle.aml_namespace.specs.Numbering.{Numbered}
+use Rattle.aml_namespace.proofs.Finding.{numbered_found}
 use Rattle.aml_namespace.specs.Namespace.{replaced}
+use Rattle.aml_meaning.specs.declared.store_target.StoreTarget.TheVariants as targets
 use Rattle.aml_meaning.specs.State.{State, on_names}
-use Rattle.aml_meaning.specs.Mutexes.{mutex_count, acquired, given_back}
-use Rattle.aml_laws.specs.Mutexes.{mutex_entry, with_acquisitions}
+use Rattle.aml_meaning.specs.Mutexes.{count_of_object, mutex_count, acquired, given_back, acquired_by_number, given_back_by_number, acquired_at, given_back_at}
+use Rattle.aml_meaning.specs.StoreTargets.{declaration}
+use Rattle.aml_laws.specs.Mutexes.{mutex_entry, with_acquisitions, IsNoMutex}
 
 module _ {S : Type 0} (w : State S) (path : List Seg) (n : ℕ) where
   put_is : (count more : ℕ) → get w.names.map path ≡ Some (mutex_entry n count) → on_names (replaced path (object.Mutex more)) w ≡ (Ok tt, with_acquisitions w path n more)
@@ -35,3 +45,42 @@ module _ {S : Type 0} (w : State S) (path : List Seg) (n : ℕ) where
   free_refused at = rw at refl
 
 pub ruleset acquisitions_are_counted_one_by_one = (acquire_adds, full_refused, release_takes, free_refused)
+
+-- ---- what is no mutex
+
+no_count : (o : NamedObject) → IsNoMutex o → count_of_object o ≡ Err (refusal.Value WrongType)
+no_count object.Scope not = refl
+no_count object.Device not = refl
+no_count object.Processor not = refl
+no_count object.PowerResource not = refl
+no_count object.ThermalZone not = refl
+no_count (object.Method m) not = refl
+no_count (object.Data v) not = refl
+no_count (object.OperationRegion r) not = refl
+no_count (object.FieldUnit u) not = refl
+no_count (object.BufferField f) not = refl
+no_count (object.Mutex count) not = absurd (not count refl)
+no_count (object.Event count) not = refl
+no_count (object.Alias p) not = refl
+
+module _ {S : Type 0} (w : State S) where
+  pub no_mutex_refused : (path : List Seg) (e : Entry) → get w.names.map path ≡ Some e → IsNoMutex e.object → (acquired_at (targets.Name path) w ≡ (Err (refusal.Value WrongType), w)) × (given_back_at (targets.Name path) w ≡ (Err (refusal.Value WrongType), w))
+  unfolding acquired given_back mutex_count go_on ◌>>=◌
+  no_mutex_refused path e at not = (rw (at, no_count e.object not) refl, rw (at, no_count e.object not) refl)
+
+  pub no_name_refused : (s : Slot) → (acquired_at (targets.Slot s) w ≡ (Err (refusal.Value WrongType), w)) × (given_back_at (targets.Slot s) w ≡ (Err (refusal.Value WrongType), w)) × (acquired_at targets.Nowhere w ≡ (Err (refusal.Value WrongType), w))
+      × (given_back_at targets.Nowhere w ≡ (Err (refusal.Value WrongType), w))
+  unfolding stop
+  no_name_refused s = (refl, refl, refl, refl)
+
+  pub by_reference : (path : List Seg) (e : Entry) → Numbered w.names → get w.names.map path ≡ Some e → (acquired_at (targets.Refers (reference.Name e.number)) w ≡ acquired_at (targets.Name path) w)
+      × (given_back_at (targets.Refers (reference.Name e.number)) w ≡ given_back_at (targets.Name path) w)
+  unfolding acquired_by_number given_back_by_number declaration go_on ◌>>=◌
+  by_reference path e standing at = let here = numbered_found w.names standing path e at in (rw here refl, rw here refl)
+
+  pub by_no_reference : (r : Reference) → ((number : ℕ) → r ≡ reference.Name number → ⊥) → (acquired_at (targets.Refers r) w ≡ (Err (refusal.Value WrongType), w)) × (given_back_at (targets.Refers r) w ≡ (Err (refusal.Value WrongType), w))
+  unfolding stop
+  by_no_reference (reference.Name n) not = absurd (not n refl)
+  by_no_reference (reference.Slot s n) not = (refl, refl)
+  by_no_reference (reference.Element o i) not = (refl, refl)
+  by_no_reference (reference.Byte o i) not = (refl, refl)

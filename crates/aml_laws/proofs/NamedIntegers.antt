@@ -20,7 +20,7 @@ use Rattle.aml_meaning.specs.Readings.{absolute, arguments_of, entry_found, argu
 use Rattle.aml_meaning.specs.Run.{Run, lift}
 use Rattle.aml_meaning.specs.State.{State}
 use Rattle.aml_meaning.specs.Tasks.{Task}
-use Rattle.aml_laws.proofs.LimitsRefused.{call_shallow}
+use Rattle.aml_laws.proofs.LimitsRefused.{call_is_allowed}
 use Rattle.aml_laws.specs.BusesFound.{TellsNumber}
 use Rattle.aml_laws.specs.NamesFound.{itself}
 use Rattle.aml_laws.proofs.NamesSearched.{one_path_found}
@@ -45,7 +45,7 @@ module _ {S : Type 0} (accesses : Accesses S) (ev : Task → Run S Flow) (p : Li
 
   answered_so : (k : ℕ) (w : State S) (steps : ℕ) → 31 - k < w.nesting.calls → get w.names.map p ≡ Some e → asked (answer_within accesses ev (suc k)) p (w, steps) ≡ (Ok n, (w, steps))
   unfolding asked answer_within lift settle go_on ◌>>=◌
-  answered_so k w steps few at = rw (invocation_told w at, call_shallow (31 - k) w (omega arith) few) refl
+  answered_so k w steps few at = rw (invocation_told w at, call_is_allowed (31 - k) w (omega arith) few) refl
 
   pub integer_told : (depth : ℕ) → depth < 32 → (w : State S) → depth < w.nesting.calls → (steps : ℕ) → get w.names.map p ≡ Some e → TellsNumber (called_at accesses ev depth) w steps p n
   integer_told depth less w few steps at t =

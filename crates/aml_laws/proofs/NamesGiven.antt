@@ -1,7 +1,9 @@
 -- What names and slots give where values stand.
-use Rattle.std.specs.Prelude.{◌≡◌, ◌≢◌, ℕ, suc, List, Ok, refl}
+use Rattle.std.specs.Prelude.{◌≡◌, ℕ, suc, List, Ok, Err, refl}
 use Rattle.std.proofs.Common.{◌∙◌}
 use Rattle.ar_space.specs.Accesses.{Accesses}
+use Rattle.ar_space.specs.declared.refusal.Refusal.TheVariants as refusal
+use Rattle.ar_space.specs.declared.refusal.EvaluationFault.TheVariants.{NoValue}
 use Rattle.ar_space.specs.Change.{give, settle, go_on, ◌>>=◌}
 use Rattle.aml_path.specs.declared.segment.Seg.{Seg}
 use Rattle.aml_path.specs.Paths.{Name}
@@ -20,10 +22,11 @@ use Rattle.aml_meaning.specs.Readings.{read_as, entry_found, arguments_found}
 use Rattle.aml_meaning.specs.Invocations.{named_use, invocation_found}
 use Rattle.aml_meaning.specs.InvocationTerms.{name_value}
 use Rattle.aml_meaning.specs.OperatorTerms.{slot_rule}
+use Rattle.aml_meaning.specs.StoreTargets.{latest_frame, slot_held, own_slot, slot_read}
 use Rattle.aml_meaning.specs.Evaluation.{rule}
 use Rattle.aml_meaning.specs.Meaning.{meaning}
 use Rattle.aml_laws.specs.StoredNames.{data_entry}
-use Rattle.aml_laws.specs.OperatorTerms.{alone, NamesSlot, local0, local1, local2, local3, local4, local5, local6, local7, argument0, argument1, argument2, argument3, argument4, argument5, argument6, SlotHolds, GivesValue}
+use Rattle.aml_laws.specs.OperatorTerms.{alone, NamesSlot, local0, local1, local2, local3, local4, local5, local6, local7, argument0, argument1, argument2, argument3, argument4, argument5, argument6, SlotHolds, SlotIsEmpty, GivesValue, IsRefused}
 use Rattle.aml_laws.specs.NamesUsed.{use_of, IsGivenBy, an_integer, a_string, a_buffer, a_package, another}
 use Rattle.aml_laws.proofs.TreesCost.{term_begins}
 use Rattle.aml_laws.proofs.Counting.{slot_gives}
@@ -66,3 +69,11 @@ module _ {S : Type 0} (accesses : Accesses S) (scope : List Seg) (depth : ℕ) (
 
   pub slot_is_given : (op : Opcode) (s : Slot) (v : Value) → NamesSlot op s → SlotHolds w s v → GivesValue accesses scope depth (alone op) (w, suc steps) v (w, steps)
   slot_is_given op s v names h = (term_begins accesses (task scope depth (alone op))).paid w steps ∙ slot_so op s v names h
+
+  empty_so : (s : Slot) → SlotIsEmpty w s → slot_read s w ≡ (Err (refusal.Evaluation NoValue), w)
+  unfolding slot_read own_slot latest_frame slot_held settle go_on ◌>>=◌
+  empty_so s h = rw (h.latest, h.stands, h.empty) refl
+
+  pub empty_slot_is_refused : (op : Opcode) (s : Slot) → NamesSlot op s → SlotIsEmpty w s → IsRefused accesses scope depth (alone op) (w, suc steps) (refusal.Evaluation NoValue) (w, steps)
+  unfolding rule slot_rule lift go_on ◌>>=◌
+  empty_slot_is_refused op s names h = (term_begins accesses (task scope depth (alone op))).paid w steps ∙ rw (slot_is_term op s names, empty_so s h) refl

@@ -147,5 +147,3 @@ one_path_empty m scope n path is at none =
 pub no_path : (m : Map) (scope : List Seg) (n : Name) (e : Refusal) → is_searched n ≡ false → resolved n scope ≡ Err e → found m scope n ≡ Err e
 unfolding ◌>>=◌
 no_path m scope n e is at = found_by m scope n (Err e) (resolved_first m scope n (Err e) is at) ∙ stays_refused m e
-
-pub ruleset any_other_name_stands_at_one_path = (one_path_found, one_path_empty, no_path)

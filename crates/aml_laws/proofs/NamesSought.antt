@@ -1,8 +1,9 @@
 -- CondRefOf refers to a name that is found, and to a slot that holds a value.
-use Rattle.std.specs.Prelude.{◌≡◌, ◌≢◌, ◌-◌, ◌^◌, ℕ, suc, List, Option, Some, None, Ok, Err, refl}
+use Rattle.std.specs.Prelude.{◌≡◌, ◌≢◌, ◌-◌, ◌^◌, ℕ, suc, List, Some, None, Ok, Err, refl}
 use Rattle.std.proofs.Common.{ap, ◌∙◌}
+use Rattle.ar_space.specs.declared.refusal.Refusal.{Refusal}
 use Rattle.ar_space.specs.declared.refusal.Refusal.TheVariants as refusal
-use Rattle.ar_space.specs.declared.refusal.NamespaceFault.TheVariants.{NotFound}
+use Rattle.ar_space.specs.declared.refusal.NamespaceFault.TheVariants.{Exists, NotFound}
 use Rattle.ar_space.specs.Accesses.{Accesses}
 use Rattle.ar_space.specs.Change.{give, settle, go_on, ◌>>=◌}
 use Rattle.aml_path.specs.declared.segment.Seg.{Seg}
@@ -24,10 +25,10 @@ use Rattle.aml_meaning.specs.Run.{lift}
 use Rattle.aml_meaning.specs.Tasks.{task}
 use Rattle.aml_meaning.specs.Readings.{integer_kept}
 use Rattle.aml_meaning.specs.OperatorTerms.{sought_name, sought_target, sought, reference_stored, conditional_rule}
-use Rattle.aml_meaning.specs.StoreTargets.{latest_frame, frame_found, slot_held, frame_number, slot_reference, unless_empty, slot_initialized, reference_if_found}
+use Rattle.aml_meaning.specs.StoreTargets.{latest_frame, frame_found, slot_held, frame_number, slot_reference, unless_empty, slot_initialized, where_found, reference_if_found}
 use Rattle.aml_meaning.specs.Evaluation.{rule}
 use Rattle.aml_meaning.specs.Meaning.{meaning}
-use Rattle.aml_laws.specs.OperatorTerms.{alone, NamesSlot, slot, StoresTo, SlotHolds, SlotIsEmpty, Gives}
+use Rattle.aml_laws.specs.OperatorTerms.{alone, NamesSlot, slot, StoresTo, SlotHolds, SlotIsEmpty, Gives, IsRefused}
 use Rattle.aml_laws.specs.ReferringTerms.{conditional, IsNumberedLast}
 use Rattle.aml_laws.proofs.TreesCost.{term_begins}
 use Rattle.aml_laws.proofs.OperatorsComputed.{target_is, stored_at}
@@ -40,6 +41,25 @@ some_reference (value.String o) r some = refl
 some_reference (value.Buffer o) r some = refl
 some_reference (value.Package o) r some = refl
 some_reference (value.Reference q) r some = refl
+
+-- only a name that isn't found is none
+kept_refusal : (e : Refusal) → e ≢ refusal.Namespace NotFound → where_found (Err e) ≡ Err e
+kept_refusal (refusal.Space f) other = refl
+kept_refusal (refusal.Table f) other = refl
+kept_refusal (refusal.Name f) other = refl
+kept_refusal (refusal.Term f at) other = refl
+kept_refusal (refusal.Value f) other = refl
+kept_refusal (refusal.Field f) other = refl
+kept_refusal (refusal.Namespace Exists) other = refl
+kept_refusal (refusal.Namespace NotFound) other = absurd (other refl)
+kept_refusal (refusal.Evaluation f) other = refl
+kept_refusal (refusal.Machine f) other = refl
+kept_refusal refusal.OutOfMemory other = refl
+kept_refusal (refusal.Resource f) other = refl
+kept_refusal (refusal.RoutingTable f) other = refl
+kept_refusal (refusal.Routing f) other = refl
+kept_refusal (refusal.Report f) other = refl
+kept_refusal (refusal.Input f) other = refl
 
 module _ {S : Type 0} (accesses : Accesses S) (scope : List Seg) (depth : ℕ) (w : State S) (steps : ℕ) (p q : Part) where
   -- what comes of what is sought
@@ -78,6 +98,10 @@ module _ {S : Type 0} (accesses : Accesses S) (scope : List Seg) (depth : ℕ) (
 
   pub none_is_referred : (n : Name) → found w.names.map scope n ≡ Err (refusal.Namespace NotFound) → Gives accesses scope depth (conditional (name n) q) (w, suc steps) 0 (w, steps)
   none_is_referred n lost = not_referred accesses scope depth w steps (name n) q (none_sought n lost)
+
+  pub other_refusal_stays : (n : Name) (e : Refusal) → found w.names.map scope n ≡ Err e → e ≢ refusal.Namespace NotFound → IsRefused accesses scope depth (conditional (name n) q) (w, suc steps) e (w, steps)
+  unfolding rule conditional_rule sought_name reference_if_found settle lift go_on ◌>>=◌
+  other_refusal_stays n e is other = (term_begins accesses (task scope depth (conditional (name n) q))).paid w steps ∙ rw (is, kept_refusal e other) refl
 
   -- ---- slots
 

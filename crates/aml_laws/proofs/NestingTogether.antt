@@ -14,7 +14,7 @@ use Rattle.aml_grammar.specs.Grammar.{reading_within, table_reading_within}
 use Rattle.aml_marked.proofs.FewerLevels.{reading_less, table_less}
 use Rattle.aml_meaning.specs.declared.settings.Nesting.{Nesting}
 use Rattle.aml_meaning.specs.State.{State}
-use Rattle.aml_meaning.specs.Invocations.{body_terms, body_arities, shallow, shallow_within}
+use Rattle.aml_meaning.specs.Invocations.{body_terms, body_arities, call_allowed, call_allowed_within}
 use Rattle.aml_laws.proofs.Together.{Sides, Deepens, Together, Comes, IsEnded}
 use Rattle.aml_laws.proofs.WorldsTogether.{world_over, worlds}
 
@@ -32,7 +32,7 @@ calls_by true false c h = inr refl
 calls_by true true true h = inl refl
 calls_by true true false h = absurd (cc (h refl))
 
-more_calls : (calls more depth : ℕ) → calls ≤ more → (shallow_within more depth ≡ shallow_within calls depth) ⊎ (shallow_within calls depth ≡ Err (refusal.Evaluation DepthSetting))
+more_calls : (calls more depth : ℕ) → calls ≤ more → (call_allowed_within more depth ≡ call_allowed_within calls depth) ⊎ (call_allowed_within calls depth ≡ Err (refusal.Evaluation DepthSetting))
 more_calls calls more depth le = calls_by (nat_lt depth 32) (nat_lt depth calls) (nat_lt depth more) (λ e. grind (arith, nat_tests, e, le))
 
 turned : {A : Type 0} {E : Type 0} (x y : Outcome A) → E → (x ≡ y) ⊎ (x ≡ Err (refusal.Evaluation DepthSetting)) → (y ≡ x) ⊎ (E × (x ≡ Err (refusal.Evaluation DepthSetting)))
@@ -53,9 +53,9 @@ module _ {S T : Type 0} {accesses : Accesses S} {accesses2 : Accesses T} (side :
   told_goes {A = A} x y w t (inl same) i = inr (inr (t, ap (λ (o : Outcome A). (o, world_over side.raise w t)) same, i))
   told_goes {A = A} x y w t (inr set) i = inr (inl (subst (λ (o : Outcome A). IsEnded side.Ends o) (sym set.1) set.0))
 
-  shallow_so : (depth : ℕ) (d : Nesting) → Deepens side.raise side.Ends → (shallow_within (side.raise.1 d).calls depth ≡ shallow_within d.calls depth) ⊎ (side.Ends (refusal.Evaluation DepthSetting) × (shallow_within d.calls depth ≡ Err (refusal.Evaluation DepthSetting)))
-  shallow_so depth d (inl same) = inl (ap (λ (n : Nesting). shallow_within n.calls depth) (same d))
-  shallow_so depth d (inr h) = set_or_same _ _ h.0 (more_calls d.calls (side.raise.1 d).calls depth (h.1 d).0)
+  call_allowed_so : (depth : ℕ) (d : Nesting) → Deepens side.raise side.Ends → (call_allowed_within (side.raise.1 d).calls depth ≡ call_allowed_within d.calls depth) ⊎ (side.Ends (refusal.Evaluation DepthSetting) × (call_allowed_within d.calls depth ≡ Err (refusal.Evaluation DepthSetting)))
+  call_allowed_so depth d (inl same) = inl (ap (λ (n : Nesting). call_allowed_within n.calls depth) (same d))
+  call_allowed_so depth d (inr h) = set_or_same _ _ h.0 (more_calls d.calls (side.raise.1 d).calls depth (h.1 d).0)
 
   body_so : (q : List Seg) (body : List ℕ) (arities : List Arity) (d : Nesting) → Deepens side.raise side.Ends
       → (reading_within (side.raise.1 d).levels body q true arities ≡ reading_within d.levels body q true arities) ⊎ (side.Ends (refusal.Evaluation DepthSetting) × (reading_within d.levels body q true arities ≡ Err (refusal.Evaluation DepthSetting)))
@@ -68,12 +68,12 @@ module _ {S T : Type 0} {accesses : Accesses S} {accesses2 : Accesses T} (side :
   table_so bytes arities d (inr h) = turned _ _ h.0 (table_less d.levels (side.raise.1 d).levels (h.1 d).1 bytes arities)
 
 module _ {S T : Type 0} {accesses : Accesses S} {accesses2 : Accesses T} {side : Sides accesses accesses2} where
-  pub shallow_together : (depth : ℕ) → Together side worlds (shallow depth) (shallow depth)
-  unfolding shallow
-  shallow_together depth = record {
+  pub call_allowed_together : (depth : ℕ) → Together side worlds (call_allowed depth) (call_allowed depth)
+  unfolding call_allowed
+  call_allowed_together depth = record {
     left_parted = λ w t p. p;
     right_parted = λ s w p. p;
-    goes = λ w t i. told_goes side (shallow_within w.nesting.calls depth) (shallow_within (side.raise.1 w.nesting).calls depth) w t (shallow_so side depth w.nesting side.deepens) i;
+    goes = λ w t i. told_goes side (call_allowed_within w.nesting.calls depth) (call_allowed_within (side.raise.1 w.nesting).calls depth) w t (call_allowed_so side depth w.nesting side.deepens) i;
   }
 
   pub body_terms_together : (q : List Seg) (body : List ℕ) → Together side worlds (body_terms q body) (body_terms q body)

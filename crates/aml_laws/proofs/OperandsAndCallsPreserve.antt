@@ -25,7 +25,7 @@ use Rattle.aml_laws.proofs.ItemsOfLists.{item_preserves}
 use Rattle.aml_laws.proofs.FieldsPreserve.{field_value_preserves, field_integer_preserves, field_part_preserves, field_referent_preserves, field_stored_preserves}
 use Rattle.aml_laws.proofs.FoundNamesStand.{MethodStandsAt}
 use Rattle.aml_laws.proofs.WorldRelations.{PartsLead, WorldRelation, Levels, always, deeper_preserves, RunPreserves, RunPreservesFrom, CalledMethodStands, MayRemoveBelow, run_give_preserves, run_stop_preserves, run_settle_preserves, lift_preserves, run_then_preserves, found_then_preserves, run_preserves_from, then_preserves_from, body_preserves_from}
-use Rattle.aml_laws.proofs.ChangesPreserve.{invocation_found_finds_invocation, integer_in_preserves, body_terms_preserves, shallow_preserves}
+use Rattle.aml_laws.proofs.ChangesPreserve.{invocation_found_finds_invocation, integer_in_preserves, body_terms_preserves, call_allowed_preserves}
 use Rattle.aml_laws.proofs.StoreTargetsPreserve.{stored_preserves}
 
 module _ {S : Type 0} {accesses : Accesses S} {levels : Levels accesses} (ev : Task → Run S Flow) (parts : PartsLead levels ev) where
@@ -58,7 +58,7 @@ module _ {S : Type 0} {accesses : Accesses S} {levels : Levels accesses} (ev : T
   pub invoked_leads_from : {level : ℕ} (u : State S) (depth : ℕ) (q : List Seg) (body : List ℕ) (arguments : List Value) → MayRemoveBelow (levels.at level) u q → RunPreservesFrom (levels.at level) u (invoked ev depth q body arguments)
   unfolding invoked
   invoked_leads_from u depth q body arguments gone =
-      then_preserves_from u _ _ (run_preserves_from u _ (lift_preserves _ (shallow_preserves _))) (λ few. then_preserves_from u _ _ (run_preserves_from u _ (lift_preserves _ (body_terms_preserves q body))) (λ ts. body_preserves_from u _ q _ gone (deeper_preserves levels depth _ (in_turn_leads q _ ts))))
+      then_preserves_from u _ _ (run_preserves_from u _ (lift_preserves _ (call_allowed_preserves _))) (λ few. then_preserves_from u _ _ (run_preserves_from u _ (lift_preserves _ (body_terms_preserves q body))) (λ ts. body_preserves_from u _ q _ gone (deeper_preserves levels depth _ (in_turn_leads q _ ts))))
 
   pub method_value_preserves_from : {level : ℕ} (u : State S) (depth : ℕ) (q : List Seg) (body : List ℕ) (arguments : List Value) → MethodStandsAt u.names.map q → RunPreservesFrom (levels.at level) u (method_value ev depth q body arguments)
   unfolding method_value
@@ -81,7 +81,7 @@ module _ {S : Type 0} {accesses : Accesses S} {levels : Levels accesses} (ev : T
   unfolding answer_within
   answer_within_preserves_from zero u i at = run_preserves_from u _ (run_stop_preserves _)
   answer_within_preserves_from (suc k) u i at =
-      then_preserves_from u _ _ (run_preserves_from u _ (lift_preserves _ (shallow_preserves _))) (λ few. answer_over_preserves_from k _ (asked_preserves _ (answer_within_preserves_from k)) u i at)
+      then_preserves_from u _ _ (run_preserves_from u _ (lift_preserves _ (call_allowed_preserves _))) (λ few. answer_over_preserves_from k _ (asked_preserves _ (answer_within_preserves_from k)) u i at)
 
   pub called_at_preserves : {level : ℕ} (depth : ℕ) (q : List Seg) → RunPreserves (levels.at level) (called_at accesses ev depth q)
   called_at_preserves depth q = asked_preserves _ (answer_within_preserves_from _) q

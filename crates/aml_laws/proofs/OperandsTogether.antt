@@ -24,7 +24,7 @@ use Rattle.aml_laws.proofs.Together.{Sides, Together, give_together, settle_toge
 use Rattle.aml_laws.proofs.Levels.{level, from_body}
 use Rattle.aml_laws.proofs.WorldsTogether.{leaving_together, lift_together, opened_together, runs}
 use Rattle.aml_laws.proofs.ChangesTogether.{integer_in_together, invocation_found_together}
-use Rattle.aml_laws.proofs.NestingTogether.{body_terms_together, shallow_together}
+use Rattle.aml_laws.proofs.NestingTogether.{body_terms_together, call_allowed_together}
 use Rattle.aml_laws.proofs.StoreTargetsTogether.{stored_together}
 use Rattle.aml_laws.proofs.FieldsTogether.{field_integer_together, field_part_together, field_referent_together, field_stored_together, field_value_together}
 
@@ -63,7 +63,7 @@ module _ {S T : Type 0} {accesses : Accesses S} {accesses2 : Accesses T} {side :
   pub invoked_together : (d depth : ℕ) (q : List Seg) (body : List ℕ) (arguments : List Value) → Together (level side d) runs (invoked ev depth q body arguments) (invoked ev2 depth q body arguments)
   unfolding invoked
   invoked_together d depth q body arguments =
-      then_together (lift_together (shallow_together depth)) (λ few. then_together (lift_together (body_terms_together q body)) (λ ts. then_together (lift_together (opened_together _)) (λ number. leaving_together q (from_body side depth d (in_turn_together q (depth + 1) ts)))))
+      then_together (lift_together (call_allowed_together depth)) (λ few. then_together (lift_together (body_terms_together q body)) (λ ts. then_together (lift_together (opened_together _)) (λ number. leaving_together q (from_body side depth d (in_turn_together q (depth + 1) ts)))))
 
   pub method_value_together : (d depth : ℕ) (q : List Seg) (body : List ℕ) (arguments : List Value) → Together (level side d) runs (method_value ev depth q body arguments) (method_value ev2 depth q body arguments)
   unfolding method_value
@@ -85,7 +85,7 @@ module _ {S T : Type 0} {accesses : Accesses S} {accesses2 : Accesses T} {side :
   answer_within_together : (d k : ℕ) (i : Invocation) → Together (level side d) runs (answer_within accesses ev k i) (answer_within accesses2 ev2 k i)
   unfolding answer_within
   answer_within_together d zero i = stop_together _
-  answer_within_together d (suc k) i = then_together (lift_together (shallow_together _)) (λ few. answer_over_together d k (asked_together d (answer_within_together d k)) i)
+  answer_within_together d (suc k) i = then_together (lift_together (call_allowed_together _)) (λ few. answer_over_together d k (asked_together d (answer_within_together d k)) i)
 
   pub called_at_together : (depth : ℕ) (q : List Seg) → Together (level side depth) runs (called_at accesses ev depth q) (called_at accesses2 ev2 depth q)
   called_at_together depth q = asked_together depth (answer_within_together depth _) q

@@ -28,7 +28,7 @@ use Rattle.aml_laws.specs.OperatorTerms.{Gives}
 use Rattle.aml_laws.specs.TestTerms.{IsTruth}
 use Rattle.aml_laws.specs.NamesUsed.{call_of_one, IsAmong, first, later, AsksOsi}
 use Rattle.aml_laws.proofs.TreesCost.{term_begins}
-use Rattle.aml_laws.proofs.LimitsRefused.{call_shallow}
+use Rattle.aml_laws.proofs.LimitsRefused.{call_is_allowed}
 use Rattle.aml_laws.proofs.OrderedValues.{total_itself}
 use Rattle.aml_laws.proofs.TestsTold.{truth_by}
 
@@ -69,7 +69,7 @@ not_among texts text e h = let both : true ≡ false = sym (known_so text texts 
 module _ {S : Type 0} (accesses : Accesses S) (scope : List Seg) (depth : ℕ) (n : Name) (x : Tree) (w : State S) (steps : ℕ) (text : List ℕ) (after : State S × ℕ) (h : AsksOsi accesses scope depth n x (w, steps) text after) where
   answered_so : rule accesses (meaning accesses) (task scope depth (call_of_one n x)) (w, steps) ≡ (Ok (flow.Value (value.Integer (truth after.0.width (is_known after.0.osi text)))), after)
   unfolding rule name_value invocation_found arguments_found entry_found named_use osi_rule arguments_in_turn operand_value osi_answered settle lift give go_on ◌>>=◌
-  answered_so = rw (h.finds, h.takes_one, h.finds, h.gives, call_shallow depth after.0 h.shallow h.allowed, h.holds) refl
+  answered_so = rw (h.finds, h.takes_one, h.finds, h.gives, call_is_allowed depth after.0 h.below_32 h.allowed, h.holds) refl
 
   pub osi_tells : (k : ℕ) × IsTruth after.0.width (IsAmong text after.0.osi) k × Gives accesses scope depth (call_of_one n x) (w, suc steps) k after
   osi_tells = (truth after.0.width (is_known after.0.osi text), truth_by after.0.width (is_known after.0.osi text) (IsAmong text after.0.osi) (among_so after.0.osi text) (not_among after.0.osi text), (term_begins accesses (task scope depth (call_of_one n x))).paid w steps ∙ answered_so)

@@ -73,15 +73,15 @@ pub data IsPartAt {S : Type 0} (w : State S) (v : Value) (i : ℕ) (r : Value) :
   at : (n : ℕ) (f : ℕ → Reference) → HasParts w v n f → i < n → dereferenced (f i) w ≡ (Ok (held.Value r), w) → IsPartAt w v i r
 
 module _ {S : Type 0} (w : State S) where
-  element_read : (o i : ℕ) (es : List Element) (v : Value) → slice_get w.objects o ≡ Some (object.Package es) → slice_get es i ≡ Some (element.Value v) → v ≢ value.Uninitialized → dereferenced (reference.Element o i) w ≡ (Ok (held.Value v), w)
+  pub element_read : (o i : ℕ) (es : List Element) (v : Value) → slice_get w.objects o ≡ Some (object.Package es) → slice_get es i ≡ Some (element.Value v) → v ≢ value.Uninitialized → dereferenced (reference.Element o i) w ≡ (Ok (held.Value v), w)
   unfolding held_once value_once on_objects element_at settle give go_on ◌>>=◌
   element_read o i es v stands is some = rw (stands, is, initialized_is v some) refl
 
-  string_byte_read : (o i b : ℕ) (bytes : List ℕ) → slice_get w.objects o ≡ Some (object.String bytes) → slice_get bytes i ≡ Some b → dereferenced (reference.Byte o i) w ≡ (Ok (held.Value (value.Integer b)), w)
+  pub string_byte_read : (o i b : ℕ) (bytes : List ℕ) → slice_get w.objects o ≡ Some (object.String bytes) → slice_get bytes i ≡ Some b → dereferenced (reference.Byte o i) w ≡ (Ok (held.Value (value.Integer b)), w)
   unfolding byte_once on_objects byte_at give go_on ◌>>=◌
   string_byte_read o i b bytes stands is = rw (stands, is) refl
 
-  buffer_byte_read : (o i b : ℕ) (bytes : List ℕ) → slice_get w.objects o ≡ Some (object.Buffer bytes) → slice_get bytes i ≡ Some b → dereferenced (reference.Byte o i) w ≡ (Ok (held.Value (value.Integer b)), w)
+  pub buffer_byte_read : (o i b : ℕ) (bytes : List ℕ) → slice_get w.objects o ≡ Some (object.Buffer bytes) → slice_get bytes i ≡ Some b → dereferenced (reference.Byte o i) w ≡ (Ok (held.Value (value.Integer b)), w)
   unfolding byte_once on_objects byte_at give go_on ◌>>=◌
   buffer_byte_read o i b bytes stands is = rw (stands, is) refl
 

@@ -9,16 +9,19 @@ use Rattle.aml_objects.specs.declared.entry.Entry.{Entry}
 use Rattle.aml_objects.specs.declared.entry.NamedObject.{NamedObject}
 use Rattle.aml_objects.specs.declared.entry.NamedObject.TheVariants as object
 use Rattle.aml_objects.specs.declared.value.Value.{Value}
+use Rattle.aml_objects.specs.declared.value.Value.TheVariants as value
 use Rattle.aml_objects.specs.declared.value.Reference.{Reference}
 use Rattle.aml_objects.specs.declared.value.Reference.TheVariants as reference
 use Rattle.aml_namespace.specs.Namespace.{Namespace, numbered}
 use Rattle.aml_namespace.specs.Numbering.{Numbered}
 use Rattle.aml_meaning.specs.declared.store_target.Held.{Held}
+use Rattle.aml_meaning.specs.declared.store_target.Held.TheVariants as held
 use Rattle.aml_meaning.specs.declared.store_target.StoreTarget.TheVariants as targets
 use Rattle.aml_meaning.specs.State.{State}
 use Rattle.aml_meaning.specs.StoreTargets.{holding_of, holding_in, held_at, held_in, or_gone, declaration, once, declared_once, name_read, number_in_entry, declared_number, name_reference, dereferenced}
 use Rattle.aml_meaning.specs.Stores.{store_over, copy_over, store_in_declared, store_in_name, copy_into_declared, copy_in_name, stored, copied_to, stored_through}
 use Rattle.aml_meaning.specs.Mutexes.{acquired, given_back, acquired_by_number, given_back_by_number, acquired_at, given_back_at}
+use Rattle.aml_laws.specs.StoredParts.{HoldsNothing, scope, device, processor, power_resource, thermal_zone, method, region, mutex, event, IsRead, a_value, a_unit, a_buffer_field, an_alias, no_data}
 use Rattle.aml_laws.proofs.DeclarationNumbers.{with_number_stands, unnumbered}
 
 -- ---- the number of a declaration that stands finds it
@@ -126,4 +129,27 @@ module _ {S : Type 0} (w : State S) (p : List Seg) (r : Reference) (h : Numbered
   pub name_gives_back : given_back_at (targets.Refers r) w ≡ given_back p w
   name_gives_back = let f = name_found w p r e in subst (λ (y : Reference). given_back_at (targets.Refers y) w ≡ given_back p w) (sym f.is) (given_back_by_number_is w p f.entry f.there h)
 
-pub ruleset a_reference_to_a_name_finds_its_declaration = (name_reference_is, declaration_is, declared_once_is, name_copies)
+-- ---- one step on
+
+nothing_once : (n : ℕ) (o : NamedObject) → HoldsNothing o → once n o ≡ held.Value (value.Reference (reference.Name n))
+nothing_once n _ scope = refl
+nothing_once n _ device = refl
+nothing_once n _ processor = refl
+nothing_once n _ power_resource = refl
+nothing_once n _ thermal_zone = refl
+nothing_once n _ (method m) = refl
+nothing_once n _ (region r) = refl
+nothing_once n _ (mutex c) = refl
+nothing_once n _ (event c) = refl
+
+once_so : (n : ℕ) (o : NamedObject) (x : Held) → IsRead n o x → once n o ≡ x
+once_so n _ _ (a_value v) = refl
+once_so n _ _ (a_unit u) = refl
+once_so n _ _ (a_buffer_field b) = refl
+once_so n _ _ (an_alias path) = refl
+once_so n _ _ (no_data o h) = nothing_once n o h
+
+pub declared_is_read : {S : Type 0} (w : State S) (p : List Seg) (e : Entry) (x : Held) → Numbered w.names → get w.names.map p ≡ Some e → IsRead e.number e.object x → (dereferenced (reference.Name e.number) w).0 ≡ Ok x
+declared_is_read w p e x h at is = declared_once_is w p e at h ∙ ap Ok (once_so e.number e.object x is)
+
+pub ruleset a_reference_to_a_name_finds_its_declaration = (name_reference_is, declaration_is, declared_is_read, name_copies)

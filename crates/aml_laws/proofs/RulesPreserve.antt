@@ -51,7 +51,7 @@ use Rattle.aml_meaning.specs.Meaning.{meaning, evaluated_within}
 use Rattle.aml_laws.proofs.ObjectKinds.{make_string_keeps_kinds, new_buffer_field_keeps_kinds}
 use Rattle.aml_laws.proofs.FoundNamesStand.{MethodStandsAt}
 use Rattle.aml_laws.proofs.WorldRelations.{PartsLead, Levels, always, WorldRelation, RunPreserves, RunPreservesFrom, CalledMethodStands, on_objects_preserves, run_give_preserves, run_stop_preserves, run_settle_preserves, lift_preserves, charge_preserves, run_then_preserves, found_then_preserves, run_preserves_from, then_preserves_from}
-use Rattle.aml_laws.proofs.ChangesPreserve.{integer_kept_preserves, integer_in_preserves, path_found_preserves, scope_found_preserves, target_named_preserves, within_preserves, new_buffer_preserves, new_package_preserves, new_name_preserves, new_method_preserves, divided_in_preserves, turned_preserves, size_in_preserves, result_of_two_preserves, result_of_one_preserves, result_of_test_preserves, counted_by_preserves, osi_answered_preserves, invocation_found_finds_invocation, shallow_preserves}
+use Rattle.aml_laws.proofs.ChangesPreserve.{integer_kept_preserves, integer_in_preserves, path_found_preserves, scope_found_preserves, target_named_preserves, within_preserves, new_buffer_preserves, new_package_preserves, new_name_preserves, new_method_preserves, divided_in_preserves, turned_preserves, size_in_preserves, result_of_two_preserves, result_of_one_preserves, result_of_test_preserves, counted_by_preserves, osi_answered_preserves, invocation_found_finds_invocation, call_allowed_preserves}
 use Rattle.aml_laws.proofs.StoreTargetsPreserve.{slot_read_preserves, tested_preserves, dereferenced_preserves, target_read_preserves, reference_of_preserves, if_initialized_preserves, reference_if_found_preserves, target_referent_preserves, value_referent_preserves, copied_to_preserves, acquired_at_preserves, given_back_at_preserves}
 use Rattle.aml_laws.proofs.OperandsAndCallsPreserve.{at_all_depths, operand_value_leads, operand_integer_preserves, value_at_leads, two_values_leads, in_turn_leads, invoked_leads_from, field_read_preserves, held_integer_preserves, referent_read_preserves, completed_preserves, stored_to_preserves, held_value_preserves, stored_back_preserves}
 use Rattle.aml_laws.proofs.WideTermsPreserve.{connections_asked_preserves, in_wide_preserves}
@@ -423,7 +423,7 @@ module _ {S : Type 0} {accesses : Accesses S} {levels : Levels accesses} (ev : T
 
   osi_rule_preserves : (scope : List Seg) (depth : ℕ) (ts : Trees) → RunPreserves (levels.at depth) (osi_rule ev scope depth ts)
   unfolding osi_rule
-  osi_rule_preserves scope depth ts = run_then_preserves _ _ (arguments_in_turn_preserves scope depth ts _) (λ arguments. run_then_preserves _ _ (lift_preserves _ (shallow_preserves _)) (λ few. run_then_preserves _ _ (lift_preserves _ (osi_answered_preserves arguments)) (λ v. run_give_preserves _)))
+  osi_rule_preserves scope depth ts = run_then_preserves _ _ (arguments_in_turn_preserves scope depth ts _) (λ arguments. run_then_preserves _ _ (lift_preserves _ (call_allowed_preserves _)) (λ few. run_then_preserves _ _ (lift_preserves _ (osi_answered_preserves arguments)) (λ v. run_give_preserves _)))
 
   invocation_rule_preserves_from : (scope : List Seg) (depth : ℕ) (ts : Trees) (u : State S) (i : Invocation) → CalledMethodStands u i → RunPreservesFrom (levels.at depth) u (invocation_rule accesses ev scope depth ts i)
   unfolding field_rule

@@ -49,7 +49,7 @@ use Rattle.aml_meaning.specs.Evaluation.{kind_rule, code_rule, rule}
 use Rattle.aml_laws.proofs.Together.{Fits, Sides, Together, ended_fits, ended_together, fits_before, fits_ended, fits_next, fits_none, more_fits, give_together, settle_together, stop_together, then_together}
 use Rattle.aml_laws.proofs.WorldsTogether.{charge_together, lift_together, objects_together, runs}
 use Rattle.aml_laws.proofs.ChangesTogether.{counted_by_together, divided_in_together, integer_in_together, integer_kept_together, new_buffer_together, new_method_together, new_name_together, new_package_together, osi_answered_together, path_found_together, result_of_one_together, result_of_test_together, result_of_two_together, scope_found_together, size_in_together, target_named_together, turned_together, within_together, invocation_found_together}
-use Rattle.aml_laws.proofs.NestingTogether.{shallow_together}
+use Rattle.aml_laws.proofs.NestingTogether.{call_allowed_together}
 use Rattle.aml_laws.proofs.StoreTargetsTogether.{acquired_at_together, copied_to_together, dereferenced_together, given_back_at_together, if_initialized_together, reference_if_found_together, reference_of_together, slot_read_together, target_read_together, target_referent_together, tested_together, value_referent_together}
 use Rattle.aml_laws.proofs.FieldsTogether.{elements_laid_together, field_found_together, region_found_together}
 use Rattle.aml_laws.proofs.Levels.{level, at_level}
@@ -432,7 +432,7 @@ module _ {S T : Type 0} {accesses : Accesses S} {accesses2 : Accesses T} {side :
 
   osi_rule_together : (scope : List Seg) (depth : ℕ) (ts : Trees) → Together (level side depth) runs (osi_rule ev scope depth ts) (osi_rule ev2 scope depth ts)
   unfolding osi_rule
-  osi_rule_together scope depth ts = then_together (arguments_in_turn_together scope depth ts _) (λ arguments. then_together (lift_together (shallow_together depth)) (λ few. then_together (lift_together (osi_answered_together arguments)) (λ v. give_together _)))
+  osi_rule_together scope depth ts = then_together (arguments_in_turn_together scope depth ts _) (λ arguments. then_together (lift_together (call_allowed_together depth)) (λ few. then_together (lift_together (osi_answered_together arguments)) (λ v. give_together _)))
 
   invocation_rule_together : (scope : List Seg) (depth : ℕ) (ts : Trees) (i : Invocation) → Together (level side depth) runs (invocation_rule accesses ev scope depth ts i) (invocation_rule accesses2 ev2 scope depth ts i)
   unfolding field_rule

@@ -8,7 +8,7 @@ use Rattle.ar_space.specs.declared.refusal.EvaluationFault.{EvaluationFault}
 use Rattle.ar_space.specs.declared.refusal.EvaluationFault.TheVariants.{OutOfSteps, CallDepth, DepthSetting}
 use Rattle.ar_space.specs.Outcome.{Outcome, seen}
 use Rattle.aml_meaning.specs.declared.settings.Nesting.{Nesting}
-use Rattle.aml_meaning.specs.Invocations.{shallow_within}
+use Rattle.aml_meaning.specs.Invocations.{call_allowed_within}
 use Rattle.aml_laws.proofs.CleanOutcomes.{Clean, CleanRefusal, IsUnset}
 
 -- whether fewer calls or levels are allowed than the default, which is as many as there may ever be
@@ -101,8 +101,8 @@ calls_by true true low h = tt
 calls_by true false low h = h refl refl
 calls_by false b low h = tt
 
-pub shallow_clean : (calls depth : ℕ) → CleanWithin (nat_lt calls 32) (shallow_within calls depth)
-shallow_clean calls depth = calls_by (nat_lt depth 32) (nat_lt depth calls) (nat_lt calls 32) (λ e f. grind (arith, nat_tests, e, f))
+pub call_allowed_clean : (calls depth : ℕ) → CleanWithin (nat_lt calls 32) (call_allowed_within calls depth)
+call_allowed_clean calls depth = calls_by (nat_lt depth 32) (nat_lt depth calls) (nat_lt calls 32) (λ e f. grind (arith, nat_tests, e, f))
 
 -- ---- outcomes of changes
 

@@ -1,5 +1,5 @@
 -- A Store converts to what a name holds, or is refused and changes nothing.
-use Rattle.std.specs.Prelude.{◌≡◌, ◌<◌, ◌≤◌, ℕ, ◌==◌, nat_lt, List, length, false, Some, Ok, Err, refl, slice_get}
+use Rattle.std.specs.Prelude.{◌≡◌, ◌<◌, ◌≤◌, ℕ, ◌==◌, nat_lt, List, [], length, false, Some, Ok, Err, refl, slice_get}
 use Rattle.std.proofs.Common.{arith, ◌∙◌}
 use Rattle.std.proofs.lemmas.Bool.Decides.{nat_tests}
 use Rattle.std.specs.FinMap.{get}
@@ -41,6 +41,11 @@ module _ {S : Type 0} (w : State S) (path : List Seg) (number : ℕ) (v : Value)
       let few : nat_lt 1048576 (length (cut_or_filled (length old) bytes)) ≡ false = grind (arith, nat_tests) in
       rw (at, is, held, room, few) refl
 
+  pub bytes_stored_whole : (o : ℕ) (bytes : List ℕ) → get w.names.map path ≡ Some (data_entry number (value.Buffer o)) → slice_get w.objects o ≡ Some (object.Buffer []) → to_buffer_of w.width (content_in w.objects v) ≡ Ok bytes → length bytes ≤ 1048576
+      → stored (targets.Name path) v w ≡ (Ok store.Done, with_object_numbered w o (object.Buffer bytes))
+  unfolding store_in_name held_at store_bytes bytes_in on_objects write_buffer give go_on ◌>>=◌
+  bytes_stored_whole o bytes at held is short = let few : nat_lt 1048576 (length bytes) ≡ false = grind (arith, nat_tests) in rw (at, is, held, few) refl
+
   -- ---- what doesn't convert leaves the world as it was
 
   pub no_integer_stored : (m : ℕ) (e : Refusal) → get w.names.map path ≡ Some (data_entry number (value.Integer m)) → integer_in v w ≡ (Err e, w) → stored (targets.Name path) v w ≡ (Err e, w)
@@ -81,4 +86,4 @@ package_stored w path number m o at = package_copied w path number m at o
 pub no_package_stored : {S : Type 0} (w : State S) (path : List Seg) (number : ℕ) (v : Value) (m : ℕ) → get w.names.map path ≡ Some (data_entry number (value.Package m)) → ((o : ℕ) → v ≡ value.Package o → ⊥) → stored (targets.Name path) v w ≡ (Err (refusal.Value WrongType), w)
 no_package_stored w path number v m at other = by_package w path number m at v ∙ is_refused w path number m at v other
 
-pub ruleset a_store_converts_to_what_its_name_holds = (integer_stored, text_stored, bytes_stored, package_stored, no_integer_stored, no_text_stored, no_bytes_stored, no_package_stored)
+pub ruleset a_store_converts_to_what_its_name_holds = (integer_stored, text_stored, bytes_stored, bytes_stored_whole, package_stored, no_integer_stored, no_text_stored, no_bytes_stored, no_package_stored)

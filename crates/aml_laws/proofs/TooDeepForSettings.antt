@@ -13,7 +13,7 @@ use Rattle.aml_grammar.specs.declared.arities.Arity.{Arity}
 use Rattle.aml_grammar.specs.State.{State}
 use Rattle.aml_grammar.specs.Tree.{Tree}
 use Rattle.aml_grammar.specs.Grammar.{by_arities, fault_within, max_depth, reading_within, table_reading_within, term_list_within, with_arities, within}
-use Rattle.aml_laws.specs.Deepened.{IsSet}
+use Rattle.aml_laws.specs.Deepened.{IsDepthSetting}
 use Rattle.aml_laws.proofs.ReadingRefusals.{list_within_reads}
 use Rattle.aml_laws.proofs.TermRefusals.{Reads}
 
@@ -35,7 +35,7 @@ by_fault true faults.NotInBody offset h = absurd (cc h)
 by_fault false fault offset h = absurd (cc h)
 
 module _ {A : Type 0} (levels : ℕ) where
-  set_is_deep : (x : Outcome A) → Reads x → IsSet (within levels x) → (levels < 64) × ((offset : ℕ) × TooDeepAt offset x)
+  set_is_deep : (x : Outcome A) → Reads x → IsDepthSetting (within levels x) → (levels < 64) × ((offset : ℕ) × TooDeepAt offset x)
   set_is_deep (Ok a) reads h = absurd (cc h)
   set_is_deep (Err (refusals.Term fault offset)) reads h =
       let same : fault_within (nat_lt levels max_depth) fault offset ≡ refusals.Evaluation DepthSetting = cc h in
@@ -44,7 +44,7 @@ module _ {A : Type 0} (levels : ℕ) where
   set_is_deep (Err (refusals.Name fault)) reads h = absurd (cc h)
   set_is_deep (Err _) reads h = absurd reads
 
-  deep_is_set : (x : Outcome A) → levels < 64 → (offset : ℕ) → TooDeepAt offset x → IsSet (within levels x)
+  deep_is_set : (x : Outcome A) → levels < 64 → (offset : ℕ) → TooDeepAt offset x → IsDepthSetting (within levels x)
   deep_is_set x few offset h = ap (within levels) h ∙ ap (λ b. Err (fault_within b faults.TooDeep offset)) (fewer_is levels few)
 
 with_arities_reads : (p : Outcome (List Tree) × State) → Reads p.0 → Reads (with_arities p)
@@ -60,13 +60,13 @@ deep_with_arities (Ok ts, s) offset h = absurd (cc h)
 deep_with_arities (Err e, s) offset h = ap (λ x. Err x) (cc h)
 
 pub list_set_exactly_if_deep : (levels : ℕ) (bs : List ℕ) (scope : List Seg) (body : Bool) (known : List Arity)
-    → IsSet (reading_within levels bs scope body known) ↔ ((levels < 64) × (offset : ℕ) × ((term_list_within levels by_arities bs scope body known).0 ≡ Err (refusals.Term faults.TooDeep offset)))
+    → IsDepthSetting (reading_within levels bs scope body known) ↔ ((levels < 64) × (offset : ℕ) × ((term_list_within levels by_arities bs scope body known).0 ≡ Err (refusals.Term faults.TooDeep offset)))
 list_set_exactly_if_deep levels bs scope body known =
     let list = (term_list_within levels by_arities bs scope body known).0 in
     (λ h. let k = set_is_deep levels list (list_within_reads levels bs scope body known) h in (k.0, k.1.0, k.1.1), λ h. deep_is_set levels list h.0 h.1 h.2)
 
 pub table_set_exactly_if_deep : (levels : ℕ) (bs : List ℕ) (known : List Arity)
-    → IsSet (table_reading_within levels bs known) ↔ ((levels < 64) × (offset : ℕ) × ((term_list_within levels by_arities bs [] false known).0 ≡ Err (refusals.Term faults.TooDeep offset)))
+    → IsDepthSetting (table_reading_within levels bs known) ↔ ((levels < 64) × (offset : ℕ) × ((term_list_within levels by_arities bs [] false known).0 ≡ Err (refusals.Term faults.TooDeep offset)))
 table_set_exactly_if_deep levels bs known =
     let run = term_list_within levels by_arities bs [] false known in (
       λ h. let k = set_is_deep levels (with_arities run) (with_arities_reads run (list_within_reads levels bs [] false known)) h in (k.0, k.1.0, with_arities_deep run k.1.0 k.1.1),

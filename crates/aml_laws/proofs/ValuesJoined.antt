@@ -13,7 +13,7 @@ use Rattle.ar_space.specs.Outcome.{Outcome}
 use Rattle.ar_space.specs.Outcome as outcome
 use Rattle.aml_path.specs.declared.segment.Seg.{Seg}
 use Rattle.aml_grammar.specs.declared.opcode.Opcode.TheVariants as opcodes
-use Rattle.aml_grammar.specs.Tree.{Tree, Part, null}
+use Rattle.aml_grammar.specs.Tree.{Tree, Part}
 use Rattle.aml_objects.specs.Contents.{Content, Integer, String, Buffer, Other, content_in}
 use Rattle.aml_objects.specs.declared.object.Object.TheVariants as object
 use Rattle.aml_objects.specs.declared.value.Value.{Value}
@@ -33,11 +33,12 @@ use Rattle.aml_meaning.specs.WideTerms.{formed_at, to_string_rule, middle_rule}
 use Rattle.aml_meaning.specs.Evaluation.{rule}
 use Rattle.aml_meaning.specs.Meaning.{meaning}
 use Rattle.aml_laws.specs.OperatorTerms.{two_to, StoresTo, GivesValue}
+use Rattle.aml_laws.specs.StoreTerms.{FormsTo}
 use Rattle.aml_laws.specs.TestTerms.{TwoValues}
 use Rattle.aml_laws.specs.JoinedTerms.{Fits, IsJoined, strings, buffers, integers, IsNew, new_string, new_buffer, middle, IsPart, TakesPart, HasBytes, of_string, of_buffer, of_integer, with_object, TakesText, IsTextOf}
 use Rattle.aml_laws.proofs.TreesCost.{term_begins}
 use Rattle.aml_laws.proofs.LimitsTaken.{string_made, buffer_made}
-use Rattle.aml_laws.proofs.OperatorsComputed.{stored_at, two_gives}
+use Rattle.aml_laws.proofs.OperatorsComputed.{target_is, stored_at, two_gives}
 use Rattle.aml_laws.proofs.TestsTold.{converted_so}
 use Rattle.aml_laws.proofs.WideAsked.{asked_in_wide}
 
@@ -190,13 +191,25 @@ module _ {S : Type 0} (accesses : Accesses S) (scope : List Seg) (depth : ℕ) (
   unfolding string_in string_text on_objects go_on ◌>>=◌
   string_to fits = rw (string_so, string_made (cut n bytes) after.0.objects fits.0 fits.1) refl
 
-  string_by : Fits after.0 (cut n bytes) → to_string_rule accesses (meaning accesses) scope depth (two_to opcodes.ToString x y null) (w, steps) ≡ (Ok (flow.Value (value.String (length after.0.objects))), (with_object after.0 (object.String (cut n bytes)), after.1))
-  unfolding to_string_rule two_values value_at operand_value formed_at settle lift give go_on ◌>>=◌
-  string_by fits = rw (h.operands.first, h.operands.second, string_to fits) refl
+  module _ (p : Part) (end : State S) (fits : Fits after.0 (cut n bytes)) (forms : FormsTo scope p (value.String (length after.0.objects)) (with_object after.0 (object.String (cut n bytes))) end) where
+    string_by : to_string_rule accesses (meaning accesses) scope depth (two_to opcodes.ToString x y p) (w, steps) ≡ (Ok (flow.Value (value.String (length after.0.objects))), (end, after.1))
+    unfolding to_string_rule two_values value_at operand_value formed_at settle lift give go_on ◌>>=◌
+    string_by =
+        rw (
+          h.operands.first,
+          h.operands.second,
+          string_to fits,
+          target_is accesses scope depth (two_to opcodes.ToString x y p) 2 (with_object after.0 (object.String (cut n bytes))) after.1 p forms.target forms.names refl,
+          forms.is,
+        ) refl
 
-  string_ruled : Fits after.0 (cut n bytes) → rule accesses (meaning accesses) (task scope depth (two_to opcodes.ToString x y null)) (w, steps) ≡ (Ok (flow.Value (value.String (length after.0.objects))), (with_object after.0 (object.String (cut n bytes)), after.1))
-  unfolding rule
-  string_ruled fits = asked_in_wide opcodes.ToString w steps h.wide (to_string_rule accesses (meaning accesses) scope depth (two_to opcodes.ToString x y null)) ∙ string_by fits
+    string_ruled : rule accesses (meaning accesses) (task scope depth (two_to opcodes.ToString x y p)) (w, steps) ≡ (Ok (flow.Value (value.String (length after.0.objects))), (end, after.1))
+    unfolding rule
+    string_ruled = asked_in_wide opcodes.ToString w steps h.wide (to_string_rule accesses (meaning accesses) scope depth (two_to opcodes.ToString x y p)) ∙ string_by
 
-  pub text_taken : (text : List ℕ) × IsTextOf n bytes text × (Fits after.0 text → GivesValue accesses scope depth (two_to opcodes.ToString x y null) (w, suc steps) (value.String (length after.0.objects)) (with_object after.0 (object.String text), after.1))
-  text_taken = (cut n bytes, text_is n bytes, λ fits. (term_begins accesses (task scope depth (two_to opcodes.ToString x y null))).paid w steps ∙ string_ruled fits)
+    string_gives : GivesValue accesses scope depth (two_to opcodes.ToString x y p) (w, suc steps) (value.String (length after.0.objects)) (end, after.1)
+    string_gives = (term_begins accesses (task scope depth (two_to opcodes.ToString x y p))).paid w steps ∙ string_ruled
+
+  pub text_taken : (text : List ℕ) × IsTextOf n bytes text
+      × ((p : Part) (end : State S) → Fits after.0 text → FormsTo scope p (value.String (length after.0.objects)) (with_object after.0 (object.String text)) end → GivesValue accesses scope depth (two_to opcodes.ToString x y p) (w, suc steps) (value.String (length after.0.objects)) (end, after.1))
+  text_taken = (cut n bytes, text_is n bytes, string_gives)

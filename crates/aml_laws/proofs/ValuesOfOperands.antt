@@ -39,7 +39,7 @@ use Rattle.aml_meaning.specs.Readings.{value_in}
 use Rattle.aml_meaning.specs.PassedOver.{is_passable}
 use Rattle.aml_meaning.specs.Passing.{with_passed, item_done, passing}
 use Rattle.aml_meaning.specs.Tasks.{Task, task, operand_value, value_at, two_values, operand_integer, passes_over, goes_on, item, in_turn}
-use Rattle.aml_meaning.specs.Invocations.{invocation_of_body, invocation_of_object, invocation_of, named_use, invocation_found, body_terms, returned_by, leaving, frame_arguments, value_of_call, invoked, method_value, shallow}
+use Rattle.aml_meaning.specs.Invocations.{invocation_of_body, invocation_of_object, invocation_of, named_use, invocation_found, body_terms, returned_by, leaving, frame_arguments, value_of_call, invoked, method_value, call_allowed}
 use Rattle.aml_meaning.specs.Fields.{field_given}
 use Rattle.aml_meaning.specs.FieldCalls.{asked, method_integer, answer_over, answer_within, called_at, field_read, held_integer, referent_read, completed, stored_to, stored_back, is_element, back_to, held_value}
 use Rattle.aml_laws.specs.Plain.{AreBytes, PlainTree, PlainPart, PlainParts, PlainTrees}
@@ -108,9 +108,9 @@ module _ {H : Type 0} {I : H → Type 0} where
   any_settle_maintains x = settle_maintains x (λ a e. tt)
 
 -- whether one more call may be made
-pub shallow_maintains : {S : Type 0} {I : State S × ℕ → Type 0} (depth : ℕ) → Maintains I Any (lift (shallow {S = S} depth))
-unfolding lift shallow
-shallow_maintains depth = record { maintains = λ s a. settled_maintained _ s a (λ u e. tt) }
+pub call_allowed_maintains : {S : Type 0} {I : State S × ℕ → Type 0} (depth : ℕ) → Maintains I Any (lift (call_allowed {S = S} depth))
+unfolding lift call_allowed
+call_allowed_maintains depth = record { maintains = λ s a. settled_maintained _ s a (λ u e. tt) }
 
 -- ---- what calls find, and their frames
 
@@ -293,7 +293,7 @@ module _ (S : Type 0) (claim : Claim) (accesses : Accesses S) (ev : Task → Run
   -- a call, where the latest frame need not be open
   pub call_maintains : (depth : ℕ) (q : List Seg) (body : List ℕ) (vs : List Value) → AreClaimedBytes claim body → Each (ValueFits claim) vs → Maintains (RunsWithin S claim) (FlowFits claim) (invoked ev depth q body vs)
   unfolding invoked
-  call_maintains depth q body vs h f = then_maintains _ _ (shallow_maintains depth) (λ few u. then_maintains _ _ (body_terms_maintains S claim q body h) (λ ts g. body_maintains S claim q _ _ (frame_arguments_fit claim vs f) (in_turn_maintains q _ ts g)))
+  call_maintains depth q body vs h f = then_maintains _ _ (call_allowed_maintains depth) (λ few u. then_maintains _ _ (body_terms_maintains S claim q body h) (λ ts g. body_maintains S claim q _ _ (frame_arguments_fit claim vs f) (in_turn_maintains q _ ts g)))
 
   call_is_balanced : (depth : ℕ) (q : List Seg) (body : List ℕ) (vs : List Value) (s : State S × ℕ) → numbers_of (invoked ev depth q body vs s).1.0.frames ≡ numbers_of s.0.frames
   call_is_balanced depth q body vs s = (invoked_preserves_from {relation = frame_numbers_relation accesses} ev (λ t. record { preserves = parts.balanced t }) s.0 depth q body vs (λ v h. h)).preserves_from s refl
@@ -327,7 +327,7 @@ module _ (S : Type 0) (claim : Claim) (accesses : Accesses S) (ev : Task → Run
   answer_within_maintains : (k : ℕ) (i : Invocation) → InvocationFits claim i → Maintains (RunWithin S claim) Any (answer_within accesses ev k i)
   unfolding answer_within
   answer_within_maintains zero i h = stop_maintains _
-  answer_within_maintains (suc k) i h = then_maintains _ _ (shallow_maintains (31 - k)) (λ few u. answer_over_maintains k _ (asked_maintains _ (answer_within_maintains k)) i h)
+  answer_within_maintains (suc k) i h = then_maintains _ _ (call_allowed_maintains (31 - k)) (λ few u. answer_over_maintains k _ (asked_maintains _ (answer_within_maintains k)) i h)
 
   called_at_maintains : (depth : ℕ) (q : List Seg) → Maintains (RunWithin S claim) Any (called_at accesses ev depth q)
   called_at_maintains depth q = asked_maintains _ (answer_within_maintains _) q

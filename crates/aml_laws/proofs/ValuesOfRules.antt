@@ -67,7 +67,7 @@ use Rattle.aml_laws.proofs.ValuesOfWorlds.{WorldWithin, on_objects_maintains, in
 use Rattle.aml_laws.proofs.ValuesOfTargets.{TargetFits, AnyReferenceFits, ReferentFits, slot_read_maintains, tested_maintains, dereferenced_maintains, target_read_maintains, reference_of_maintains, if_initialized_maintains, reference_if_found_maintains, target_referent_maintains, value_referent_maintains, copied_to_maintains}
 use Rattle.aml_laws.proofs.ValuesOfFields.{RunWithin, lift_maintains, charge_maintains, new_buffer_field_maintains}
 use Rattle.aml_laws.proofs.ValuesOfSizes.{field_has_few_bits, joined_resources_maintains, indexed_maintains, size_in_maintains, acquired_at_maintains, given_back_at_maintains, elements_laid_maintains}
-use Rattle.aml_laws.proofs.ValuesOfOperands.{PartsMaintain, OperandFits, operand_of_fits, inner_operand_maintains, list_operand_maintains, bytes_operand_maintains, any_settle_maintains, FlowFits, InvocationFits, operand_value_maintains, value_at_maintains, two_values_maintains, operand_integer_maintains, in_turn_maintains, invoked_maintains, field_read_maintains, held_integer_maintains, referent_read_maintains, completed_maintains, stored_to_maintains, stored_back_maintains, held_value_maintains, invocation_found_maintains, shallow_maintains}
+use Rattle.aml_laws.proofs.ValuesOfOperands.{PartsMaintain, OperandFits, operand_of_fits, inner_operand_maintains, list_operand_maintains, bytes_operand_maintains, any_settle_maintains, FlowFits, InvocationFits, operand_value_maintains, value_at_maintains, two_values_maintains, operand_integer_maintains, in_turn_maintains, invoked_maintains, field_read_maintains, held_integer_maintains, referent_read_maintains, completed_maintains, stored_to_maintains, stored_back_maintains, held_value_maintains, invocation_found_maintains, call_allowed_maintains}
 use Rattle.aml_meaning.specs.FieldTerms.{region_found, field_found, buffer_of}
 use Rattle.aml_meaning.specs.TargetTerms.{target_named}
 use Rattle.aml_meaning.specs.declared.flow.Flow.TheVariants as flow
@@ -371,7 +371,7 @@ module _ (S : Type 0) (claim : Claim) (accesses : Accesses S) (ev : Task → Run
 
   osi_rule_maintains : (scope : List Seg) (depth : ℕ) (ts : Trees) → TreesFit claim ts → Maintains (RunWithin S claim) (FlowFits claim) (osi_rule ev scope depth ts)
   unfolding osi_rule
-  osi_rule_maintains scope depth ts h = then_maintains _ _ (arguments_in_turn_maintains scope depth ts [] h tt) (λ vs g. then_maintains _ _ (shallow_maintains depth) (λ few u. value_given_maintains _ (osi_answered_maintains S claim vs)))
+  osi_rule_maintains scope depth ts h = then_maintains _ _ (arguments_in_turn_maintains scope depth ts [] h tt) (λ vs g. then_maintains _ _ (call_allowed_maintains depth) (λ few u. value_given_maintains _ (osi_answered_maintains S claim vs)))
 
   invocation_rule_maintains : (scope : List Seg) (depth : ℕ) (ts : Trees) (i : Invocation) → TreesFit claim ts → InvocationFits claim i → Maintains (RunWithin S claim) (FlowFits claim) (invocation_rule accesses ev scope depth ts i)
   unfolding field_rule call_rule

@@ -18,5 +18,5 @@ abbrev pub outcome_deepened : {S A : Type 0} → Nesting → Outcome A × (State
 outcome_deepened more r = (r.0, (deepened more r.1.0, r.1.1))
 
 -- what is deeper than the setting allows
-abbrev pub IsSet : {A : Type 0} → Outcome A → Type 0
-IsSet r = r ≡ Err (refusal.Evaluation DepthSetting)
+abbrev pub IsDepthSetting : {A : Type 0} → Outcome A → Type 0
+IsDepthSetting r = r ≡ Err (refusal.Evaluation DepthSetting)

@@ -3,6 +3,7 @@ use Rattle.std.specs.Prelude.{◌≡◌, ℕ, List, Some}
 use Rattle.std.specs.FinMap.{get, insert}
 use Rattle.aml_path.specs.declared.segment.Seg.{Seg}
 use Rattle.aml_objects.specs.declared.entry.Entry.{Entry}
+use Rattle.aml_objects.specs.declared.entry.NamedObject.{NamedObject}
 use Rattle.aml_objects.specs.declared.entry.NamedObject.TheVariants as object
 use Rattle.aml_meaning.specs.State.{State}
 
@@ -17,3 +18,7 @@ with_acquisitions w path n count = record w { names = record w.names { map = ins
 -- nobody holds a mutex
 abbrev pub AllFree : {S : Type 0} → State S → Type 0
 AllFree w = (path : List Seg) (e : Entry) (count : ℕ) → get w.names.map path ≡ Some e → e.object ≡ object.Mutex count → count ≡ 0
+
+-- what a name stands for that is no mutex
+abbrev pub IsNoMutex : NamedObject → Type 0
+IsNoMutex o = (count : ℕ) → o ≡ object.Mutex count → ⊥

@@ -57,5 +57,5 @@ pub record AsksOsi {S : Type 0} (accesses : Accesses S) (scope : List Seg) (dept
   pub o : ℕ
   pub gives : GivesValue accesses scope depth x s (value.String o) after
   pub holds : slice_get after.0.objects o ≡ Some (object.String text)
-  pub shallow : depth < 32
+  pub below_32 : depth < 32
   pub allowed : depth < after.0.nesting.calls

@@ -96,6 +96,10 @@ module _ {S : Type 0} (accesses : Accesses S) (scope : List Seg) (depth : ℕ) w
   abbrev pub Gives : Tree → State S × ℕ → ℕ → State S × ℕ → Type 0
   Gives t s n after = GivesValue t s (value.Integer n) after
 
+  -- or it gives nothing, as a call of a control method that comes to its end
+  abbrev pub GivesNothing : Tree → State S × ℕ → State S × ℕ → Type 0
+  GivesNothing t s after = meaning accesses (task scope depth t) s ≡ (Ok flow.Next, after)
+
   abbrev pub IsRefused : Tree → State S × ℕ → Refusal → State S × ℕ → Type 0
   IsRefused t s e after = meaning accesses (task scope depth t) s ≡ (Err e, after)
 

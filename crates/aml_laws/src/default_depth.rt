@@ -12,7 +12,7 @@ ghost use Rattle.aml_meaning.specs.Given.{Given};
 ghost use Rattle.aml_meaning.specs.Tasks.{Task};
 ghost use Rattle.aml_meaning.specs.Meaning.{meaning};
 ghost use Rattle.aml_meaning.specs.Calling.{loaded, evaluated, answered};
-ghost use Rattle.aml_laws.specs.Deepened.{IsSet};
+ghost use Rattle.aml_laws.specs.Deepened.{IsDepthSetting};
 
 /// Where 32 calls and 64 levels are allowed, as by default, or more, no evaluation is refused for the setting
 /// (`DepthSetting`): what is too deep then is deeper than it may ever be, and refused as that. A setting that refuses
@@ -20,13 +20,13 @@ ghost use Rattle.aml_laws.specs.Deepened.{IsSet};
 #[tactic(auto, using(crate::proofs::DefaultDepth::no_depth_is_refused_for_the_default_setting))]
 pub fn no_depth_is_refused_for_the_default_setting<S>()
     ensures terms { (accesses : Accesses S) (t : Task) (s : State S × ℕ) → 32 ≤ s.0.nesting.calls →
-        64 ≤ s.0.nesting.levels → IsSet (meaning accesses t s).0 → ⊥ }
+        64 ≤ s.0.nesting.levels → IsDepthSetting (meaning accesses t s).0 → ⊥ }
     ensures tables { (accesses : Accesses S) (bytes : List ℕ) (steps : ℕ) (w : State S) → 32 ≤ w.nesting.calls →
-        64 ≤ w.nesting.levels → IsSet (loaded accesses bytes steps w).0 → ⊥ }
+        64 ≤ w.nesting.levels → IsDepthSetting (loaded accesses bytes steps w).0 → ⊥ }
     ensures values { (accesses : Accesses S) (p : List Seg) (arguments : List Value) (steps : ℕ) (w : State S) →
-        32 ≤ w.nesting.calls → 64 ≤ w.nesting.levels → IsSet (evaluated accesses p arguments steps w).0 → ⊥ }
+        32 ≤ w.nesting.calls → 64 ≤ w.nesting.levels → IsDepthSetting (evaluated accesses p arguments steps w).0 → ⊥ }
     ensures answers { (accesses : Accesses S) (p : List Seg) (arguments : List Given) (steps : ℕ) (w : State S) →
-        32 ≤ w.nesting.calls → 64 ≤ w.nesting.levels → IsSet (answered accesses p arguments steps w).0 → ⊥ }
+        32 ≤ w.nesting.calls → 64 ≤ w.nesting.levels → IsDepthSetting (answered accesses p arguments steps w).0 → ⊥ }
 {}
 
 /// A list or a table is refused for the setting exactly if it allows fewer than 64 levels and the first fault within so
@@ -34,9 +34,9 @@ pub fn no_depth_is_refused_for_the_default_setting<S>()
 #[tactic(auto, using(crate::proofs::TooDeepForSettings::levels_are_refused_exactly_if_a_term_is_deeper))]
 pub fn levels_are_refused_exactly_if_a_term_is_deeper()
     ensures list { (levels : ℕ) (bs : List ℕ) (scope : List Seg) (body : Bool) (known : List Arity) →
-        IsSet (reading_within levels bs scope body known) ↔ ((levels < 64) × (offset : ℕ) ×
+        IsDepthSetting (reading_within levels bs scope body known) ↔ ((levels < 64) × (offset : ℕ) ×
         ((term_list_within levels by_arities bs scope body known).0 ≡ Err (Term TooDeep offset))) }
     ensures table { (levels : ℕ) (bs : List ℕ) (known : List Arity) →
-        IsSet (table_reading_within levels bs known) ↔ ((levels < 64) × (offset : ℕ) ×
+        IsDepthSetting (table_reading_within levels bs known) ↔ ((levels < 64) × (offset : ℕ) ×
         ((term_list_within levels by_arities bs [] false known).0 ≡ Err (Term TooDeep offset))) }
 {}

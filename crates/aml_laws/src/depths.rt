@@ -13,7 +13,7 @@ ghost use Rattle.aml_meaning.specs.Tasks.{Task};
 ghost use Rattle.aml_meaning.specs.Meaning.{meaning};
 ghost use Rattle.aml_meaning.specs.Calling.{loaded, evaluated, answered};
 ghost use Rattle.aml_laws.specs.Becomes.{Becomes};
-ghost use Rattle.aml_laws.specs.Deepened.{deepened, outcome_deepened, IsSet};
+ghost use Rattle.aml_laws.specs.Deepened.{deepened, outcome_deepened, IsDepthSetting};
 
 /// A world keeps the depth that it was made with: no evaluation changes it, however it ends.
 #[tactic(auto, using(crate::proofs::NestingKept::nesting_is_kept, crate::proofs::NestingKept::nesting_is_given))]
@@ -29,24 +29,24 @@ pub fn evaluation_keeps_the_depth<S>()
 #[tactic(auto, using(crate::proofs::Deepening::a_depth_answers_what_a_smaller_one_does))]
 pub fn a_depth_answers_what_a_smaller_one_does<S>()
     ensures terms { (accesses : Accesses S) (more : Nesting) (t : Task) (s : State S × ℕ) →
-        IsSet (meaning accesses t s).0 ⊎ (meaning accesses t (deepened more s.0, s.1) ≡
+        IsDepthSetting (meaning accesses t s).0 ⊎ (meaning accesses t (deepened more s.0, s.1) ≡
         outcome_deepened more (meaning accesses t s)) }
     ensures tables { (accesses : Accesses S) (more : Nesting) (bytes : List ℕ) (steps : ℕ) (w : State S) →
-        IsSet (loaded accesses bytes steps w).0 ⊎
+        IsDepthSetting (loaded accesses bytes steps w).0 ⊎
         (loaded accesses bytes steps (deepened more w) ≡ (
           (loaded accesses bytes steps w).0,
           deepened more (loaded accesses bytes steps w).1,
         )) }
     ensures values { (accesses : Accesses S) (more : Nesting) (p : List Seg) (arguments : List Value) (steps : ℕ)
         (w : State S) →
-        IsSet (evaluated accesses p arguments steps w).0 ⊎
+        IsDepthSetting (evaluated accesses p arguments steps w).0 ⊎
         (evaluated accesses p arguments steps (deepened more w) ≡ (
           (evaluated accesses p arguments steps w).0,
           deepened more (evaluated accesses p arguments steps w).1,
         )) }
     ensures answers { (accesses : Accesses S) (more : Nesting) (p : List Seg) (arguments : List Given) (steps : ℕ)
         (w : State S) →
-        IsSet (answered accesses p arguments steps w).0 ⊎
+        IsDepthSetting (answered accesses p arguments steps w).0 ⊎
         (answered accesses p arguments steps (deepened more w) ≡ (
           (answered accesses p arguments steps w).0,
           deepened more (answered accesses p arguments steps w).1,

@@ -2,11 +2,13 @@
 ghost use Rattle.std.specs.Prelude.{◌≡◌, ◌<◌, ◌+◌, ◌-◌, ◌^◌, ℕ, List, length, Some, Ok, Err};
 ghost use Rattle.std.specs.FinMap.{get};
 ghost use Rattle.ar_space.specs.declared.refusal.Refusal.{Refusal};
-ghost use Rattle.ar_space.specs.declared.refusal.Refusal.TheVariants.{Evaluation};
+ghost use Rattle.ar_space.specs.declared.refusal.Refusal.TheVariants as refusal;
 ghost use Rattle.ar_space.specs.declared.refusal.EvaluationFault.TheVariants.{ObjectLimit};
+ghost use Rattle.ar_space.specs.declared.refusal.ValueFault.TheVariants.{WrongType};
 ghost use Rattle.ar_space.specs.Accesses.{Accesses};
 ghost use Rattle.aml_path.specs.declared.segment.Seg.{Seg};
 ghost use Rattle.aml_namespace.specs.Numbering.{Numbered};
+ghost use Rattle.aml_objects.specs.declared.entry.Entry.{Entry};
 ghost use Rattle.aml_objects.specs.declared.value.Value.{Value};
 ghost use Rattle.aml_objects.specs.declared.value.Value.TheVariants.{Integer};
 ghost use Rattle.aml_convert.specs.Integers.{ones};
@@ -16,7 +18,7 @@ ghost use Rattle.aml_meaning.specs.State.{State};
 ghost use Rattle.aml_meaning.specs.Readings.{integer_in};
 ghost use Rattle.aml_meaning.specs.Events.{event_changed, waited};
 ghost use Rattle.aml_meaning.specs.Calling.{with_steps, table_run, loaded, answer_exported, answered};
-ghost use Rattle.aml_laws.specs.Events.{event_entry, with_signals};
+ghost use Rattle.aml_laws.specs.Events.{event_entry, with_signals, IsNoEvent};
 
 /// A Wait takes what a Signal of the same event gave: it gives False, and the world is the one before both. Where its
 /// timeout doesn't convert to an integer it is refused for that, and leaves the signal. A Wait that leaves the count,
@@ -44,7 +46,7 @@ pub fn signals_are_counted_one_by_one<S>()
         event_changed Signal (Some number) w ≡ (Ok tt, with_signals w path number (count + 1)) }
     ensures full { (w : State S) (path : List Seg) (number : ℕ) → Numbered w.names →
         get w.names.map path ≡ Some (event_entry number (2 ^ 64 - 1)) →
-        event_changed Signal (Some number) w ≡ (Err (Evaluation ObjectLimit), w) }
+        event_changed Signal (Some number) w ≡ (Err (refusal.Evaluation ObjectLimit), w) }
     ensures reset { (w : State S) (path : List Seg) (number count : ℕ) → Numbered w.names →
         get w.names.map path ≡ Some (event_entry number count) →
         event_changed Reset (Some number) w ≡ (Ok tt, with_signals w path number 0) }
@@ -58,6 +60,15 @@ pub fn signals_are_counted_one_by_one<S>()
     ensures left { (w : State S) (path : List Seg) (number count : ℕ) (timeout : Value) (e : Refusal) →
         Numbered w.names → get w.names.map path ≡ Some (event_entry number count) →
         integer_in timeout w ≡ (Err e, w) → waited (Some number) timeout w ≡ (Err e, w) }
+{}
+
+/// What is declared as anything but an event can neither be signaled nor reset nor waited for (ACPI 6.5, 19.6: Reset,
+/// Signal, Wait), and nothing changes. A mutex that becomes an event is refused by this.
+pub fn what_is_no_event_takes_no_signal<S>()
+    ensures { (w : State S) (path : List Seg) (e : Entry) → Numbered w.names → get w.names.map path ≡ Some e →
+        IsNoEvent e.object → (event_changed Signal (Some e.number) w ≡ (Err (refusal.Value WrongType), w)) ×
+        (event_changed Reset (Some e.number) w ≡ (Err (refusal.Value WrongType), w)) × ((timeout : Value) →
+        waited (Some e.number) timeout w ≡ (Err (refusal.Value WrongType), w)) }
 {}
 
 /// Signals that no Wait took outlive the table or the answer in which they were given: where it ends the event counts

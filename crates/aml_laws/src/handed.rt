@@ -1,17 +1,24 @@
 //! Data that is handed in and handed out again.
-ghost use Rattle.std.specs.Prelude.{◌≡◌, ◌≤◌, ◌++◌, ◌+◌, ℕ, List, length, Ok};
+ghost use Rattle.std.specs.Prelude.{◌≡◌, ◌≤◌, ◌++◌, ◌+◌, ◌%◌, [], ℕ, List, length, Ok, Err};
 ghost use Rattle.ar_space.specs.Accesses.{Accesses};
+ghost use Rattle.ar_space.specs.declared.refusal.Refusal.TheVariants as refusal;
+ghost use Rattle.ar_space.specs.declared.refusal.EvaluationFault.TheVariants.{ArityChanged};
 ghost use Rattle.aml_path.specs.declared.segment.Seg.{Seg};
 ghost use Rattle.aml_objects.specs.Objects.{Objects};
 ghost use Rattle.aml_objects.specs.declared.value.Value.{Value};
 ghost use Rattle.aml_namespace.specs.Numbering.{Numbered};
+ghost use Rattle.aml_namespace.specs.Search.{found};
 ghost use Rattle.aml_meaning.specs.Given.{Given};
 ghost use Rattle.aml_meaning.specs.State.{State};
 ghost use Rattle.aml_meaning.specs.Importing.{imported};
 ghost use Rattle.aml_meaning.specs.Exporting.{exported};
 ghost use Rattle.aml_meaning.specs.Calling.{answered};
+ghost use Rattle.aml_meaning.specs.Invocations.{method_value};
+ghost use Rattle.aml_meaning.specs.Meaning.{meaning};
+ghost use Rattle.aml_laws.specs.CallTerms.{method_entry, HandedInTurn};
 ghost use Rattle.aml_laws.specs.HandedBack.{ComesBack, elements_of};
 ghost use Rattle.aml_laws.specs.HandedIn.{NestsWithin, MayBeHandedIn};
+ghost use Rattle.aml_laws.specs.NamesWritten.{from_root};
 
 /// What is handed in is handed out as it was, to its last element: integers that fit the width, texts, bytes, packages
 /// of these, and paths at which a name stands that is no alias. It costs a step for each element, and changes nothing.
@@ -45,4 +52,21 @@ pub fn data_nests_at_most_64_deep<S>()
     ensures handed_in { (g : Given) (w : State S) (v : Value) → (imported g w).0 ≡ Ok v → NestsWithin 64 g }
     ensures answers { (accesses : Accesses S) (path : List Seg) (arguments : List Given) (steps : ℕ) (w : State S)
         (g : Given) → (answered accesses path arguments steps w).0 ≡ Ok g → NestsWithin 64 g }
+{}
+
+/// What a control method answers to a caller is what it gives, called with the arguments that are handed in, in their
+/// order: each is taken in before the next one, and the first stands first. Another number of arguments than the control
+/// method takes is refused as `ArityChanged`. Arguments that are exchanged on their way in are refused by this.
+pub fn arguments_are_handed_in_in_their_order<S>()
+    ensures answered { (accesses : Accesses S) (p path : List Seg) (gs : List Given) (w : State S) (number flags : ℕ)
+        (body : List ℕ) (steps : ℕ) → found w.names.map [] (from_root p) ≡ Ok (path, method_entry number flags body) →
+        (vs : List Value) (inside : State S) (v : Value) (after end : State S × ℕ) (g : Given) →
+        flags % 8 ≡ length gs → HandedInTurn gs w vs inside →
+        method_value (meaning accesses) 0 path body vs (inside, steps) ≡ (Ok v, after) →
+        exported accesses v after ≡ (Ok g, end) → (answered accesses p gs steps w).0 ≡ Ok g }
+    ensures other_number { (accesses : Accesses S) (p path : List Seg) (gs : List Given) (w : State S)
+        (number flags : ℕ) (body : List ℕ) (steps : ℕ) →
+        found w.names.map [] (from_root p) ≡ Ok (path, method_entry number flags body) →
+        (flags % 8 ≡ length gs → ⊥) →
+        (answered accesses p gs steps w).0 ≡ Err (refusal.Evaluation ArityChanged) }
 {}

@@ -1,5 +1,5 @@
 //! Lists of terms within terms.
-ghost use Rattle.std.specs.Prelude.{◌≡◌, ℕ, suc, List, true, false, Some, None, Ok, Err};
+ghost use Rattle.std.specs.Prelude.{◌≡◌, ◌<◌, ℕ, suc, List, Some, Ok, Err};
 ghost use Rattle.ar_space.specs.Accesses.{Accesses};
 ghost use Rattle.ar_space.specs.declared.refusal.Refusal.{Refusal};
 ghost use Rattle.aml_path.specs.declared.segment.Seg.{Seg};
@@ -10,16 +10,14 @@ ghost use Rattle.aml_grammar.specs.declared.opcode.TermCode.TheVariants as codes
 ghost use Rattle.aml_grammar.specs.Tree.{Tree, Trees, inner, list};
 ghost use Rattle.aml_grammar.specs.Apart.{code_of, operand_of, name_of};
 ghost use Rattle.aml_objects.specs.declared.entry.NamedObject.{NamedObject};
-ghost use Rattle.aml_convert.specs.Operators.{is_true};
-ghost use Rattle.aml_meaning.specs.declared.flow.Flow.{Flow};
+ghost use Rattle.aml_objects.specs.declared.value.Value.{Value};
 ghost use Rattle.aml_meaning.specs.declared.flow.Flow.TheVariants as flow;
 ghost use Rattle.aml_meaning.specs.Declaring.{new_name};
 ghost use Rattle.aml_meaning.specs.Meaning.{meaning};
 ghost use Rattle.aml_meaning.specs.Readings.{scope_found};
 ghost use Rattle.aml_meaning.specs.State.{State};
-ghost use Rattle.aml_meaning.specs.StatementTerms.{loop_end};
-ghost use Rattle.aml_meaning.specs.Tasks.{task, module_level, operand_integer, in_turn};
-ghost use Rattle.aml_laws.specs.InnerLists.{DeclaresScope};
+ghost use Rattle.aml_meaning.specs.Tasks.{task, module_level, in_turn};
+ghost use Rattle.aml_laws.specs.InnerLists.{DeclaresScope, Tests, Turns};
 
 /// The list of a Scope, a Device, a Processor, a PowerResource or a ThermalZone is evaluated in turn in its scope, as
 /// deep in calls as the term itself: so at module level it is a list at module level, and goes on behind an item that
@@ -39,53 +37,53 @@ pub fn lists_of_scopes_are_evaluated_in_turn<S>()
         meaning accesses (task scope depth t) (w, suc steps) ≡ in_turn (meaning accesses) p depth ts (after, steps) }
 {}
 
-/// The list of an If whose condition holds is evaluated in turn, in the scope of the If and as deep in calls, and so is
-/// that of an Else, which is evaluated where the condition doesn't hold. So at module level these are lists at module
-/// level, too. A branch whose list isn't at its level is refused by this.
-#[tactic(auto, using(crate::proofs::ListsWithinTerms::if_true, crate::proofs::ListsWithinTerms::if_else, crate::proofs::ListsWithinTerms::else_list))]
+/// The list of an If whose condition holds, which is any integer but 0, is evaluated in turn, in the scope of the If and
+/// as deep in calls, and so is that of an Else, which is evaluated where the condition doesn't hold. So at module level
+/// these are lists at module level, too. Where the condition doesn't hold and there is no Else, the If gives nothing, and
+/// the list in which it stands goes on. A branch whose list isn't at its level, and an If that ends the list round it,
+/// are refused by this.
 pub fn lists_of_branches_are_evaluated_in_turn<S>()
-    ensures holds { (accesses : Accesses S) (scope : List Seg) (depth : ℕ) (t c : Tree) (ts : Trees) (w : State S)
-        (steps x : ℕ) (after : State S × ℕ) → code_of t ≡ codes.Opcode opcodes.If →
-        operand_of t 0 ≡ Some (inner c) → operand_of t 1 ≡ Some (list ts) →
-        operand_integer (meaning accesses) scope depth c (w, steps) ≡ (Ok x, after) → is_true x ≡ true →
+    ensures holds { (accesses : Accesses S) (scope : List Seg) (depth : ℕ) (t : Tree) (ts : Trees) (w : State S)
+        (steps x : ℕ) (after : State S × ℕ) → Tests accesses scope depth opcodes.If t ts (w, steps) x after → 0 < x →
         meaning accesses (task scope depth t) (w, suc steps) ≡ in_turn (meaning accesses) scope depth ts after }
-    ensures fails { (accesses : Accesses S) (scope : List Seg) (depth : ℕ) (t c : Tree) (ts : Trees) (w : State S)
-        (steps x : ℕ) (after : State S × ℕ) (e : Tree) → code_of t ≡ codes.Opcode opcodes.If →
-        operand_of t 0 ≡ Some (inner c) → operand_of t 1 ≡ Some (list ts) → operand_of t 2 ≡ Some (inner e) →
-        operand_integer (meaning accesses) scope depth c (w, steps) ≡ (Ok x, after) → is_true x ≡ false →
+    ensures fails { (accesses : Accesses S) (scope : List Seg) (depth : ℕ) (t : Tree) (ts : Trees) (w : State S)
+        (steps : ℕ) (after : State S × ℕ) → Tests accesses scope depth opcodes.If t ts (w, steps) 0 after →
+        (e : Tree) → operand_of t 2 ≡ Some (inner e) →
         meaning accesses (task scope depth t) (w, suc steps) ≡ meaning accesses (task scope depth e) after }
+    ensures no_else { (accesses : Accesses S) (scope : List Seg) (depth : ℕ) (t : Tree) (ts : Trees) (w : State S)
+        (steps : ℕ) (after : State S × ℕ) → Tests accesses scope depth opcodes.If t ts (w, steps) 0 after →
+        ((e : Tree) → operand_of t 2 ≡ Some (inner e) → ⊥) →
+        meaning accesses (task scope depth t) (w, suc steps) ≡ (Ok flow.Next, after) }
     ensures otherwise { (accesses : Accesses S) (scope : List Seg) (depth : ℕ) (t : Tree) (ts : Trees) (w : State S)
         (steps : ℕ) → code_of t ≡ codes.Opcode opcodes.Else → operand_of t 0 ≡ Some (list ts) →
         meaning accesses (task scope depth t) (w, suc steps) ≡ in_turn (meaning accesses) scope depth ts (w, steps) }
 {}
 
-/// While the condition of a While holds, its list is evaluated in turn, in the scope of the While and as deep in calls:
-/// so at module level it is a list at module level, too. The While ends as its list is refused, at a Break, and with
-/// what is returned; else it begins anew in the world that the list left, for a step that isn't taken again. Where the
-/// condition doesn't hold it is over. A loop that ends behind an item that is passed over is refused by this.
+/// While the condition of a While holds, which is any integer but 0, its list is evaluated in turn, in the scope of the
+/// While and as deep in calls: so at module level it is a list at module level, too. The While ends as its list is
+/// refused, and with what is returned there; a Break ends it, and the list in which it stands goes on. At the end of its
+/// list and at a Continue it begins anew in the world that the list left, for a step that isn't taken again. Where the
+/// condition doesn't hold it is over. A loop that ends behind an item that is passed over, one that ends at a Continue,
+/// and a Return that ends its loop alone are refused by this.
 pub fn lists_of_loops_are_evaluated_in_turn<S>()
-    ensures refused { (accesses : Accesses S) (scope : List Seg) (depth : ℕ) (t c : Tree) (ts : Trees) →
-        code_of t ≡ codes.Opcode opcodes.While → operand_of t 0 ≡ Some (inner c) → operand_of t 1 ≡ Some (list ts) →
-        (w : State S) (steps x : ℕ) (after : State S × ℕ) →
-        operand_integer (meaning accesses) scope depth c (w, steps) ≡ (Ok x, after) → is_true x ≡ true →
-        (e : Refusal) (end : State S × ℕ) → in_turn (meaning accesses) scope depth ts after ≡ (Err e, end) →
+    ensures refused { (accesses : Accesses S) (scope : List Seg) (depth : ℕ) (t : Tree) (w : State S) (steps : ℕ)
+        (e : Refusal) (end : State S × ℕ) → Turns accesses scope depth t (w, steps) (Err e) end →
         meaning accesses (task scope depth t) (w, suc steps) ≡ (Err e, end) }
-    ensures ends { (accesses : Accesses S) (scope : List Seg) (depth : ℕ) (t c : Tree) (ts : Trees) →
-        code_of t ≡ codes.Opcode opcodes.While → operand_of t 0 ≡ Some (inner c) → operand_of t 1 ≡ Some (list ts) →
-        (w : State S) (steps x : ℕ) (after : State S × ℕ) →
-        operand_integer (meaning accesses) scope depth c (w, steps) ≡ (Ok x, after) → is_true x ≡ true →
-        (f g : Flow) (end : State S × ℕ) → in_turn (meaning accesses) scope depth ts after ≡ (Ok f, end) →
-        loop_end f ≡ Some g → meaning accesses (task scope depth t) (w, suc steps) ≡ (Ok g, end) }
-    ensures goes_on { (accesses : Accesses S) (scope : List Seg) (depth : ℕ) (t c : Tree) (ts : Trees) →
-        code_of t ≡ codes.Opcode opcodes.While → operand_of t 0 ≡ Some (inner c) → operand_of t 1 ≡ Some (list ts) →
-        (w : State S) (steps x : ℕ) (after : State S × ℕ) →
-        operand_integer (meaning accesses) scope depth c (w, steps) ≡ (Ok x, after) → is_true x ≡ true →
-        (f : Flow) (u : State S) (left : ℕ) → in_turn (meaning accesses) scope depth ts after ≡ (Ok f, (u, left)) →
-        loop_end f ≡ None → meaning accesses (task scope depth t) (w, suc steps) ≡
+    ensures broken { (accesses : Accesses S) (scope : List Seg) (depth : ℕ) (t : Tree) (w : State S) (steps : ℕ)
+        (end : State S × ℕ) → Turns accesses scope depth t (w, steps) (Ok flow.Break) end →
+        meaning accesses (task scope depth t) (w, suc steps) ≡ (Ok flow.Next, end) }
+    ensures returned { (accesses : Accesses S) (scope : List Seg) (depth : ℕ) (t : Tree) (w : State S) (steps : ℕ)
+        (v : Value) (end : State S × ℕ) → Turns accesses scope depth t (w, steps) (Ok (flow.Return v)) end →
+        meaning accesses (task scope depth t) (w, suc steps) ≡ (Ok (flow.Return v), end) }
+    ensures goes_on { (accesses : Accesses S) (scope : List Seg) (depth : ℕ) (t : Tree) (w : State S) (steps : ℕ)
+        (u : State S) (left : ℕ) → Turns accesses scope depth t (w, steps) (Ok flow.Next) (u, left) →
+        meaning accesses (task scope depth t) (w, suc steps) ≡
         meaning accesses (task scope depth t) (u, suc left) }
-    ensures over { (accesses : Accesses S) (scope : List Seg) (depth : ℕ) (t c : Tree) (ts : Trees) →
-        code_of t ≡ codes.Opcode opcodes.While → operand_of t 0 ≡ Some (inner c) → operand_of t 1 ≡ Some (list ts) →
-        (w : State S) (steps x : ℕ) (after : State S × ℕ) →
-        operand_integer (meaning accesses) scope depth c (w, steps) ≡ (Ok x, after) → is_true x ≡ false →
+    ensures continued { (accesses : Accesses S) (scope : List Seg) (depth : ℕ) (t : Tree) (w : State S) (steps : ℕ)
+        (u : State S) (left : ℕ) → Turns accesses scope depth t (w, steps) (Ok flow.Continue) (u, left) →
+        meaning accesses (task scope depth t) (w, suc steps) ≡
+        meaning accesses (task scope depth t) (u, suc left) }
+    ensures over { (accesses : Accesses S) (scope : List Seg) (depth : ℕ) (t : Tree) (w : State S) (steps : ℕ)
+        (ts : Trees) (after : State S × ℕ) → Tests accesses scope depth opcodes.While t ts (w, steps) 0 after →
         meaning accesses (task scope depth t) (w, suc steps) ≡ (Ok flow.Next, after) }
 {}

@@ -2,7 +2,7 @@
 ghost use Rattle.std.specs.Prelude.{◌≡◌, ℕ, suc, List, length, Ok};
 ghost use Rattle.ar_space.specs.Accesses.{Accesses};
 ghost use Rattle.aml_path.specs.declared.segment.Seg.{Seg};
-ghost use Rattle.aml_grammar.specs.Tree.{Tree, Part, null};
+ghost use Rattle.aml_grammar.specs.Tree.{Tree, Part};
 ghost use Rattle.aml_grammar.specs.declared.opcode.Opcode.TheVariants as opcodes;
 ghost use Rattle.aml_objects.specs.Contents.{Content, content_in};
 ghost use Rattle.aml_objects.specs.declared.object.Object.TheVariants as object;
@@ -11,6 +11,7 @@ ghost use Rattle.aml_objects.specs.declared.value.Value.TheVariants as value;
 ghost use Rattle.aml_convert.specs.Concatenation.{resources_joined};
 ghost use Rattle.aml_meaning.specs.State.{State};
 ghost use Rattle.aml_laws.specs.OperatorTerms.{two_to, StoresTo, GivesValue};
+ghost use Rattle.aml_laws.specs.StoreTerms.{FormsTo};
 ghost use Rattle.aml_laws.specs.TestTerms.{TwoValues};
 ghost use Rattle.aml_laws.specs.JoinedTerms.{with_object, Fits, IsJoined, IsNew, middle, IsPart, TakesPart, HasBytes, TakesText, IsTextOf};
 
@@ -49,11 +50,14 @@ pub fn a_part_is_taken_from_its_index_on<S>()
 {}
 
 /// ToString, in the wide profile, gives a new string of the bytes of a buffer before the first that is 0, at most as
-/// many as its length says. It is said of one without a target.
+/// many as its length says, and stores it to its target without another conversion. One that stores nothing is refused
+/// by this.
 pub fn a_text_ends_before_the_first_zero<S>()
     ensures { (accesses : Accesses S) (scope : List Seg) (depth : ℕ) (x y : Tree) (w : State S) (steps : ℕ)
         (bytes : List ℕ) (n : ℕ) (after : State S × ℕ) →
         TakesText accesses scope depth x y (w, steps) bytes n after → (text : List ℕ) × IsTextOf n bytes text ×
-        (Fits after.0 text → GivesValue accesses scope depth (two_to opcodes.ToString x y null) (w, suc steps)
-        (value.String (length after.0.objects)) (with_object after.0 (object.String text), after.1)) }
+        ((p : Part) (end : State S) → Fits after.0 text →
+        FormsTo scope p (value.String (length after.0.objects)) (with_object after.0 (object.String text)) end →
+        GivesValue accesses scope depth (two_to opcodes.ToString x y p) (w, suc steps)
+        (value.String (length after.0.objects)) (end, after.1)) }
 {}

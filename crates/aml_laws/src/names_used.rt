@@ -1,6 +1,8 @@
 //! Names, locals and arguments where values stand.
 ghost use Rattle.std.specs.Prelude.{◌≡◌, ℕ, suc, List, Ok};
 ghost use Rattle.ar_space.specs.Accesses.{Accesses};
+ghost use Rattle.ar_space.specs.declared.refusal.Refusal.TheVariants as refusal;
+ghost use Rattle.ar_space.specs.declared.refusal.EvaluationFault.TheVariants.{NoValue};
 ghost use Rattle.aml_path.specs.declared.segment.Seg.{Seg};
 ghost use Rattle.aml_path.specs.Paths.{Name};
 ghost use Rattle.aml_grammar.specs.Tree.{Tree};
@@ -10,13 +12,13 @@ ghost use Rattle.aml_objects.specs.declared.value.Value.{Value};
 ghost use Rattle.aml_namespace.specs.Search.{found};
 ghost use Rattle.aml_meaning.specs.State.{State};
 ghost use Rattle.aml_laws.specs.StoredNames.{data_entry};
-ghost use Rattle.aml_laws.specs.OperatorTerms.{alone, NamesSlot, SlotHolds, GivesValue, Gives};
+ghost use Rattle.aml_laws.specs.OperatorTerms.{alone, NamesSlot, SlotHolds, SlotIsEmpty, GivesValue, Gives, IsRefused};
 ghost use Rattle.aml_laws.specs.TestTerms.{IsTruth};
 ghost use Rattle.aml_laws.specs.NamesUsed.{use_of, IsGivenBy, call_of_one, IsAmong, AsksOsi};
 
 /// A name that holds an integer, a string, a buffer or a package gives this value where a value stands, and not a copy of
-/// it; one that holds a reference gives a reference to itself. A local and an argument give what they hold. Each takes a
-/// step and changes nothing.
+/// it; one that holds a reference gives a reference to itself. A local and an argument give what they hold, and are
+/// refused as `NoValue` where they hold nothing yet. Each takes a step and changes nothing.
 pub fn a_name_gives_what_it_holds<S>()
     ensures names { (accesses : Accesses S) (scope : List Seg) (depth : ℕ) (w : State S) (steps : ℕ) (n : Name)
         (path : List Seg) (number : ℕ) (v r : Value) →
@@ -25,6 +27,9 @@ pub fn a_name_gives_what_it_holds<S>()
     ensures slots { (accesses : Accesses S) (scope : List Seg) (depth : ℕ) (w : State S) (steps : ℕ) (op : Opcode)
         (s : Slot) (v : Value) → NamesSlot op s → SlotHolds w s v →
         GivesValue accesses scope depth (alone op) (w, suc steps) v (w, steps) }
+    ensures empty { (accesses : Accesses S) (scope : List Seg) (depth : ℕ) (w : State S) (steps : ℕ) (op : Opcode)
+        (s : Slot) → NamesSlot op s → SlotIsEmpty w s →
+        IsRefused accesses scope depth (alone op) (w, suc steps) (refusal.Evaluation NoValue) (w, steps) }
 {}
 
 /// The predefined control method \_OSI, called by any name with a string, is True where the text is one of those that

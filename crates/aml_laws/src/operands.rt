@@ -4,24 +4,28 @@ ghost use Rattle.std.specs.Int.Digits.{number_from_digits};
 ghost use Rattle.ar_space.specs.Accesses.{Accesses};
 ghost use Rattle.ar_space.specs.declared.refusal.Refusal.{Refusal};
 ghost use Rattle.ar_space.specs.declared.refusal.Refusal.TheVariants as refusal;
+ghost use Rattle.ar_space.specs.declared.refusal.EvaluationFault.TheVariants.{NoValue};
 ghost use Rattle.ar_space.specs.declared.refusal.ValueFault.TheVariants.{EmptyValue, WrongType};
 ghost use Rattle.aml_path.specs.declared.segment.Seg.{Seg};
 ghost use Rattle.aml_grammar.specs.Tree.{Tree, Part};
 ghost use Rattle.aml_grammar.specs.declared.opcode.Opcode.{Opcode};
+ghost use Rattle.aml_grammar.specs.declared.opcode.Opcode.TheVariants as opcodes;
 ghost use Rattle.aml_objects.specs.declared.object.Object.TheVariants as object;
 ghost use Rattle.aml_objects.specs.declared.value.Value.{Value};
 ghost use Rattle.aml_objects.specs.declared.value.Value.TheVariants as value;
 ghost use Rattle.aml_convert.specs.Integers.{bits_of, bytes_of};
 ghost use Rattle.aml_meaning.specs.State.{State};
 ghost use Rattle.aml_meaning.specs.Readings.{integer_in};
-ghost use Rattle.aml_laws.specs.OperatorTerms.{two_to, IsRefused};
+ghost use Rattle.aml_laws.specs.OperatorTerms.{of_one, of_two, two_to, divide, GivesValue, GivesNothing, IsRefused};
+ghost use Rattle.aml_laws.specs.StoredParts.{IsNoData};
 ghost use Rattle.aml_laws.specs.TestTerms.{TwoValues};
 ghost use Rattle.aml_laws.specs.IntegersOfValues.{lowest_first, AreDigits, EndsDigits, TakesIntegers};
 
 /// Where an operator takes an integer, an integer is itself; a buffer is the number of its first bytes, as many as an
 /// integer has, the lowest first; and a string is that of the hexadecimal digits that it begins with, of either case, at
-/// most as many as an integer has. An empty string, an empty buffer and a package are refused, and nothing changes. Bytes
-/// in the other order, decimal digits, and digits of one case alone, are refused by this.
+/// most as many as an integer has. An empty string, an empty buffer, a package, a reference and what holds no value are
+/// refused, and nothing changes. Bytes in the other order, decimal digits, digits of one case alone, and a reference
+/// that is 0, are refused by this.
 pub fn operands_convert_to_integers<S>()
     ensures integer { (w : State S) (n : ℕ) → integer_in (value.Integer n) w ≡ (Ok n, w) }
     ensures buffer { (w : State S) (o b : ℕ) (bytes : List ℕ) →
@@ -37,10 +41,12 @@ pub fn operands_convert_to_integers<S>()
         (slice_get w.objects o ≡ Some (object.Buffer []) →
         integer_in (value.Buffer o) w ≡ (Err (refusal.Value EmptyValue), w)) }
     ensures list { (w : State S) (o : ℕ) → integer_in (value.Package o) w ≡ (Err (refusal.Value WrongType), w) }
+    ensures no_data { (w : State S) (v : Value) → IsNoData v → integer_in v w ≡ (Err (refusal.Value WrongType), w) }
 {}
 
-/// An operator that takes two integers is refused as the conversion of its first operand is, or of its second one where
-/// the first converts: both are evaluated before that, and nothing is stored.
+/// An operator that takes two integers, Divide, LAnd and LOr among them, is refused as the conversion of its first
+/// operand is, or of its second one where the first converts: both are evaluated before that, and nothing is stored. One
+/// that converts its second operand first is refused by this.
 pub fn operands_that_do_not_convert_are_refused<S>()
     ensures first { (accesses : Accesses S) (scope : List Seg) (depth : ℕ) (op : Opcode) (x y : Tree) (p : Part)
         (w : State S) (steps : ℕ) (v u : Value) (after : State S × ℕ) (e : Refusal) → TakesIntegers op →
@@ -51,4 +57,34 @@ pub fn operands_that_do_not_convert_are_refused<S>()
         TwoValues accesses scope depth x y (w, steps) v u after → integer_in v after.0 ≡ (Ok a, after.0) →
         integer_in u after.0 ≡ (Err e, after.0) →
         IsRefused accesses scope depth (two_to op x y p) (w, suc steps) e after }
+    ensures first_of_others { (accesses : Accesses S) (scope : List Seg) (depth : ℕ) (x y : Tree) (w : State S)
+        (steps : ℕ) (v u : Value) (after : State S × ℕ) → TwoValues accesses scope depth x y (w, steps) v u after →
+        (e : Refusal) → integer_in v after.0 ≡ (Err e, after.0) → (p q : Part) →
+        IsRefused accesses scope depth (divide x y p q) (w, suc steps) e after ×
+        IsRefused accesses scope depth (of_two opcodes.LAnd x y) (w, suc steps) e after ×
+        IsRefused accesses scope depth (of_two opcodes.LOr x y) (w, suc steps) e after }
+    ensures second_of_others { (accesses : Accesses S) (scope : List Seg) (depth : ℕ) (x y : Tree) (w : State S)
+        (steps : ℕ) (v u : Value) (after : State S × ℕ) → TwoValues accesses scope depth x y (w, steps) v u after →
+        (e : Refusal) (a : ℕ) → integer_in v after.0 ≡ (Ok a, after.0) → integer_in u after.0 ≡ (Err e, after.0) →
+        (p q : Part) → IsRefused accesses scope depth (divide x y p q) (w, suc steps) e after ×
+        IsRefused accesses scope depth (of_two opcodes.LAnd x y) (w, suc steps) e after ×
+        IsRefused accesses scope depth (of_two opcodes.LOr x y) (w, suc steps) e after }
+{}
+
+/// An operand that gives nothing, as a call of a control method that comes to its end, is refused as `NoValue` where a
+/// value is wanted: as the first and as the second operand of an operator that takes two integers, and as that of a
+/// Return. The operator is refused before it evaluates any further operand, and nothing is stored. A call without a
+/// Return that counts as a value is refused by this.
+pub fn an_operand_without_a_value_is_refused<S>()
+    ensures first { (accesses : Accesses S) (scope : List Seg) (depth : ℕ) (op : Opcode) (x y : Tree) (p : Part)
+        (w : State S) (steps : ℕ) (after : State S × ℕ) → TakesIntegers op →
+        GivesNothing accesses scope depth x (w, steps) after →
+        IsRefused accesses scope depth (two_to op x y p) (w, suc steps) (refusal.Evaluation NoValue) after }
+    ensures second { (accesses : Accesses S) (scope : List Seg) (depth : ℕ) (op : Opcode) (x y : Tree) (p : Part)
+        (w : State S) (steps : ℕ) (v : Value) (between after : State S × ℕ) → TakesIntegers op →
+        GivesValue accesses scope depth x (w, steps) v between → GivesNothing accesses scope depth y between after →
+        IsRefused accesses scope depth (two_to op x y p) (w, suc steps) (refusal.Evaluation NoValue) after }
+    ensures returned { (accesses : Accesses S) (scope : List Seg) (depth : ℕ) (x : Tree) (w : State S) (steps : ℕ)
+        (after : State S × ℕ) → GivesNothing accesses scope depth x (w, steps) after →
+        IsRefused accesses scope depth (of_one opcodes.Return x) (w, suc steps) (refusal.Evaluation NoValue) after }
 {}

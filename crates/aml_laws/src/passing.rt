@@ -1,5 +1,5 @@
 //! What the wide profile passes over at module level.
-ghost use Rattle.std.specs.Prelude.{◌≡◌, ◌==◌, ◌<◌, ◌-◌, ◌^◌, ℕ, List, true, false, Ok, Err};
+ghost use Rattle.std.specs.Prelude.{◌≡◌, ◌==◌, ◌<◌, ◌-◌, ◌^◌, ℕ, List, true, false, Err};
 ghost use Rattle.std.specs.List.{list_any};
 ghost use Rattle.ar_space.specs.Accesses.{Accesses};
 ghost use Rattle.ar_space.specs.Numbers.{number_of};
@@ -10,7 +10,6 @@ ghost use Rattle.aml_grammar.specs.Tree.{Tree, Trees, tree};
 ghost use Rattle.aml_objects.specs.declared.value.Value.{Value};
 ghost use Rattle.aml_meaning.specs.declared.settings.EvaluationSettings.{EvaluationSettings};
 ghost use Rattle.aml_meaning.specs.declared.profile.Profile.TheVariants.{Core, Wide};
-ghost use Rattle.aml_meaning.specs.declared.flow.Flow.{Flow};
 ghost use Rattle.aml_meaning.specs.Calling.{answered, evaluated, loaded};
 ghost use Rattle.aml_meaning.specs.Given.{Given};
 ghost use Rattle.aml_meaning.specs.Invocations.{invoked};
@@ -19,7 +18,7 @@ ghost use Rattle.aml_meaning.specs.PassedOver.{is_passable};
 ghost use Rattle.aml_meaning.specs.Passing.{with_passed};
 ghost use Rattle.aml_meaning.specs.Predefined.{fresh_as, predefined};
 ghost use Rattle.aml_meaning.specs.State.{State};
-ghost use Rattle.aml_meaning.specs.Tasks.{Task, task, module_level, passes_over, goes_on, in_turn};
+ghost use Rattle.aml_meaning.specs.Tasks.{Task, task, module_level, in_turn};
 ghost use Rattle.aml_laws.specs.Becomes.{Becomes};
 ghost use Rattle.aml_laws.specs.PassedNotes.{KeepsTheFirst, with_one_more, GoesOn};
 ghost use Rattle.aml_laws.specs.PassedNumbers.{passed_numbers};
@@ -32,8 +31,7 @@ pub fn what_may_be_passed_over_is_told_by_its_number()
 
 /// Where an item of a list at module level is refused so in the wide profile, the list goes on with the next item, in
 /// the world that the item left and with the steps that it left; and it is noted with the scope and the refusal. By any
-/// other refusal, in the core profile, and in the body of a control method, the list is refused as its item is. An item
-/// that isn't refused and leaves its list ends it, and behind any other the list goes on in the world that it left.
+/// other refusal, in the core profile, and in the body of a control method, the list is refused as its item is.
 #[tactic(auto, using(crate::proofs::ListsGoOn::passed_list))]
 pub fn a_list_goes_on_behind_an_item_that_is_passed_over<S>()
     ensures passed { (accesses : Accesses S) (scope : List Seg) (t : Tree) (ts : Trees) (s after : State S × ℕ)
@@ -45,16 +43,12 @@ pub fn a_list_goes_on_behind_an_item_that_is_passed_over<S>()
         (s after : State S × ℕ) (e : Refusal) → is_passable e ≡ false →
         meaning accesses (task scope depth t) s ≡ (Err e, after) →
         in_turn (meaning accesses) scope depth (tree t ts) s ≡ (Err e, after) }
-    ensures next { (accesses : Accesses S) (scope : List Seg) (depth : ℕ) (t : Tree) (ts : Trees)
-        (s after : State S × ℕ) (f : Flow) → goes_on f ≡ true →
-        meaning accesses (task scope depth t) s ≡ (Ok f, after) →
-        in_turn (meaning accesses) scope depth (tree t ts) s ≡ in_turn (meaning accesses) scope depth ts after }
-    ensures left { (accesses : Accesses S) (scope : List Seg) (depth : ℕ) (t : Tree) (ts : Trees)
-        (s after : State S × ℕ) (f : Flow) → goes_on f ≡ false →
-        meaning accesses (task scope depth t) s ≡ (Ok f, after) →
-        in_turn (meaning accesses) scope depth (tree t ts) s ≡ (Ok f, after) }
-    ensures refused { (accesses : Accesses S) (scope : List Seg) (depth : ℕ) (t : Tree) (ts : Trees)
-        (s after : State S × ℕ) (e : Refusal) → passes_over depth s.0.profile ≡ false →
+    ensures in_core { (accesses : Accesses S) (scope : List Seg) (depth : ℕ) (t : Tree) (ts : Trees)
+        (s after : State S × ℕ) (e : Refusal) → s.0.profile ≡ Core →
+        meaning accesses (task scope depth t) s ≡ (Err e, after) →
+        in_turn (meaning accesses) scope depth (tree t ts) s ≡ (Err e, after) }
+    ensures in_body { (accesses : Accesses S) (scope : List Seg) (depth : ℕ) (t : Tree) (ts : Trees)
+        (s after : State S × ℕ) (e : Refusal) → 0 < depth →
         meaning accesses (task scope depth t) s ≡ (Err e, after) →
         in_turn (meaning accesses) scope depth (tree t ts) s ≡ (Err e, after) }
 {}

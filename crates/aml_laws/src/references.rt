@@ -13,22 +13,24 @@ ghost use Rattle.aml_meaning.specs.declared.store_target.Held.{Held};
 ghost use Rattle.aml_meaning.specs.declared.store_target.StoreTarget.{StoreTarget};
 ghost use Rattle.aml_meaning.specs.declared.store_target.StoreTarget.TheVariants as targets;
 ghost use Rattle.aml_meaning.specs.State.{State};
-ghost use Rattle.aml_meaning.specs.StoreTargets.{once, declaration, reference_of, dereferenced, target_read};
+ghost use Rattle.aml_meaning.specs.StoreTargets.{declaration, reference_of, dereferenced, target_read};
 ghost use Rattle.aml_meaning.specs.Stores.{stored, copied_to};
 ghost use Rattle.aml_meaning.specs.Mutexes.{acquired_at, given_back_at};
 ghost use Rattle.aml_laws.specs.Numbers.{numbers_of, RiseTo};
+ghost use Rattle.aml_laws.specs.StoredParts.{IsRead};
 
 /// RefOf of a name gives a reference to the declaration that stands at its path, and to no other: the number of that
-/// declaration finds its path and its object. DerefOf of the reference reads that object; where it holds neither a
-/// value nor a field, it gives the reference again. CopyObject through it takes its copy to the name.
+/// declaration finds its path and its object. DerefOf of the reference reads the value or the field that stands there;
+/// where the name stands for neither, it gives the reference again. CopyObject through it takes its copy to the name.
 #[tactic(auto, using(crate::proofs::ReferencesToNames::a_reference_to_a_name_finds_its_declaration))]
 pub fn a_reference_to_a_name_finds_its_declaration<S>()
     ensures given { (w : State S) (path : List Seg) (e : Entry) → get w.names.map path ≡ Some e →
         (reference_of (targets.Name path) w).0 ≡ Ok (reference.Name e.number) }
     ensures found { (w : State S) (path : List Seg) (e : Entry) → Numbered w.names → get w.names.map path ≡ Some e →
         (declaration e.number w).0 ≡ Ok (path, e) }
-    ensures read { (w : State S) (path : List Seg) (e : Entry) → Numbered w.names → get w.names.map path ≡ Some e →
-        (dereferenced (reference.Name e.number) w).0 ≡ Ok (once e.number e.object) }
+    ensures read { (w : State S) (path : List Seg) (e : Entry) (h : Held) → Numbered w.names →
+        get w.names.map path ≡ Some e → IsRead e.number e.object h →
+        (dereferenced (reference.Name e.number) w).0 ≡ Ok h }
     ensures copied { (w : State S) (path : List Seg) (r : Reference) (v : Value) → Numbered w.names →
         (reference_of (targets.Name path) w).0 ≡ Ok r → copied_to (targets.Refers r) v w ≡
         copied_to (targets.Name path) v w }

@@ -1,7 +1,8 @@
 //! References to parts of objects and to names, and what is asked of objects.
-ghost use Rattle.std.specs.Prelude.{◌≡◌, ◌≢◌, ◌<◌, ◌≤◌, ◌-◌, ◌^◌, ℕ, suc, List, Some, Ok, Err};
+ghost use Rattle.std.specs.Prelude.{◌≡◌, ◌≢◌, ◌<◌, ◌≤◌, ◌+◌, ◌-◌, ◌%◌, ◌^◌, ℕ, suc, List, Some, Ok, Err};
 ghost use Rattle.std.specs.FinMap.{get};
 ghost use Rattle.ar_space.specs.Accesses.{Accesses};
+ghost use Rattle.ar_space.specs.declared.refusal.Refusal.{Refusal};
 ghost use Rattle.ar_space.specs.declared.refusal.Refusal.TheVariants as refusal;
 ghost use Rattle.ar_space.specs.declared.refusal.EvaluationFault.TheVariants.{IndexLimit};
 ghost use Rattle.ar_space.specs.declared.refusal.NamespaceFault.TheVariants.{NotFound};
@@ -20,8 +21,13 @@ ghost use Rattle.aml_convert.specs.Integers.{bits_of};
 ghost use Rattle.aml_namespace.specs.Search.{found};
 ghost use Rattle.aml_meaning.specs.declared.store_target.StoreTarget.{StoreTarget};
 ghost use Rattle.aml_meaning.specs.declared.store_target.StoreTarget.TheVariants as targets;
+ghost use Rattle.aml_meaning.specs.declared.store_target.Stored.TheVariants as store;
 ghost use Rattle.aml_meaning.specs.State.{State};
-ghost use Rattle.aml_laws.specs.OperatorTerms.{alone, two_to, NamesSlot, NamesTarget, StoresTo, SlotHolds, SlotIsEmpty, TargetHolds, GivesValue, Gives, IsRefused};
+ghost use Rattle.aml_meaning.specs.Stores.{stored};
+ghost use Rattle.aml_meaning.specs.TargetTerms.{target_of};
+ghost use Rattle.aml_meaning.specs.Meaning.{meaning};
+ghost use Rattle.aml_laws.specs.OperatorTerms.{alone, one_to, two_to, NamesSlot, NamesTarget, StoresTo, SlotHolds, SlotIsEmpty, TargetHolds, GivesValue, Gives, IsRefused};
+ghost use Rattle.aml_laws.specs.IndexTargets.{CountsPart};
 ghost use Rattle.aml_laws.specs.ReferringTerms.{HasParts, HasPart, Indexes, part_read, size_of, object_type, IsNumbered, IsNamedKind, conditional, IsNumberedLast};
 
 /// Index gives a reference to the element of a package, or to the byte of a string or of a buffer, that its second
@@ -43,17 +49,45 @@ pub fn an_index_refers_to_a_part<S>()
         GivesValue accesses scope depth (part_read x y) (w, suc (suc steps)) r after }
 {}
 
+/// An Index where a target stands is the part that it refers to, and its own target takes the reference first (ACPI 6.5,
+/// 19.6: Index; 20.2.2: SuperName). So a Store to an Index evaluates its source, then the Index, and stores the source's
+/// value to the part, and an Increment or a Decrement of an Index counts the part. A Store to an Index that stores
+/// nothing is refused by this.
+pub fn an_index_is_a_target<S>()
+    ensures target { (accesses : Accesses S) (scope : List Seg) (depth : ℕ) (x y : Tree) (w : State S) (steps : ℕ)
+        (v : Value) (i : ℕ) (after : State S × ℕ) → Indexes accesses scope depth x y (w, steps) v i after → (n : ℕ)
+        (f : ℕ → Reference) → HasParts after.0 v n f → i < n → (p : Part) (end : State S) →
+        StoresTo scope p (value.Reference (f i)) after.0 end →
+        target_of (meaning accesses) scope depth (two_to opcodes.Index x y p) (w, suc steps) ≡
+        (Ok (targets.Refers (f i)), (end, after.1)) }
+    ensures stored { (accesses : Accesses S) (scope : List Seg) (depth : ℕ) (z x y : Tree) (w : State S) (steps : ℕ)
+        (u : Value) (between : State S) (rest : ℕ) →
+        GivesValue accesses scope depth z (w, steps) u (between, suc rest) → (v : Value) (i : ℕ)
+        (after : State S × ℕ) → Indexes accesses scope depth x y (between, rest) v i after → (n : ℕ)
+        (f : ℕ → Reference) → HasParts after.0 v n f → i < n → (p : Part) (referred : State S) →
+        StoresTo scope p (value.Reference (f i)) after.0 referred → (end : State S) →
+        stored (targets.Refers (f i)) u referred ≡ (Ok store.Done, end) → GivesValue accesses scope depth
+        (one_to opcodes.Store z (inner (two_to opcodes.Index x y p))) (w, suc steps) u (end, after.1) }
+    ensures counted_up { CountsPart S opcodes.Increment (λ width a m. m ≡ (a + 1) % 2 ^ bits_of width) }
+    ensures counted_down { CountsPart S opcodes.Decrement (λ width a m.
+        (m < 2 ^ bits_of width) × ((m + 1) % 2 ^ bits_of width ≡ a % 2 ^ bits_of width)) }
+{}
+
 /// SizeOf of a local, an argument or a name gives the number of bytes of the string or the buffer that it holds, or of
-/// the elements of the package. It changes nothing.
+/// the elements of the package; of a DerefOf of an Index that of the part of an object. It changes nothing.
 pub fn a_size_counts_bytes_and_elements<S>()
-    ensures { (accesses : Accesses S) (scope : List Seg) (depth : ℕ) (p : Part) (w : State S) (steps : ℕ)
+    ensures held { (accesses : Accesses S) (scope : List Seg) (depth : ℕ) (p : Part) (w : State S) (steps : ℕ)
         (t : StoreTarget) (v : Value) (n : ℕ) (f : ℕ → Reference) → NamesTarget scope w p t → TargetHolds w t v →
         HasParts w v n f → Gives accesses scope depth (size_of p) (w, suc steps) n (w, steps) }
+    ensures parts { (accesses : Accesses S) (scope : List Seg) (depth : ℕ) (x y : Tree) (w : State S) (steps : ℕ)
+        (v r : Value) (i n : ℕ) (f : ℕ → Reference) (after : State S × ℕ) →
+        Indexes accesses scope depth x y (w, steps) v i after → HasPart after.0 v i r → HasParts after.0 r n f →
+        Gives accesses scope depth (size_of (inner (part_read x y))) (w, suc (suc (suc steps))) n after }
 {}
 
 /// ObjectType of a local, an argument or a name that holds a value gives the number of the type of this value, of a name
 /// that holds none that of what it names, of a slot that holds none 0, and of Debug 16 (ACPI 6.5, 19.6: ObjectType, its
-/// table). It changes nothing.
+/// table). Of a DerefOf of an Index it is that of the element, and of a byte that of an integer. It changes nothing.
 pub fn object_types_have_their_numbers<S>()
     ensures values { (accesses : Accesses S) (scope : List Seg) (depth : ℕ) (p : Part) (w : State S) (steps : ℕ)
         (t : StoreTarget) (v : Value) (k : ℕ) → NamesTarget scope w p t → TargetHolds w t v → IsNumbered v k →
@@ -62,6 +96,10 @@ pub fn object_types_have_their_numbers<S>()
         (path : List Seg) (e : Entry) (k : ℕ) → NamesTarget scope w p (targets.Name path) →
         get w.names.map path ≡ Some e → IsNamedKind e.object k →
         Gives accesses scope depth (object_type p) (w, suc steps) k (w, steps) }
+    ensures parts { (accesses : Accesses S) (scope : List Seg) (depth : ℕ) (x y : Tree) (w : State S) (steps : ℕ)
+        (v r : Value) (i k : ℕ) (after : State S × ℕ) → Indexes accesses scope depth x y (w, steps) v i after →
+        HasPart after.0 v i r → IsNumbered r k →
+        Gives accesses scope depth (object_type (inner (part_read x y))) (w, suc (suc (suc steps))) k after }
     ensures nothing_yet { (accesses : Accesses S) (scope : List Seg) (depth : ℕ) (p : Part) (w : State S) (steps : ℕ)
         (s : Slot) → NamesTarget scope w p (targets.Slot s) → SlotIsEmpty w s →
         Gives accesses scope depth (object_type p) (w, suc steps) 0 (w, steps) }
@@ -70,9 +108,9 @@ pub fn object_types_have_their_numbers<S>()
 {}
 
 /// CondRefOf of a name that is found stores a reference to its declaration and gives Ones; where none is found it stores
-/// nothing and gives Zero. Of a local or an argument it does the same by whether it holds a value. What it refers to
-/// isn't evaluated, and it changes nothing but its target. One that stores in either case, or that gives One, is refused
-/// by this.
+/// nothing and gives Zero. A name that is refused for another reason, as one that leads above the root, is refused here,
+/// too. Of a local or an argument it does the same by whether it holds a value. What it refers to isn't evaluated, and it
+/// changes nothing but its target. One that stores in either case, or that gives One, is refused by this.
 pub fn a_conditional_reference_tells_what_is_found<S>()
     ensures name_found { (accesses : Accesses S) (scope : List Seg) (depth : ℕ) (w : State S) (steps : ℕ) (q : Part)
         (n : Name) (path : List Seg) (e : Entry) (end : State S) → found w.names.map scope n ≡ Ok (path, e) →
@@ -81,6 +119,9 @@ pub fn a_conditional_reference_tells_what_is_found<S>()
     ensures no_name { (accesses : Accesses S) (scope : List Seg) (depth : ℕ) (w : State S) (steps : ℕ) (q : Part)
         (n : Name) → found w.names.map scope n ≡ Err (refusal.Namespace NotFound) →
         Gives accesses scope depth (conditional (name n) q) (w, suc steps) 0 (w, steps) }
+    ensures no_path { (accesses : Accesses S) (scope : List Seg) (depth : ℕ) (w : State S) (steps : ℕ) (q : Part)
+        (n : Name) (e : Refusal) → found w.names.map scope n ≡ Err e → e ≢ refusal.Namespace NotFound →
+        IsRefused accesses scope depth (conditional (name n) q) (w, suc steps) e (w, steps) }
     ensures slot_with_value { (accesses : Accesses S) (scope : List Seg) (depth : ℕ) (w : State S) (steps : ℕ) (q : Part)
         (op : Opcode) (s : Slot) (v : Value) (end : State S) → NamesSlot op s → (h : SlotHolds w s v) →
         IsNumberedLast w h.frame h.last → StoresTo scope q (value.Reference (reference.Slot s h.frame.number)) w end →

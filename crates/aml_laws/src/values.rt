@@ -92,11 +92,12 @@ pub fn joined_resources_have_the_items_of_both()
         items_of joined ≡ before_end_tag (items_of first) ++ before_end_tag (items_of second) ++ end_tag ∷ [] }
 {}
 
-/// Each integer has a string: all the digits of its width, upper-case hexadecimal ones, or its decimal digits; and each
-/// buffer one of two digits for each byte, with blanks between them. ToBCD answers of each number that has no more
-/// decimal digits than the width has hexadecimal ones, and FromBCD of each whose hexadecimal digits are decimal ones.
-/// Two buffers of resource items are joined where each is empty or has an end tag. A conversion that refuses these, or
-/// that leaves leading zeros out of a hexadecimal string, is refused by this.
+/// Each integer has a string of all the digits of its width, upper-case hexadecimal ones, and one that ToDecimalString
+/// gives; and each buffer has one, three characters long for each byte but the last, which has two. Which characters these
+/// are `strings_spell_bytes_and_integers` says. ToBCD answers of each number that has no more decimal digits than the
+/// width has hexadecimal ones, and FromBCD of each whose hexadecimal digits are decimal ones. Two buffers of resource
+/// items are joined where each is empty or has an end tag. A conversion that refuses these, or that leaves leading zeros
+/// out of a hexadecimal string, is refused by this.
 #[tactic(auto, using(crate::proofs::ConversionsAnswered::conversions_answer))]
 pub fn conversions_answer()
     ensures hexadecimal { (width : IntegerWidth) (n : ℕ) → (text : List ℕ) ×

@@ -26,7 +26,7 @@ noted_err : (p : Outcome (List Tree) × State) (x : Refusal) → noted p ≡ Err
 noted_err (Ok ts, s) x e = absurd (cc e)
 noted_err (Err y, s) x e = let same : y ≡ x = cc e in (ap (λ z. Err z) same, ap (λ z. Err z) same, ap (λ z. Err z) same)
 
-marked_ok : (p : Outcome (List Tree) × State) (ms : List Mark) (after : List Arity) → noted p ≡ Ok (ms, after) → marked p ≡ Ok ms
+pub marked_ok : (p : Outcome (List Tree) × State) (ms : List Mark) (after : List Arity) → noted p ≡ Ok (ms, after) → marked p ≡ Ok ms
 marked_ok p ms after e = let x = noted_is p ms after e in ap marked x.2 ∙ ap (λ m. Ok m) x.3
 
 module _ (bs : List ℕ) (scope : List Seg) (body : Bool) (known : List Arity) where

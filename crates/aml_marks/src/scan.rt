@@ -2,7 +2,7 @@
 ghost use Rattle.std.specs.Prelude.{◌≡◌, ◌++◌, [], false, OnErr};
 ghost use Rattle.ar_space.specs.Outcome.{Answers, seen};
 ghost use Rattle.aml_grammar.specs.Grammar.{term_list, by_arities, reading, table_reading};
-ghost use Rattle.aml_grammar.specs.Grammar.{reading_within, table_reading_within};
+ghost use Rattle.aml_grammar.specs.Grammar.{term_list_within, within, reading_within, table_reading_within};
 ghost use Rattle.aml_marked.specs.Marked.{trees_by};
 ghost use Rattle.aml_scan.specs.Scanned.{marked, noted};
 
@@ -40,8 +40,7 @@ pub fn scan_list<C: ArgumentCounts>(
 }
 
 /// As `scan_list`, where terms may be one inside another within `levels` levels, the outermost counted; more than 64
-/// are
-/// 64. A term that is deeper than fewer than 64 levels allow is refused as `DepthSetting`, in place of `TooDeep`.
+/// are 64. A term that is deeper than fewer than 64 levels allow is refused as `DepthSetting`, in place of `TooDeep`.
 #[tactic(auto, using(crate::proofs::Within::scanning))]
 pub fn scan_list_within<C: ArgumentCounts>(
     alloc: Global,
@@ -51,7 +50,9 @@ pub fn scan_list_within<C: ArgumentCounts>(
     body: bool,
     counts: &C,
 ) -> Result<Marks, Refusal>
-    ensures { Answers (seen (λ m. trees_by m bytes.now) result)
+    ensures marks { Answers result (within levels
+        (marked (term_list_within levels by_arities bytes.now scope.now body (C.counts counts.now)))) }
+    ensures terms { Answers (seen (λ m. trees_by m bytes.now) result)
         (reading_within levels bytes.now scope.now body (C.counts counts.now)) }
 {
     let noted = scan_within(alloc, levels, bytes, scope, body, counts)?;
@@ -110,6 +111,8 @@ pub fn scan_table_within(
     bytes: &[u8],
     arities: &mut Arities,
 ) -> Result<Marks, Refusal>
+    ensures marks { Answers (seen (λ m. (m, arities.new)) result)
+        (within levels (noted (term_list_within levels by_arities bytes.now [] false arities.old))) }
     ensures table { Answers (seen (λ m. (trees_by m bytes.now, arities.new)) result)
         (table_reading_within levels bytes.now arities.old) }
     ensures refused { OnErr result (arities.new ≡ arities.old) }

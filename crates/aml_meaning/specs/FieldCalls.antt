@@ -25,7 +25,7 @@ use Rattle.aml_meaning.specs.Readings.{absolute, integer_in}
 use Rattle.aml_meaning.specs.Stores.{stored}
 use Rattle.aml_meaning.specs.Regions.{integer_only}
 use Rattle.aml_meaning.specs.Tasks.{Task}
-use Rattle.aml_meaning.specs.Invocations.{invocation_found, shallow, method_value}
+use Rattle.aml_meaning.specs.Invocations.{invocation_found, call_allowed, method_value}
 use Rattle.aml_meaning.specs.Fields.{field_value, field_integer, field_part, field_referent, field_stored}
 
 -- the integer that the object at a path answers, without arguments; answer: what it is, answered
@@ -60,7 +60,7 @@ module _ {S : Type 0} (accesses : Accesses S) (ev : Task → Run S Flow) where
   unfoldable pub answer_within : ℕ → Invocation → Run S ℕ
   answer_within zero i = stop (refusal.Evaluation CallDepth)
   answer_within (suc n) i = do
-    few ← lift (shallow (31 - n))
+    few ← lift (call_allowed (31 - n))
     answer_over n (asked (answer_within n)) i
 
   -- what is called where so many control methods are being called

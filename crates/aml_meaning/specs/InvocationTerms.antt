@@ -14,7 +14,7 @@ use Rattle.aml_meaning.specs.declared.invocation.Invocation.TheVariants as invoc
 use Rattle.aml_meaning.specs.Run.{Run, lift}
 use Rattle.aml_meaning.specs.Terms.{list_of, count_of}
 use Rattle.aml_meaning.specs.Tasks.{Task, operand_value}
-use Rattle.aml_meaning.specs.Invocations.{invocation_found, shallow, invoked}
+use Rattle.aml_meaning.specs.Invocations.{invocation_found, call_allowed, invoked}
 use Rattle.aml_meaning.specs.Osi.{osi_answered}
 use Rattle.aml_meaning.specs.FieldCalls.{field_read}
 
@@ -35,7 +35,7 @@ module _ {S : Type 0} (ev : Task → Run S Flow) where
   unfoldable pub osi_rule : List Seg → ℕ → Trees → Run S Flow
   osi_rule scope depth ts = do
     arguments ← arguments_in_turn scope depth ts []
-    few ← lift (shallow depth)
+    few ← lift (call_allowed depth)
     v ← lift (osi_answered arguments)
     give (flow.Value v)
 

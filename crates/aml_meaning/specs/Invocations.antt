@@ -104,11 +104,11 @@ body_terms p body w = (seen trees_of (reading_within w.nesting.levels body p tru
 -- ---- calls
 
 -- at most 32 calls one inside another, and no more than a setting allows; depth: how many control methods are being called
-abbrev pub shallow_within : ℕ → ℕ → Outcome (Unit {0})
-shallow_within calls depth = if nat_lt depth 32 then (if nat_lt depth calls then Ok tt else Err (refusal.Evaluation DepthSetting)) else Err (refusal.Evaluation CallDepth)
+abbrev pub call_allowed_within : ℕ → ℕ → Outcome (Unit {0})
+call_allowed_within calls depth = if nat_lt depth 32 then (if nat_lt depth calls then Ok tt else Err (refusal.Evaluation DepthSetting)) else Err (refusal.Evaluation CallDepth)
 
-unfoldable pub shallow : {S : Type 0} → ℕ → Change (State S) (Unit {0})
-shallow depth w = (shallow_within w.nesting.calls depth, w)
+unfoldable pub call_allowed : {S : Type 0} → ℕ → Change (State S) (Unit {0})
+call_allowed depth w = (call_allowed_within w.nesting.calls depth, w)
 
 -- however the body ended, its frame ends, and the names below the control method are removed
 abbrev pub left : {S : Type 0} → List Seg → State S → State S
@@ -141,7 +141,7 @@ value_of_call (flow.Return v) = value.Uninitialized
 module _ {S : Type 0} (ev : Task → Run S Flow) where
   unfoldable pub invoked : ℕ → List Seg → List ℕ → List Value → Run S Flow
   invoked depth p body arguments = do
-    few ← lift (shallow depth)
+    few ← lift (call_allowed depth)
     ts ← lift (body_terms p body)
     number ← lift (opened (frame_arguments arguments))
     leaving p (in_turn ev p (depth + 1) ts)

@@ -206,6 +206,10 @@ fn bytes_operand<C: ArgumentCounts, B: Before>(reader: &mut Reader<'_, C, B>) ->
 // ---- by kind
 
 /// An operand of a kind that holds no terms.
+///
+/// It is a function of its own in the program too: inlined, the names and paths of its kinds would take stack at each
+/// level of terms.
+#[inline(never)]
 #[tactic(auto, using(crate::proofs::Scans::scanning), unfolding(aml_grammar::specs::Grammar::operand))]
 pub(crate) fn operand<C: ArgumentCounts, B: Before>(
     alloc: Global,

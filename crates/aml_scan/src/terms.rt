@@ -105,7 +105,9 @@ fn element_name<C: ArgumentCounts, B: Before>(reader: &mut Reader<'_, C, B>) -> 
     skip_name(reader)
 }
 
-/// A name and as many terms as it takes arguments.
+/// A name and as many terms as it takes arguments. It isn't inlined, so that terms with an opcode take no stack for the
+/// name and its path.
+#[inline(never)]
 #[cycle(scan)]
 #[tactic(auto, using(crate::proofs::Scans::scanning), unfolding(aml_grammar::specs::Grammar::invocation))]
 fn invocation<C: ArgumentCounts, B: Before>(
@@ -282,50 +284,29 @@ fn operand<C: ArgumentCounts, B: Before>(
         start.entry.at kind earlier.old)) reader.old }
     ensures kept { OnOk result (length reader.new.rest ≤ length reader.old.rest) }
 {
+    let scope = start.scope;
+    let context = start.context;
     match kind {
-        OperandKind::TermArg => term(
+        OperandKind::TermArg => term(alloc, reader, levels, Position::TermArg, scope, context),
+        OperandKind::DataObject => term(
             alloc,
             reader,
             levels,
-            Position::TermArg,
-            start.scope,
-            start.context,
+            Position::DataObject,
+            scope,
+            context,
         ),
-        OperandKind::DataObject => {
-            term(
-                alloc,
-                reader,
-                levels,
-                Position::DataObject,
-                start.scope,
-                start.context,
-            )
-        }
-        OperandKind::SuperName => super_name(alloc, reader, levels, start.scope, start.context),
-        OperandKind::Target => target(alloc, reader, levels, start.scope, start.context),
-        OperandKind::SimpleName => simple_name(alloc, reader, levels, start.scope, start.context),
-        OperandKind::TermList => term_list(
-            alloc,
-            reader,
-            levels,
-            start.scope,
-            earlier,
-            start.context,
-        ),
+        OperandKind::SuperName => super_name(alloc, reader, levels, scope, context),
+        OperandKind::Target => target(alloc, reader, levels, scope, context),
+        OperandKind::SimpleName => simple_name(alloc, reader, levels, scope, context),
+        OperandKind::TermList => term_list(alloc, reader, levels, scope, earlier, context),
         OperandKind::LoopTermList => {
-            term_list(
-                alloc,
-                reader,
-                levels,
-                start.scope,
-                earlier,
-                in_loop(start.context),
-            )
+            term_list(alloc, reader, levels, scope, earlier, in_loop(context))
         }
         OperandKind::PackageElementList => {
-            element_list(alloc, reader, levels, start.scope, earlier, start.context)
+            element_list(alloc, reader, levels, scope, earlier, context)
         }
-        OperandKind::FieldList => fields_operand(alloc, reader, levels, start.scope, start.context),
+        OperandKind::FieldList => fields_operand(alloc, reader, levels, scope, context),
         _ => leaf::operand(alloc, reader, start, kind, earlier),
     }
 }

@@ -40,3 +40,4 @@ pub mod RunsFound
 pub mod TablesInTurn
 pub mod TellingWidened
 pub mod SettingsTogether
+pub mod MachinesDeepened

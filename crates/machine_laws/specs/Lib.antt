@@ -1,4 +1,5 @@
 pub mod BoundedAccesses
+pub mod Deepened
 pub mod Evaluated
 pub mod Initializing
 pub mod KernelLines

@@ -2,6 +2,7 @@
 #![tactic(auto)]
 
 mod bounds;
+mod depths;
 mod faults;
 mod initializing;
 mod kernel_lines;
@@ -14,6 +15,10 @@ mod worlds;
 pub use bounds::{
     a_report_reaches_its_space_by_accesses, each_access_within_the_bound_is_made,
     no_more_accesses_are_made_than_the_bound,
+};
+pub use depths::{
+    a_machine_that_allows_more_depth_calls_as_one_that_allows_less,
+    a_machine_that_allows_more_depth_gathers_as_one_that_allows_less,
 };
 pub use faults::{machine_faults_are_reached_by_accesses, routing_faults_are_reached_by_accesses};
 pub use initializing::{

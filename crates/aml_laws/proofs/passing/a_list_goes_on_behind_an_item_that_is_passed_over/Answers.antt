@@ -1,14 +1,11 @@
-use Rattle.aml_laws.proofs.ListsGoOn.{ended_list, next_list, left_list, refused_list}
+use Rattle.aml_laws.proofs.ListsGoOn.{ended_list, refused_in_core, refused_in_body}
 use Rattle.aml_laws.proofs.passing.a_list_goes_on_behind_an_item_that_is_passed_over.Goals as goal
 
 pub returns-clause-ended : goal.returns-clause-ended
-returns-clause-ended g c = λ accesses scope depth t ts s after e fails is. ended_list accesses scope depth t ts s after e fails is
+returns-clause-ended g c = ended_list
 
-pub returns-clause-refused : goal.returns-clause-refused
-returns-clause-refused g c = λ accesses scope depth t ts s after e may is. refused_list accesses scope depth t ts s after e may is
+pub returns-clause-in_core : goal.returns-clause-in_core
+returns-clause-in_core g c = refused_in_core
 
-pub returns-clause-next : goal.returns-clause-next
-returns-clause-next g c = λ accesses scope depth t ts s after f more is. next_list accesses scope depth t ts s after f more is
-
-pub returns-clause-left : goal.returns-clause-left
-returns-clause-left g c = λ accesses scope depth t ts s after f more is. left_list accesses scope depth t ts s after f more is
+pub returns-clause-in_body : goal.returns-clause-in_body
+returns-clause-in_body g c = refused_in_body

@@ -1,0 +1,38 @@
+-- Terms that create buffer fields (ACPI 6.5, 19.6: CreateBitField, CreateByteField, CreateDWordField, CreateField, CreateQWordField,
+-- CreateWordField).
+use Rattle.std.specs.Prelude.{◌≡◌, ◌≤◌, ◌*◌, ℕ, List, length, slice_get, Some}
+use Rattle.aml_path.specs.Paths.{Name}
+use Rattle.aml_grammar.specs.declared.opcode.Opcode.{Opcode}
+use Rattle.aml_grammar.specs.declared.opcode.Opcode.TheVariants as opcodes
+use Rattle.aml_grammar.specs.Tree.{Tree, name, inner, no_parts, part}
+use Rattle.aml_objects.specs.declared.entry.BufferField.{BufferField}
+use Rattle.aml_objects.specs.declared.object.Object.TheVariants as object
+use Rattle.aml_meaning.specs.State.{State}
+use Rattle.aml_laws.specs.OperatorTerms.{of_opcode}
+
+-- the buffer, the index, and the name that is declared
+abbrev pub create : Opcode → Tree → Tree → Name → Tree
+create op x y n = of_opcode op (part (inner x) (part (inner y) (part (name n) no_parts)))
+
+-- the buffer, the index of the first bit, how many bits, and the name that is declared
+abbrev pub create_field : Tree → Tree → Tree → Name → Tree
+create_field x y z n = of_opcode opcodes.CreateField (part (inner x) (part (inner y) (part (inner z) (part (name n) no_parts))))
+
+-- how many bits each step of the index has, and how many the field
+pub data HasSize : Opcode → ℕ → ℕ → Type 0 where
+  of_bit : HasSize opcodes.CreateBitField 1 1
+  of_byte : HasSize opcodes.CreateByteField 8 8
+  of_word : HasSize opcodes.CreateWordField 8 16
+  of_double_word : HasSize opcodes.CreateDWordField 8 32
+  of_quad_word : HasSize opcodes.CreateQWordField 8 64
+
+-- a buffer of at most 1,048,576 bytes, as all are, has bits up to this one
+pub record HasBits {S : Type 0} (w : State S) (o last : ℕ) : Type 0 where
+  pub bytes : List ℕ
+  pub stands : slice_get w.objects o ≡ Some (object.Buffer bytes)
+  pub short : length bytes ≤ 1048576
+  pub within : last ≤ 8 * length bytes
+
+-- the bits of a buffer from one on
+abbrev pub bits_from : ℕ → ℕ → ℕ → BufferField
+bits_from o first count = record { buffer = o; bit_offset = first; bits = count }

@@ -1,0 +1,90 @@
+//! What terms that declare names leave at their paths.
+ghost use Rattle.std.specs.Prelude.{◌≡◌, ◌<◌, ℕ, suc, List, Ok};
+ghost use Rattle.ar_space.specs.Accesses.{Accesses};
+ghost use Rattle.ar_space.specs.declared.refusal.Refusal.{Refusal};
+ghost use Rattle.aml_path.specs.declared.segment.Seg.{Seg};
+ghost use Rattle.aml_path.specs.Paths.{Name, resolved};
+ghost use Rattle.aml_grammar.specs.Tree.{Tree, Parts};
+ghost use Rattle.aml_grammar.specs.Apart.{code_of, name_of, operand_of};
+ghost use Rattle.aml_grammar.specs.declared.opcode.Opcode.{Opcode};
+ghost use Rattle.aml_grammar.specs.declared.opcode.Opcode.TheVariants as opcodes;
+ghost use Rattle.aml_grammar.specs.declared.opcode.TermCode.TheVariants as codes;
+ghost use Rattle.aml_objects.specs.declared.entry.Entry.{Entry};
+ghost use Rattle.aml_objects.specs.declared.entry.NamedObject.{NamedObject};
+ghost use Rattle.aml_objects.specs.declared.entry.NamedObject.TheVariants as named;
+ghost use Rattle.aml_objects.specs.declared.value.Value.{Value};
+ghost use Rattle.aml_namespace.specs.Search.{found};
+ghost use Rattle.aml_meaning.specs.State.{State};
+ghost use Rattle.aml_laws.specs.OperatorTerms.{of_opcode, GivesValue, IsRefused};
+ghost use Rattle.aml_laws.specs.ObjectTerms.{Passes};
+ghost use Rattle.aml_laws.specs.InnerLists.{DeclaresScope};
+ghost use Rattle.aml_laws.specs.DeclaredObjects.{name_term, method_term, alias_term, mutex_term, event_term, method_of, IsFree, TakesNoName, with_name};
+
+/// A Name term leaves at the path of its name the very value that its term gives, a Method term a control method with its
+/// flags and its body, an Alias term an alias of the path at which its first name stands, a Mutex term a mutex that nobody
+/// has acquired, and an Event term an event without signals (ACPI 6.5, 5.3 and 19.6). So it is where the path is free;
+/// nothing else of the world changes. A Name that declares no data, a control method that takes fewer arguments, and an
+/// alias of itself, are refused by this.
+pub fn a_declaration_leaves_what_its_term_says<S>()
+    ensures name { (accesses : Accesses S) (scope : List Seg) (depth : ℕ) (n : Name) (path : List Seg) →
+        resolved n scope ≡ Ok path → (w : State S) (steps : ℕ) (x : Tree) (v : Value) (after : State S × ℕ) →
+        GivesValue accesses scope depth x (w, steps) v after → IsFree depth after.0 path →
+        Passes accesses scope depth (name_term n x) (w, suc steps) (
+          with_name after.0 path (named.Data v),
+          after.1,
+        ) }
+    ensures method { (accesses : Accesses S) (scope : List Seg) (depth : ℕ) (n : Name) (path : List Seg) →
+        resolved n scope ≡ Ok path → (w : State S) (steps flags : ℕ) (body : List ℕ) → flags < 256 →
+        IsFree depth w path → Passes accesses scope depth (method_term n flags body) (w, suc steps)
+        (with_name w path (method_of flags body), steps) }
+    ensures an_alias { (accesses : Accesses S) (scope : List Seg) (depth : ℕ) (n : Name) (path : List Seg) →
+        resolved n scope ≡ Ok path → (w : State S) (steps : ℕ) (source : Name) (target : List Seg) (e : Entry) →
+        found w.names.map scope source ≡ Ok (target, e) → IsFree depth w path →
+        Passes accesses scope depth (alias_term source n) (w, suc steps)
+        (with_name w path (named.Alias target), steps) }
+    ensures mutex { (accesses : Accesses S) (scope : List Seg) (depth : ℕ) (n : Name) (path : List Seg) →
+        resolved n scope ≡ Ok path → (w : State S) (steps level : ℕ) → IsFree depth w path →
+        Passes accesses scope depth (mutex_term n level) (w, suc steps) (with_name w path (named.Mutex 0), steps) }
+    ensures event { (accesses : Accesses S) (scope : List Seg) (depth : ℕ) (n : Name) (path : List Seg) →
+        resolved n scope ≡ Ok path → (w : State S) (steps : ℕ) → IsFree depth w path →
+        Passes accesses scope depth (event_term n) (w, suc steps) (with_name w path (named.Event 0), steps) }
+{}
+
+/// An External declares nothing: it gives nothing, and changes nothing, whatever its operands are, but takes a step
+/// (ACPI 6.5, 19.6: External). One that refuses its table is refused by this.
+pub fn an_external_declares_nothing<S>()
+    ensures { (accesses : Accesses S) (scope : List Seg) (depth : ℕ) (operands : Parts) (w : State S) (steps : ℕ) →
+        Passes accesses scope depth (of_opcode opcodes.External operands) (w, suc steps) (w, steps) }
+{}
+
+/// A declaration at a path that takes no name, also one of a scope as by a Device term, is refused, and nothing changes
+/// (ACPI 6.5, 5.3): where a name stands there,
+/// by the number of a name that exists; where none stands above it, and at module level where a control method does, by
+/// that of a name that isn't found. A Name is refused so once its term is evaluated. A name that is declared in a control
+/// method at module level is refused by this.
+pub fn a_path_that_takes_no_name_refuses_declarations<S>()
+    ensures name { (accesses : Accesses S) (scope : List Seg) (depth : ℕ) (n : Name) (path : List Seg) →
+        resolved n scope ≡ Ok path → (w : State S) (steps : ℕ) (e : Refusal) (x : Tree) (v : Value)
+        (after : State S × ℕ) → GivesValue accesses scope depth x (w, steps) v after →
+        TakesNoName depth after.0 path e → IsRefused accesses scope depth (name_term n x) (w, suc steps) e after }
+    ensures method { (accesses : Accesses S) (scope : List Seg) (depth : ℕ) (n : Name) (path : List Seg) →
+        resolved n scope ≡ Ok path → (w : State S) (steps : ℕ) (e : Refusal) (flags : ℕ) (body : List ℕ) →
+        TakesNoName depth w path e →
+        IsRefused accesses scope depth (method_term n flags body) (w, suc steps) e (w, steps) }
+    ensures an_alias { (accesses : Accesses S) (scope : List Seg) (depth : ℕ) (n : Name) (path : List Seg) →
+        resolved n scope ≡ Ok path → (w : State S) (steps : ℕ) (e : Refusal) (source : Name) (target : List Seg)
+        (there : Entry) → found w.names.map scope source ≡ Ok (target, there) → TakesNoName depth w path e →
+        IsRefused accesses scope depth (alias_term source n) (w, suc steps) e (w, steps) }
+    ensures mutex { (accesses : Accesses S) (scope : List Seg) (depth : ℕ) (n : Name) (path : List Seg) →
+        resolved n scope ≡ Ok path → (w : State S) (steps : ℕ) (e : Refusal) (level : ℕ) →
+        TakesNoName depth w path e →
+        IsRefused accesses scope depth (mutex_term n level) (w, suc steps) e (w, steps) }
+    ensures event { (accesses : Accesses S) (scope : List Seg) (depth : ℕ) (n : Name) (path : List Seg) →
+        resolved n scope ≡ Ok path → (w : State S) (steps : ℕ) (e : Refusal) → TakesNoName depth w path e →
+        IsRefused accesses scope depth (event_term n) (w, suc steps) e (w, steps) }
+    ensures a_scope { (accesses : Accesses S) (scope : List Seg) (depth : ℕ) (n : Name) (path : List Seg) →
+        resolved n scope ≡ Ok path → (w : State S) (steps : ℕ) (e : Refusal) (code : Opcode) (o : NamedObject)
+        (i : ℕ) (t : Tree) → DeclaresScope code o i → code_of t ≡ codes.Opcode code →
+        name_of (operand_of t 0) ≡ Ok n → TakesNoName depth w path e →
+        IsRefused accesses scope depth t (w, suc steps) e (w, steps) }
+{}

@@ -1,0 +1,94 @@
+//! Names that stand in packages, where they are used.
+ghost use Rattle.std.specs.Prelude.{◌≡◌, ◌≤◌, ◌-◌, ◌^◌, ◌∷◌, [], ℕ, suc, List, take, slice_get, Some, Ok, Err};
+ghost use Rattle.ar_space.specs.Accesses.{Accesses};
+ghost use Rattle.ar_space.specs.declared.refusal.Refusal.{Refusal};
+ghost use Rattle.aml_path.specs.declared.segment.Seg.{Seg};
+ghost use Rattle.aml_path.specs.Paths.{Name};
+ghost use Rattle.aml_grammar.specs.Tree.{Tree, null, inner};
+ghost use Rattle.aml_grammar.specs.declared.opcode.Opcode.TheVariants as opcodes;
+ghost use Rattle.aml_objects.specs.declared.entry.Entry.{Entry};
+ghost use Rattle.aml_objects.specs.declared.entry.Field.{Field};
+ghost use Rattle.aml_objects.specs.declared.entry.NamedObject.TheVariants as named;
+ghost use Rattle.aml_objects.specs.declared.object.Element.TheVariants as element;
+ghost use Rattle.aml_objects.specs.declared.object.Object.TheVariants as object;
+ghost use Rattle.aml_objects.specs.declared.value.Reference.TheVariants as reference;
+ghost use Rattle.aml_objects.specs.declared.value.Value.{Value};
+ghost use Rattle.aml_objects.specs.declared.value.Value.TheVariants as value;
+ghost use Rattle.aml_convert.specs.Integers.{bits_of, bytes_of};
+ghost use Rattle.aml_convert.specs.declared.matching.MatchOperator.{MatchOperator};
+ghost use Rattle.aml_namespace.specs.Search.{found};
+ghost use Rattle.aml_meaning.specs.Exporting.{exported};
+ghost use Rattle.aml_meaning.specs.Given.{Given, Package, none, more};
+ghost use Rattle.aml_meaning.specs.State.{State};
+ghost use Rattle.aml_laws.specs.FieldNames.{NamesField, bits_read_at};
+ghost use Rattle.aml_laws.specs.IntegersOfValues.{lowest_first};
+ghost use Rattle.aml_laws.specs.MatchedNames.{MatchesName};
+ghost use Rattle.aml_laws.specs.MatchedTerms.{match, IsNumberOf, IsMet};
+ghost use Rattle.aml_laws.specs.NamesInPackages.{HoldsName, NameIsHandedOut};
+ghost use Rattle.aml_laws.specs.NamesUsed.{IsGivenBy};
+ghost use Rattle.aml_laws.specs.OperatorTerms.{two_to, GivesValue, Gives, IsRefused};
+ghost use Rattle.aml_laws.specs.ReferringTerms.{Indexes, part_read, object_type, IsNumbered};
+ghost use Rattle.aml_laws.specs.StoredParts.{HoldsNothing};
+
+/// A name in a package is searched for where it is used, from the scope where the package was made. DerefOf of the
+/// element gives the data that the name finds, reads the field that it finds, and gives a reference to anything else;
+/// where nothing is found it is refused for that. ObjectType of the element tells the type of the data. A name that is
+/// searched for from the root is refused by this.
+pub fn a_name_in_a_package_is_searched_where_it_is_used<S>()
+    ensures held { (accesses : Accesses S) (scope : List Seg) (depth : ℕ) (x y : Tree) (w : State S) (steps o i : ℕ)
+        (after : State S × ℕ) → Indexes accesses scope depth x y (w, steps) (value.Package o) i after → (n : Name)
+        (home : List Seg) → HoldsName after.0 o i n home → (path : List Seg) (e : Entry) (v r : Value) →
+        found after.0.names.map home n ≡ Ok (path, e) → e.object ≡ named.Data v → IsGivenBy e.number v r →
+        GivesValue accesses scope depth (part_read x y) (w, suc (suc steps)) r after }
+    ensures no_data { (accesses : Accesses S) (scope : List Seg) (depth : ℕ) (x y : Tree) (w : State S)
+        (steps o i : ℕ) (after : State S × ℕ) → Indexes accesses scope depth x y (w, steps) (value.Package o) i after →
+        (n : Name) (home : List Seg) → HoldsName after.0 o i n home → (path : List Seg) (e : Entry) →
+        found after.0.names.map home n ≡ Ok (path, e) → HoldsNothing e.object → GivesValue accesses scope depth
+        (part_read x y) (w, suc (suc steps)) (value.Reference (reference.Name e.number)) after }
+    ensures field { (accesses : Accesses S) (scope : List Seg) (depth : ℕ) (x y : Tree) (w : State S) (steps o i : ℕ)
+        (after : State S × ℕ) → Indexes accesses scope depth x y (w, steps) (value.Package o) i after → (n : Name)
+        (home : List Seg) → HoldsName after.0 o i n home → (f : Field) (bits b : ℕ) (bytes : List ℕ)
+        (end : State S × ℕ) → NamesField after.0 home n f bits →
+        bits_read_at accesses depth f after ≡ (Ok (b ∷ bytes), end) → bits ≤ bits_of end.0.width →
+        Gives accesses scope depth (part_read x y) (w, suc (suc steps))
+        (lowest_first (take (bytes_of end.0.width) (b ∷ bytes))) end }
+    ensures unfound { (accesses : Accesses S) (scope : List Seg) (depth : ℕ) (x y : Tree) (w : State S)
+        (steps o i : ℕ) (after : State S × ℕ) → Indexes accesses scope depth x y (w, steps) (value.Package o) i after →
+        (n : Name) (home : List Seg) → HoldsName after.0 o i n home → (e : Refusal) →
+        found after.0.names.map home n ≡ Err e →
+        IsRefused accesses scope depth (part_read x y) (w, suc (suc steps)) e after }
+    ensures typed { (accesses : Accesses S) (scope : List Seg) (depth : ℕ) (x y : Tree) (w : State S) (steps o i : ℕ)
+        (after : State S × ℕ) → Indexes accesses scope depth x y (w, steps) (value.Package o) i after → (n : Name)
+        (home : List Seg) → HoldsName after.0 o i n home → (path : List Seg) (e : Entry) (v : Value) (k : ℕ) →
+        found after.0.names.map home n ≡ Ok (path, e) → e.object ≡ named.Data v → IsNumbered v k →
+        Gives accesses scope depth (object_type (inner (two_to opcodes.Index x y null))) (w, suc (suc steps)) k
+        after }
+{}
+
+/// A name in a package that an answer hands out stands for the data that it finds, searched for from the scope where the
+/// package was made. Where it finds a reference, or what holds neither data nor a field, it is handed out as the path
+/// of what it finds; where nothing is found, as the path that it would have. It costs the step of an element. A name
+/// that is handed out as nothing, as the link of an entry of a routing table, is refused by this.
+pub fn a_name_in_a_package_is_handed_out_as_what_it_finds<S>()
+    ensures { (accesses : Accesses S) (w : State S) (steps o : ℕ) (n : Name) (home : List Seg) (g : Given) →
+        slice_get w.objects o ≡ Some (object.Package (element.Name n home ∷ [])) → NameIsHandedOut w n home g →
+        exported accesses (value.Package o) (w, suc steps) ≡ (Ok (Package (more g none)), (w, steps)) }
+{}
+
+/// Match compares an element that is a name by the integer that the name finds, searched for from the scope where the
+/// package was made: it is found where it meets both tests, and else not. A name that matches nothing, and one that is
+/// searched for from the root, are refused by this.
+pub fn a_match_compares_what_a_name_finds<S>()
+    ensures met { (accesses : Accesses S) (scope : List Seg) (depth : ℕ) (p x y i : Tree) (w : State S) (steps : ℕ)
+        (n : Name) (home : List Seg) (a b : ℕ) (after : State S × ℕ) →
+        MatchesName accesses scope depth p x y i (w, steps) n home a b after → (path : List Seg) (e : Entry) (q : ℕ) →
+        found after.0.names.map home n ≡ Ok (path, e) → e.object ≡ named.Data (value.Integer q) → (j m : ℕ)
+        (k l : MatchOperator) → IsNumberOf j k → IsNumberOf m l → IsMet k q a → IsMet l q b →
+        Gives accesses scope depth (match p j x m y i) (w, suc steps) 0 after }
+    ensures unmet { (accesses : Accesses S) (scope : List Seg) (depth : ℕ) (p x y i : Tree) (w : State S) (steps : ℕ)
+        (n : Name) (home : List Seg) (a b : ℕ) (after : State S × ℕ) →
+        MatchesName accesses scope depth p x y i (w, steps) n home a b after → (path : List Seg) (e : Entry) (q : ℕ) →
+        found after.0.names.map home n ≡ Ok (path, e) → e.object ≡ named.Data (value.Integer q) → (j m : ℕ)
+        (k l : MatchOperator) → IsNumberOf j k → IsNumberOf m l → (IsMet k q a × IsMet l q b → ⊥) →
+        Gives accesses scope depth (match p j x m y i) (w, suc steps) (2 ^ bits_of after.0.width - 1) after }
+{}

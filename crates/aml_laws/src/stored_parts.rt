@@ -1,0 +1,67 @@
+//! Stores to arguments, to parts of objects, and to names that hold a reference or nothing.
+ghost use Rattle.std.specs.Prelude.{◌≡◌, ◌≢◌, ◌<◌, ◌≤◌, ◌+◌, ℕ, List, [], length, slice_get, Some, Ok, Err};
+ghost use Rattle.std.specs.FinMap.{get};
+ghost use Rattle.ar_space.specs.declared.refusal.Refusal.TheVariants as refusal;
+ghost use Rattle.ar_space.specs.declared.refusal.ValueFault.TheVariants.{WrongType, EmptyValue};
+ghost use Rattle.aml_path.specs.declared.segment.Seg.{Seg};
+ghost use Rattle.aml_objects.specs.declared.entry.Entry.{Entry};
+ghost use Rattle.aml_objects.specs.declared.object.Element.{Element};
+ghost use Rattle.aml_objects.specs.declared.object.Object.{Object};
+ghost use Rattle.aml_objects.specs.declared.object.Object.TheVariants as object;
+ghost use Rattle.aml_objects.specs.declared.value.Reference.{Reference};
+ghost use Rattle.aml_objects.specs.declared.value.Reference.TheVariants as reference;
+ghost use Rattle.aml_objects.specs.declared.value.Slot.TheVariants.{Argument};
+ghost use Rattle.aml_objects.specs.declared.value.Value.{Value};
+ghost use Rattle.aml_objects.specs.declared.value.Value.TheVariants as value;
+ghost use Rattle.aml_meaning.specs.State.{State};
+ghost use Rattle.aml_meaning.specs.Stores.{stored, copied_to};
+ghost use Rattle.aml_meaning.specs.declared.store_target.StoreTarget.TheVariants as targets;
+ghost use Rattle.aml_meaning.specs.declared.store_target.Stored.TheVariants as store;
+ghost use Rattle.aml_laws.specs.Copyable.{IsCopyable};
+ghost use Rattle.aml_laws.specs.StoredNames.{data_entry, with_object_numbered};
+ghost use Rattle.aml_laws.specs.StoredParts.{ArgumentHolds, ArgumentTakesCopy, ElementTakesCopy, GivesByte, ByteTaken, IsNoData, HoldsNothing};
+
+/// A Store to an argument that holds no reference, and one to an element of a package, take a copy of the value, which
+/// shares no object with anything that was there before; nothing else of the world changes. So it is of each value that
+/// `what_is_within_the_limits_is_copied` says can be copied. A Store that does nothing, and one that shares a string, a
+/// buffer or a package, are refused by this.
+pub fn arguments_and_elements_take_copies<S>()
+    ensures argument { (before : State S) (i last : ℕ) (old v : Value) (count : ℕ) →
+        ArgumentHolds before i last old → ((r : Reference) → old ≢ value.Reference r) →
+        IsCopyable before.objects 64 count v → length before.objects + count ≤ 262144 → (after : State S) ×
+        ((stored (targets.Slot (Argument i)) v before ≡ (Ok store.Done, after)) ×
+        ArgumentTakesCopy before after i last v) }
+    ensures part { (before : State S) (o i : ℕ) (es : List Element) →
+        slice_get before.objects o ≡ Some (object.Package es) → i < length es → (v : Value) (count : ℕ) →
+        IsCopyable before.objects 64 count v → length before.objects + count ≤ 262144 → (after : State S) ×
+        ((stored (targets.Refers (reference.Element o i)) v before ≡ (Ok store.Done, after)) ×
+        ElementTakesCopy before after o i es v) }
+{}
+
+/// A Store to a byte of a string or of a buffer takes an integer modulo 256, and of a string or a buffer the first byte;
+/// nothing else of the world changes. An empty one is refused, and so is a value of any other type. A byte that is
+/// written elsewhere is refused by this.
+pub fn a_byte_takes_the_first_byte_of_a_value<S>()
+    ensures stored { (w : State S) (o i : ℕ) (v : Value) (b : ℕ) (old new : Object) →
+        slice_get w.objects o ≡ Some old → GivesByte w v b → ByteTaken i b old new →
+        stored (targets.Refers (reference.Byte o i)) v w ≡ (Ok store.Done, with_object_numbered w o new) }
+    ensures empty { (w : State S) (o i p : ℕ) (old new : Object) → slice_get w.objects o ≡ Some old →
+        ByteTaken i 0 old new → (slice_get w.objects p ≡ Some (object.String []) →
+        stored (targets.Refers (reference.Byte o i)) (value.String p) w ≡ (Err (refusal.Value EmptyValue), w)) ×
+        (slice_get w.objects p ≡ Some (object.Buffer []) →
+        stored (targets.Refers (reference.Byte o i)) (value.Buffer p) w ≡ (Err (refusal.Value EmptyValue), w)) }
+    ensures no_byte { (w : State S) (o i : ℕ) (v : Value) (old new : Object) → slice_get w.objects o ≡ Some old →
+        ByteTaken i 0 old new → IsNoData v →
+        stored (targets.Refers (reference.Byte o i)) v w ≡ (Err (refusal.Value WrongType), w) }
+{}
+
+/// A Store to a name that holds a reference takes a copy of the value without conversion, as CopyObject does. One to a
+/// name that holds neither a value nor a field is refused, and so is a CopyObject.
+pub fn what_holds_no_data_takes_no_conversion<S>()
+    ensures over_reference { (w : State S) (path : List Seg) (number : ℕ) (r : Reference) (v : Value) →
+        get w.names.map path ≡ Some (data_entry number (value.Reference r)) →
+        stored (targets.Name path) v w ≡ copied_to (targets.Name path) v w }
+    ensures over_nothing { (w : State S) (path : List Seg) (e : Entry) (v : Value) → get w.names.map path ≡ Some e →
+        HoldsNothing e.object → (stored (targets.Name path) v w ≡ (Err (refusal.Value WrongType), w)) ×
+        (copied_to (targets.Name path) v w ≡ (Err (refusal.Value WrongType), w)) }
+{}
