@@ -282,31 +282,9 @@ pub(crate) fn put_integer_to_slot<S: Space>(
     if levels == 0 {
         return false;
     }
-    match short_at(act.first()) {
-        Short::Slot(slot) => put_integer_in_slot(run, act, levels, number, slot),
-        _ => false,
-    }
-}
-
-/// The same of a local or an argument.
-#[inline(always)]
-fn put_integer_in_slot<S: Space>(
-    run: &mut Running<S>,
-    act: &mut Activation,
-    levels: u8,
-    number: u64,
-    slot: Slot,
-) -> bool
-    requires deep { 0 < levels }
-    requires short { IsShort (shorts.Slot slot) (row_alone (first act.old.place.rest)) }
-    ensures done { result ≡ true → Does (Ok (flows.Value (values.Integer number))) run.new
-        (target_run S.accesses (meaning S.accesses) (super levels)
-        (uses.Store (values.Integer number)) act.old) run.old }
-    ensures behind { result ≡ true → act.new ≡ behind_target (super levels) act.old }
-    ensures spent { run.new.1 ≤ run.old.1 }
-    ensures none { result ≡ false → run.new ≡ run.old }
-    ensures stays { result ≡ false → act.new ≡ act.old }
-{
+    let Short::Slot(slot) = short_at(act.first()) else {
+        return false;
+    };
     if !run.world.put_slot_integer(slot, number) {
         return false;
     }
@@ -333,39 +311,16 @@ pub(crate) fn count_slot<S: Space>(
     if levels == 0 {
         return None;
     }
-    match short_at(act.first()) {
-        Short::Slot(slot) => count_in_slot(run, act, levels, kind, slot),
-        _ => None,
+    let Short::Slot(slot) = short_at(act.first()) else {
+        return None;
+    };
+    let Some(before) = run.world.slot_integer(slot) else {
+        return None;
+    };
+    let after = run.world.count_integer(kind, before);
+    if !run.world.put_slot_integer(slot, after) {
+        return None;
     }
-}
-
-/// The same of a local or an argument.
-#[inline(always)]
-fn count_in_slot<S: Space>(
-    run: &mut Running<S>,
-    act: &mut Activation,
-    levels: u8,
-    kind: Count,
-    slot: Slot,
-) -> Option<u64>
-    requires deep { 0 < levels }
-    requires short { IsShort (shorts.Slot slot) (row_alone (first act.old.place.rest)) }
-    ensures counted { IfSome result (λ n. Does (Ok (flows.Value (values.Integer n))) run.new
-        (target_run S.accesses (meaning S.accesses) (super levels) (uses.Count kind) act.old) run.old) }
-    ensures behind { IfSome result (λ n. act.new ≡ behind_target (super levels) act.old) }
-    ensures spent { run.new.1 ≤ run.old.1 }
-    ensures none { result ≡ None → run.new ≡ run.old }
-    ensures stays { result ≡ None → act.new ≡ act.old }
-{
-    match run.world.slot_integer(slot) {
-        None => None,
-        Some(before) => {
-            let number = run.world.count_integer(kind, before);
-            if !run.world.put_slot_integer(slot, number) {
-                return None;
-            }
-            act.over(1);
-            Some(number)
-        }
-    }
+    act.over(1);
+    Some(after)
 }
