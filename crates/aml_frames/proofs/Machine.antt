@@ -305,9 +305,9 @@ module _ {S : Type 0} {ac : Accesses S} where
   item_at_once f c b d xs i n flag told fails some left one h same ends g = item_next (next.Flow f) c b d xs i n flag told fails some left one (leads_done f _ h) same ends g
 
   -- an item that gives a value at once: its list goes on
-  pub item_given : {s s1 : State S × ℕ} (v : Value) (c b d : Site) (xs : List Entry) (i : Items) (n : ℕ) (flag : Bool) → flag ≡ passes_over b.depth s.0.profile → flag ≡ false → 0 < i.left → 0 < length c.place.rest → n ≡ i.left - 1 → Does (Ok (flow.Value v)) s1 (term_run ac (meaning ac) b i.levels) s → b ≡ c → d ≡ behind_term b i.levels
+  pub item_valued : {s s1 : State S × ℕ} (v : Value) (c b d : Site) (xs : List Entry) (i : Items) (n : ℕ) (flag : Bool) → flag ≡ passes_over b.depth s.0.profile → flag ≡ false → 0 < i.left → 0 < length c.place.rest → n ≡ i.left - 1 → Does (Ok (flow.Value v)) s1 (term_run ac (meaning ac) b i.levels) s → b ≡ c → d ≡ behind_term b i.levels
       → Goes ac (meaning ac) (Ok (control.Items (record { left = n; levels = i.levels; outer = i.outer }))) d xs s1 (machine ac (meaning ac) (control.Items i) c xs) s
-  item_given v c b d xs i n flag told fails some left one h same ends =
+  item_valued v c b d xs i n flag told fails some left one h same ends =
       item_at_once (flow.Value v) c b d xs i n flag told fails some left one h same ends (item_on d xs (record { left = n; levels = i.levels; outer = i.outer }) (flow.Value v) true refl refl)
 
   -- an item that isn't done at once has changed nothing where it begins
@@ -358,7 +358,7 @@ falls_kept (Ok c) a levels xs ys x pushed next =
     omega (arith, k, none)
 falls_kept (Err e) a levels xs ys x pushed next = tt
 
-pub ruleset listing_on = (list_over, list_passed, falls_once, item_given, falls_kept, weight_on, falls_item, falls_done, item_last, item_on, item_none, item_over, item_begins, item_begin_refused, item_next, item_refused, item_kept, given_ok, never_refused, never_err, never_memory, refused_begun, goes_memory)
+pub ruleset listing_on = (list_over, list_passed, falls_once, item_valued, falls_kept, weight_on, falls_item, falls_done, item_last, item_on, item_none, item_over, item_begins, item_begin_refused, item_next, item_refused, item_kept, given_ok, never_refused, never_err, never_memory, refused_begun, goes_memory)
 
 pub ruleset going = (never_refused, weight_on, goes_flow, goes_items, goes_package, goes_term, goes_turn, goes_scope, goes_body, goes_body_then, goes_target, goes_division, goes_found, goes_read, goes_counted, goes_access_then, goes_flow_then, goes_memory)
 
