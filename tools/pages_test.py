@@ -2,8 +2,8 @@
 """pages_test.py
 
 Tries the scripts that hold pages to the sources on a copy of the tree: tools/opcodes.py, tools/descriptors.py, tools/report_lines.py,
-tools/refusals.py, tools/architecture.py and tools/words.py each have to refuse a page, a table or a source that was changed, and to say
-what is wrong."""
+tools/refusals.py, tools/architecture.py, tools/words.py and tools/asl_rows.py each have to refuse a page, a table, a source or a row
+that was changed, and to say what is wrong."""
 import os
 import shutil
 import subprocess
@@ -15,6 +15,7 @@ from pages import TOP, text_of
 
 RESOURCES, REPORT = "crates/acpi_resources", "crates/route_report"
 OPCODES, GRAMMAR = "tables/opcodes.txt", "crates/aml_grammar"
+EVALUATION = "crates/evaluation_rows/data"
 
 
 def row_of(name):
@@ -110,7 +111,7 @@ CASES = {
         ("docs/ARCHITECTURE.md", "| | | `sparing` |", "| | | |", "to add: | | | `sparing` | What was gathered"),
         ("docs/ARCHITECTURE.md", "`row_places`", "`row_place`", "aml_scan has no file row_place"),
         ("docs/ARCHITECTURE.md", "`tools/usage.py`", "`tools/usages.py`", "there is no file tools/usages.py"),
-        ("docs/ARCHITECTURE.md", "`route_spread` | `route_m", "`route_spread` | `route_solve`, `route_m", "doesn't stand on route_solve"),
+        ("docs/ARCHITECTURE.md", "`route_spread` | `route_n", "`route_spread` | `route_solve`, `route_n", "doesn't stand on route_solve"),
         ("docs/ARCHITECTURE.md", "| `timing` |", "| `timings` |", "timing is in no row; to add"),
         ("docs/ARCHITECTURE.md", "| `mode` |", "| `mode`, `sci` |", "ar_tables has sci twice"),
         ("docs/ARCHITECTURE.md", "Gatherings.antt`: `gathered`", "Gatherings.antt`: `collected`", "has no collected"),
@@ -123,7 +124,16 @@ CASES = {
         ("docs/WORDS.md", "route_solve/src/ways.rt", "route_solve/src/way.rt", "there is no file crates/route_solve/src/way.rt"),
         ("docs/WORDS.md", "`route_solve/src/ways.rt`", "`route_solve/src/rows.rt`", "doesn't have the word way"),
     ],
+    "tools/asl_rows.py names.rows": [
+        (f"{EVALUATION}/operators.rows", "Return(NOr(0xC, 0xA))", "joint denial", "no row of evaluation has the ASL of Nor"),
+        (OPCODES, "5B33  Expression   no       20.2.5.4  unsupported", "5B33  Expression   no       20.2.5.4  wide_kind.Timer", "the ASL of Timer"),
+    ],
 }
+# What is tried where iasl is installed.
+BY_IASL = [
+    (f"{EVALUATION}/names.rows", '# Name(SIZ_, "3")', '# Name(SIZ_, "4")', "row names answer what they hold: a buffer whose size"),
+    (f"{EVALUATION}/names.rows", 'Buffer(SIZ_) {7})', 'Buffer(SIZ_) {7)})', "iasl makes nothing"),
+]
 
 
 def copy(to):
@@ -167,8 +177,10 @@ def main():
     tried = missed = 0
     with tempfile.TemporaryDirectory() as top:
         copy(top)
+        if shutil.which("iasl"):
+            CASES["tools/asl_rows.py names.rows"] += BY_IASL
         for words, cases in CASES.items():
-            if answer(top, words) != (0, ""):
+            if answer(top, words)[0]:
                 print(f"pages_test.py: {words}: the tree as it is doesn't pass", file=sys.stderr)
                 missed += 1
                 continue

@@ -23,7 +23,8 @@ edit comes to one of these:
     BAD EDIT      a text doesn't stand once in its file, or a definition can't be read: this shows nothing
     NOT TRIED     the check was killed, or ended without a verdict
 
---others   checks all laws of the crate, and lists which others are refused too. Each edit is tried by itself then, which takes much longer
+--others   checks all laws of the crate, and lists which others an edit refuses too: those that rest on a refused lemma that rests on what this
+           edit changes and on nothing that another one of its group does; `perhaps` stands before those that may be refused by either
 --code     where an edit changes code, so that it agrees with the definition: checks that just the functions with changed text are proved. Then
            only the laws stand in the way of the wrong definition
 --check    tries nothing: tells which edits can't be applied, and which laws have none
@@ -146,12 +147,12 @@ def definition_pairs(edit):
     return [it for it in edit.pairs if "/src/" not in it[0]]
 
 
-def read_rests(lemmas, crate, edits):
-    """Finds what the laws that edits name may rest on, which definitions each edit changes, and what these rest on."""
+def read_rests(lemmas, crate, edits, others):
+    """Finds what the laws that edits name, or all laws, may rest on, which definitions each edit changes, and what these rest on."""
     laws = laws_of(crate)
-    rests = {law: lemmas.of_law(crate.name, laws[law]) for law in dict.fromkeys(law for it in edits for law in it.laws)}
+    rests = {law: lemmas.of_law(crate.name, laws[law]) for law in (laws if others else dict.fromkeys(law for it in edits for law in it.laws))}
     for edit in edits:
-        edit.rests = {it: rests[it] for it in edit.laws}
+        edit.rests = rests
         for path, old, _ in definition_pairs(edit):
             place = (rtlib.text_of(f"{lemmas.top}/{path}") or "").find(old)
             edit.changes |= {(path, lemmas.at(path, it)) for it in (place, place + len(old) - 1) if not old.startswith("use ")}
@@ -288,9 +289,23 @@ def verdict(edit, group, lemmas, lines, status, others=False, changed=()):
     shown = [first_of(edit, law, [it for it in group if it is not edit], lemmas, lines) for law in edit.laws]
     if not all(shown) and not is_alone:
         return None
-    more = [it for it in refused if it not in edit.laws]
-    beside = f"; by others: {', '.join(more) or 'none'}" if others else ""
+    beside = f"; by others: {', '.join(others_of(edit, group, refused, lemmas, lines)) or 'none'}" if others else ""
     return "REFUSED", f"by {', '.join(edit.laws)}" + (f", first at {shown[0]}" if shown[0] else "") + beside
+
+
+def others_of(edit, group, refused, lemmas, lines):
+    """The other laws that an edit refuses. Of those that no lemma shows it of, and that may rest on what it changes, it is said that they
+    perhaps are."""
+    found = []
+    for law in refused:
+        if law in edit.laws or not edit.changes & edit.rests[law]:
+            continue
+        of_each = [it for it in group if first_of(it, law, [other for other in group if other is not it], lemmas, lines)]
+        if edit in of_each or len(group) == 1:
+            found.append(law)
+        elif not of_each:
+            found.append(f"perhaps {law}")
+    return found
 
 
 def first_of(edit, law, others, lemmas, lines):
@@ -395,8 +410,8 @@ def try_crate(top, crate, edits, words, kept):
     edits = [it for it in edits if not it.why]
     laws = list(laws_of(crate)) if others else list(dict.fromkeys(law for it in edits for law in it.laws))
     lemmas = Lemmas(top)
-    read_rests(lemmas, crate, edits)
-    groups = [[it] for it in edits] if others else grouped(edits)
+    read_rests(lemmas, crate, edits, others)
+    groups = grouped(edits)
     with tempfile.TemporaryDirectory(prefix=PREFIX) as room:
         lanes = Lanes(top, room, crate.name, count, code)
         if not lanes.in_one(lambda copies, _: is_seeded(copies[0], crate, laws, kept), None):

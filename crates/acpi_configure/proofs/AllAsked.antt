@@ -1,5 +1,5 @@
 -- Where devices are spared, each device that is no link is asked, and told of.
-use Rattle.std.specs.Prelude.{Contains, codes, filter, not}
+use Rattle.std.specs.Prelude.{Contains, filter, not}
 use Rattle.std.specs.List.{filter_map, cons_option}
 use Rattle.std.proofs.Common.{◌≡◌, ◌∙◌, ap, sym, subst, refl, ℕ, ◌<◌, inl, inr, Bool, true, false, cond, List, [], ◌∷◌, ◌++◌, length, map, Option, Some, None, Ok, Err, append_assoc, append-nil, arith, if◌then◌else◌}
 use Rattle.std.proofs.lemmas.List.Elements.{Contains-append_left, Contains-append_right, filter_map-append}
@@ -9,14 +9,13 @@ use Rattle.ar_space.specs.Change.{Change, give, settle, go_on, ◌>>=◌}
 use Rattle.ar_space.specs.Numbers.{number_of}
 use Rattle.ar_space.specs.declared.refusal.Refusal.{Refusal}
 use Rattle.aml_path.specs.declared.segment.Seg.{Seg}
+use Rattle.acpi_machine.specs.Children.{has_child}
 use Rattle.acpi_machine.specs.MachineStates.{MachineState, sci_of}
-use Rattle.acpi_prt.specs.Children.{child_named}
-use Rattle.acpi_links.specs.Answered.{stands}
 use Rattle.acpi_links.specs.Devices.{devices}
 use Rattle.acpi_links.specs.Folds.{folded}
-use Rattle.acpi_links.specs.Gathering.{Gathering}
-use Rattle.acpi_links.specs.Gatherings.{gathered}
+use Rattle.acpi_links.specs.Gatherings.{Gathering, gathered}
 use Rattle.acpi_links.specs.Links.{PresentLink}
+use Rattle.acpi_links.specs.ObjectNames.{crs}
 use Rattle.acpi_links.specs.Presence.{is_present}
 use Rattle.acpi_links.specs.Resources.{current_resources}
 use Rattle.route_report.specs.declared.report.UnreadLine.{UnreadLine}
@@ -25,7 +24,7 @@ use Rattle.route_report.specs.Reports.{AfterState, Now, Refused, ReportedAfter, 
 use Rattle.route_report.proofs.Barred.{spared_barred}
 use Rattle.acpi_configure.specs.AllAsked.{AreSpared, IsUnread, IsTold, EachIsAsked}
 use Rattle.acpi_configure.specs.Options.{RunOptions}
-use Rattle.acpi_configure.specs.Others.{is_link, other_devices, resources_if, present_resources, resources_at, device_resources, device_asked, devices_asked, others_asked, barred_if, spared_device, spared_line, unread_line, all_options, options_if}
+use Rattle.acpi_configure.specs.Others.{is_link, other_devices, resources_if, present_resources, device_resources, device_asked, devices_asked, others_asked, barred_if, spared_device, spared_line, unread_line, all_options, options_if}
 use Rattle.acpi_configure.specs.Settling.{attempted, state_told}
 use Rattle.acpi_configure.specs.WithOptions.{Findings, found_by, narrowed, IsReportWith}
 use Rattle.acpi_configure.proofs.NotGiven.{first_or_behind, no_element, not_given}
@@ -113,10 +112,10 @@ module _ {S : Type 0} (accesses : Accesses S) where
   own_line device s line t is = sym (same_value (record { path = device; state = state_told (device_resources accesses device s).0 }) line (device_resources accesses device s).1 t is)
 
   -- of a device that has a _CRS
-  module _ (device crs : List Seg) (s : MachineState S) (named : child_named device (codes "_CRS") ≡ Ok crs) (has : stands crs s ≡ true) where
+  module _ (device : List Seg) (s : MachineState S) (has : has_child device crs s ≡ true) where
     resources_of : device_resources accesses device s ≡ present_resources accesses device s
-    unfolding device_resources resources_at settle ◌>>=◌ go_on
-    resources_of = ap (λ x. go_on x s (resources_at accesses device)) named ∙ ap (λ b. if b then present_resources accesses device s else (Ok None, s)) has
+    unfolding device_resources
+    resources_of = ap (λ b. if b then present_resources accesses device s else (Ok None, s)) has
 
     of_unknown : (t : MachineState S) (refusal : Refusal) → is_present accesses device s ≡ (Err refusal, t) → (device_resources accesses device s).0 ≡ Err refusal
     unfolding present_resources go_on
@@ -166,14 +165,14 @@ module _ {S : Type 0} (accesses : Accesses S) (o : RunOptions) (before after : M
         let g = each_gives (device_asked accesses) earlier later device [] is.found.asked between left all in
         subst (λ (l : ReportedAfter). Contains is.found.asked l) (own_line accesses device (devices_asked accesses earlier between).1 g.0 g.1 g.2) g.3
 
-    is_told : (crs : List Seg) → child_named device (codes "_CRS") ≡ Ok crs → stands crs (devices_asked accesses earlier between).1 ≡ true → IsTold accesses r device (devices_asked accesses earlier between).1
-    is_told crs named has =
+    is_told : has_child device crs (devices_asked accesses earlier between).1 ≡ true → IsTold accesses r device (devices_asked accesses earlier between).1
+    is_told has =
         let s = (devices_asked accesses earlier between).1 in
         let state = state_told (device_resources accesses device s).0 in
         record {
-          unknown = λ t refusal e. is_unread device state has_line refusal (ap state_told (of_unknown accesses device crs s named has t refusal e));
-          unread = λ t u refusal e read. is_unread device state has_line refusal (ap state_told (of_present accesses device crs s named has t u (Err refusal) e read));
-          spared = λ t u ns e read. are_spared device state has_line ns (ap state_told (of_present accesses device crs s named has t u (Ok (Some ns)) e read));
+          unknown = λ t refusal e. is_unread device state has_line refusal (ap state_told (of_unknown accesses device s has t refusal e));
+          unread = λ t u refusal e read. is_unread device state has_line refusal (ap state_told (of_present accesses device s has t u (Err refusal) e read));
+          spared = λ t u ns e read. are_spared device state has_line ns (ap state_told (of_present accesses device s has t u (Ok (Some ns)) e read));
         }
 
 -- ---- all devices

@@ -1,36 +1,57 @@
 -- Where the calls that ask devices stop, and what they find.
-use Rattle.std.specs.Prelude.{codes, filter, not}
-use Rattle.std.proofs.Common.{◌≡◌, ◌∙◌, ℕ, suc, ◌+◌, ◌<◌, ◌≤◌, List, [], ◌∷◌, ◌++◌, length, drop, get_or, cond, Bool, true, false, Option, Some, None, Ok, refl, sym, ap, subst, drop-cons, add-one, append_assoc, append-nil}
+use Rattle.std.specs.Prelude.{filter, not}
+use Rattle.std.proofs.Common.{◌≡◌, ◌∙◌, ℕ, suc, ◌+◌, ◌<◌, ◌≤◌, List, [], ◌∷◌, ◌++◌, length, drop, get_or, cond, Bool, true, false, Option, Some, None, Ok, if◌then◌else◌, refl, sym, ap, subst, drop-cons, add-one, append_assoc, append-nil}
 use Rattle.std.specs.List.{filter_map, cons_option}
 use Rattle.std.proofs.lemmas.List.{drop_all}
 use Rattle.ar_space.specs.Accesses.{Accesses}
 use Rattle.ar_space.specs.Outcome.{Outcome, Answers, seen}
 use Rattle.ar_space.specs.Change.{Does}
-use Rattle.ar_space.proofs.Changes.{does_settle}
 use Rattle.aml_path.specs.declared.segment.Seg.{Seg}
+use Rattle.acpi_machine.specs.Children.{has_child}
 use Rattle.acpi_machine.specs.MachineStates.{MachineState}
 use Rattle.acpi_machine.specs.Stops.{AllOrNone}
-use Rattle.acpi_machine.proofs.Stopping.{stops_first, stops_next, goes_start, stops_here}
-use Rattle.acpi_prt.specs.Children.{child_named}
-use Rattle.acpi_links.specs.Answered.{stands}
+use Rattle.acpi_machine.proofs.Stopping.{none_made, stops_first, goes_start, stops_here}
 use Rattle.acpi_links.specs.Links.{PresentLink}
+use Rattle.acpi_links.specs.ObjectNames.{crs}
 use Rattle.acpi_links.specs.Resources.{current_resources}
 use Rattle.route_report.specs.Reports.{ReportedAfter}
-use Rattle.acpi_configure.specs.Others.{is_link, other_devices, device_asked, devices_asked, numbers_at, numbers_in}
-use Rattle.acpi_configure.specs.Stops.{StopsIfPresent, StopsInPresent, StopsIfStands, StopsInDevice, StopsInDevices}
+use Rattle.acpi_configure.specs.Others.{is_link, other_devices, present_resources, device_resources, device_asked, devices_asked, numbers_at, numbers_in}
+use Rattle.acpi_configure.specs.Stops.{StopsIfPresent, StopsInPresent, StopsIfResources, StopsInDevice, StopsInDevices}
 
 module _ {S : Type 0} (accesses : Accesses S) where
-  pub in_device : (device crs : List Seg) (s t : MachineState S) → Answers (Ok crs) (child_named device (codes "_CRS")) → StopsIfStands accesses (stands crs s) device s t → StopsInDevice accesses device s t
-  in_device device crs s t a h = stops_next (does_settle (Ok crs) (child_named device (codes "_CRS")) a) h
+  pub not_asked : (device : List Seg) (s : MachineState S) → StopsInDevice accesses device s s
+  not_asked device s = by (has_child device crs s)
+    where
+      by : (b : Bool) → StopsIfResources accesses b device s s
+      by true = stops_first none_made
+      by false = refl
 
-  pub if_stands : (is : Bool) (device : List Seg) (s t : MachineState S) → is ≡ true → StopsInPresent accesses device s t → StopsIfStands accesses is device s t
-  if_stands is device s t e h = rw e h
+  if_resources : (is : Bool) (device : List Seg) (s t : MachineState S) → is ≡ true → StopsInPresent accesses device s t → StopsIfResources accesses is device s t
+  if_resources is device s t e h = rw e h
+
+  module _ (has : Bool) (device : List Seg) (n : Seg) (s : MachineState S) (a : Answers (Ok has) (Ok (has_child device n s))) (e : n ≡ crs) where
+    as_found : has_child device crs s ≡ has
+    as_found = (let is : has_child device n s ≡ has = cc (a.is tt) in subst (λ x. has_child device x s ≡ has) e is)
+
+    pub stops_in_present : (t : MachineState S) → has ≡ true → StopsInPresent accesses device s t → StopsInDevice accesses device s t
+    stops_in_present t is h = if_resources (has_child device crs s) device s t (as_found ∙ is) h
+
+    pub does_present : (r : Outcome (Option (List ℕ))) (t : MachineState S) → has ≡ true → Does r t (present_resources accesses device) s → Does r t (device_resources accesses device) s
+    unfolding device_resources
+    does_present r t is d = record { is = λ ne. ap (λ b. if b then present_resources accesses device s else (Ok None, s)) (as_found ∙ is) ∙ d.is ne }
+
+    pub does_without : has ≡ false → Does (Ok None) s (device_resources accesses device) s
+    unfolding device_resources
+    does_without is = record { is = λ _. ap (λ b. if b then present_resources accesses device s else (Ok None, s)) (as_found ∙ is) }
 
   pub no_device : (list : List (List Seg)) (s : MachineState S) → StopsInDevices accesses list s s
-  no_device list s = stops_here (device_asked accesses) (StopsInDevice accesses) (λ device u. stops_first refl) list goes_start
+  no_device list s = stops_here (device_asked accesses) (StopsInDevice accesses) not_asked list goes_start
 
   pub if_present : (present : Bool) (device : List Seg) (s t : MachineState S) → present ≡ true → AllOrNone (current_resources accesses device) s t → StopsIfPresent accesses present device s t
   if_present present device s t is h = rw is h
+
+-- these close the asking of a device, if it has resources
+pub ruleset resources = (not_asked, stops_in_present, does_present, does_without)
 
 -- those of some lists that are kept, with what is still to come
 pub more_kept : {C : Type 0} (f : ReportedAfter → Option C) (list after : List C) (xs : List ReportedAfter) (i : ℕ) (x : ReportedAfter) (a : C)

@@ -4,8 +4,7 @@ use Rattle.ar_space.specs.Accesses.{Accesses}
 use Rattle.ar_space.specs.Outcome.{Outcome}
 use Rattle.ar_space.specs.Change.{give, settle, go_on, ◌>>=◌}
 use Rattle.acpi_machine.specs.MachineStates.{MachineState, sci_of}
-use Rattle.acpi_links.specs.Gathering.{Gathering}
-use Rattle.acpi_links.specs.Gatherings.{gathered}
+use Rattle.acpi_links.specs.Gatherings.{Gathering, gathered}
 use Rattle.route_report.specs.Reports.{RoutingReport}
 use Rattle.route_check.specs.Claims.{RoutingClaim}
 use Rattle.acpi_configure.specs.Configured.{IsReport}

@@ -7,8 +7,7 @@ use Rattle.ar_space.specs.Accesses.{Accesses}
 use Rattle.ar_space.specs.Outcome.{Outcome, Answers}
 use Rattle.ar_space.specs.Change.{Does}
 use Rattle.acpi_machine.specs.MachineStates.{MachineState, sci_of}
-use Rattle.acpi_links.specs.Gathering.{Gathering}
-use Rattle.acpi_links.specs.Gatherings.{gathered}
+use Rattle.acpi_links.specs.Gatherings.{Gathering, gathered}
 use Rattle.acpi_links.specs.Problems.{pin_counts, problem_of}
 use Rattle.route_model.specs.Links.{offers_of}
 use Rattle.route_model.specs.Routing.{busiest, IsFirstLeast}

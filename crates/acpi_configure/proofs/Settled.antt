@@ -13,7 +13,7 @@ use Rattle.acpi_machine.specs.MachineStates.{MachineState}
 use Rattle.acpi_links.specs.Links.{PresentLink}
 use Rattle.route_model.specs.Links.{OfferingLink, offers_of}
 use Rattle.route_model.proofs.NotAvoided.{left_from}
-use Rattle.acpi_links.specs.Gathering.{Gathering}
+use Rattle.acpi_links.specs.Gatherings.{Gathering}
 use Rattle.acpi_links.specs.Problems.{offering, problem_of}
 use Rattle.route_solve.specs.Problems.{RoutingProblem, RoutingAnswer}
 use Rattle.acpi_configure.proofs.Fitting.{Fitting}

@@ -10,8 +10,7 @@ use Rattle.acpi_machine.proofs.Stopping.{made_as, made_given, stops_first, stops
 use Rattle.acpi_links.specs.Links.{PresentLink}
 use Rattle.acpi_links.specs.Resources.{current_resources}
 use Rattle.acpi_links.specs.Settings.{resources_set}
-use Rattle.acpi_links.specs.Gathering.{Gathering}
-use Rattle.acpi_links.specs.Gatherings.{gathered}
+use Rattle.acpi_links.specs.Gatherings.{Gathering, gathered}
 use Rattle.acpi_links.specs.Stops.{StopsInGathering}
 use Rattle.route_solve.specs.Problems.{RoutingAnswer}
 use Rattle.acpi_configure.specs.Chosen.{IsChosen}

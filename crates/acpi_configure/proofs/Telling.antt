@@ -8,7 +8,8 @@ use Rattle.ar_space.specs.Outcome.{Outcome, Answers}
 use Rattle.ar_space.specs.Change.{Change, Does, give, go_on, ◌>>=◌}
 use Rattle.ar_tables.specs.Fadts.{sci_interrupt}
 use Rattle.aml_path.specs.declared.segment.Seg.{Seg}
-use Rattle.acpi_machine.specs.Buses.{bus_found}
+use Rattle.acpi_machine.specs.Buses.{prt, bus_found}
+use Rattle.acpi_machine.specs.Children.{has_child}
 use Rattle.acpi_machine.specs.MachineStates.{MachineState}
 use Rattle.acpi_machine.specs.Stops.{AllOrNone}
 use Rattle.acpi_machine.proofs.Stopping.{made_given, none_made, stops_here, goes_start}
@@ -43,8 +44,8 @@ module _ {S : Type 0} (s : MachineState S) where
   pub one_tabled : (list after ps : List (List Seg)) (p : List Seg) → list ≡ filter (has_table s) ps → has_table s p ≡ true → after ≡ list ++ p ∷ [] → after ≡ filter (has_table s) (ps ++ p ∷ [])
   one_tabled list after ps p so is e = rw (e, so, filtered ps p, is) refl
 
-  pub tabled : (p : List Seg) (b is : Bool) → Answers (Ok b) (Ok (has_table s p)) → b ≡ is → has_table s p ≡ is
-  tabled p b is a e = let same : has_table s p ≡ b = cc (a.is tt) in same ∙ e
+  pub tabled : (p : List Seg) (n : Seg) (b is : Bool) → Answers (Ok b) (Ok (has_child p n s)) → n ≡ prt → b ≡ is → has_table s p ≡ is
+  tabled p n b is a named e = let same : has_child p n s ≡ b = cc (a.is tt) in subst (λ x. has_child p x s ≡ is) named (same ∙ e)
 
   pub none_tabled : (list ps : List (List Seg)) (p : List Seg) → list ≡ filter (has_table s) ps → has_table s p ≡ false → list ≡ filter (has_table s) (ps ++ p ∷ [])
   none_tabled list ps p so is = rw (so, filtered ps p, is) (sym (append-nil (filter (has_table s) ps)))

@@ -1,15 +1,14 @@
 -- What a run that spares devices tells of each device that is no link (ACPI 6.5, 6.2.2 and 6.3.7).
-use Rattle.std.specs.Prelude.{◌≡◌, ◌<◌, ℕ, true, false, List, ◌∷◌, ◌++◌, Some, Ok, Err, Contains, length, map, codes}
+use Rattle.std.specs.Prelude.{◌≡◌, ◌<◌, ℕ, true, false, List, ◌∷◌, ◌++◌, Some, Ok, Err, Contains, length, map}
 use Rattle.ar_space.specs.Accesses.{Accesses}
 use Rattle.ar_space.specs.Numbers.{number_of}
 use Rattle.ar_space.specs.declared.refusal.Refusal.{Refusal}
 use Rattle.aml_path.specs.declared.segment.Seg.{Seg}
+use Rattle.acpi_machine.specs.Children.{has_child}
 use Rattle.acpi_machine.specs.MachineStates.{MachineState}
-use Rattle.acpi_prt.specs.Children.{child_named}
-use Rattle.acpi_links.specs.Answered.{stands}
 use Rattle.acpi_links.specs.Devices.{devices}
-use Rattle.acpi_links.specs.Gathering.{Gathering}
-use Rattle.acpi_links.specs.Gatherings.{gathered}
+use Rattle.acpi_links.specs.Gatherings.{Gathering, gathered}
+use Rattle.acpi_links.specs.ObjectNames.{crs}
 use Rattle.acpi_links.specs.Presence.{is_present}
 use Rattle.acpi_links.specs.Resources.{current_resources}
 use Rattle.route_report.specs.Readable.{spared_devices, unread_devices, claim_of_report}
@@ -40,7 +39,7 @@ module _ {S : Type 0} (accesses : Accesses S) where
     pub earlier : List (List Seg)
     pub later : List (List Seg)
     pub among : others ≡ earlier ++ device ∷ later
-    pub told : (crs : List Seg) → child_named device (codes "_CRS") ≡ Ok crs → stands crs (devices_asked accesses earlier between).1 ≡ true → IsTold r device (devices_asked accesses earlier between).1
+    pub told : has_child device crs (devices_asked accesses earlier between).1 ≡ true → IsTold r device (devices_asked accesses earlier between).1
 
   -- Each Device that is no link was asked, once the links were, and nothing else.
   pub record EachIsAsked (o : RunOptions) (before : MachineState S) (r : RoutingReport) (asked : List ReportedAfter) : Type 0 where

@@ -3,8 +3,7 @@ use Rattle.std.specs.Prelude.{◌≡◌, ℕ, Bool, List, [], Option, None, map,
 use Rattle.ar_space.specs.Accesses.{Accesses}
 use Rattle.acpi_machine.specs.MachineStates.{MachineState, sci_of}
 use Rattle.acpi_resources.specs.Numbers.{set_of}
-use Rattle.acpi_links.specs.Gathering.{Gathering}
-use Rattle.acpi_links.specs.Gatherings.{gathered}
+use Rattle.acpi_links.specs.Gatherings.{Gathering, gathered}
 use Rattle.acpi_links.specs.Problems.{pin_counts}
 use Rattle.route_model.specs.Links.{offers_of, paths_of}
 use Rattle.route_model.specs.Routing.{busiest, wired_to, IsFirstLeast}

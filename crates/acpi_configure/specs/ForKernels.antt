@@ -8,8 +8,8 @@ use Rattle.ar_tables.specs.Fadts.{sci_interrupt}
 use Rattle.aml_path.specs.declared.segment.Seg.{Seg}
 use Rattle.acpi_machine.specs.declared.buses.PciBus.{PciBus}
 use Rattle.acpi_machine.specs.Buses.{prt, bus_found}
+use Rattle.acpi_machine.specs.Children.{has_child}
 use Rattle.acpi_machine.specs.MachineStates.{MachineState}
-use Rattle.acpi_links.specs.Answered.{stands}
 use Rattle.acpi_links.specs.Devices.{devices}
 use Rattle.acpi_links.specs.Folds.{folded}
 use Rattle.route_report.specs.declared.report.BusLine.{BusLine}
@@ -25,7 +25,7 @@ use Rattle.acpi_configure.specs.WithOptions.{IsReportWith}
 
 -- the devices that have a routing table, in path order
 abbrev pub has_table : {S : Type 0} → MachineState S → List Seg → Bool
-has_table s p = stands (p ++ prt ∷ []) s
+has_table s p = has_child p prt s
 
 unfoldable pub devices_with_tables : {S : Type 0} → MachineState S → List (List Seg)
 devices_with_tables s = filter (has_table s) (devices s)

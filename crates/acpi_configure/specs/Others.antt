@@ -1,17 +1,17 @@
 -- The devices of a machine that are no links, and the interrupts that they have (ACPI 6.5, 6.2.2 and 6.3.7).
-use Rattle.std.specs.Prelude.{ℕ, List, [], ◌∷◌, ◌++◌, filter, not, Bool, true, false, Option, Some, None, Ok, codes, if◌then◌else◌}
+use Rattle.std.specs.Prelude.{ℕ, List, [], ◌∷◌, ◌++◌, filter, not, Bool, true, false, Option, Some, None, Ok, if◌then◌else◌}
 use Rattle.std.specs.List.{filter_map, list_any}
 use Rattle.ar_space.specs.Accesses.{Accesses}
-use Rattle.ar_space.specs.Change.{Change, give, settle, ◌>>=◌}
+use Rattle.ar_space.specs.Change.{Change, give, ◌>>=◌}
 use Rattle.aml_path.specs.declared.segment.Seg.{Seg}
 use Rattle.aml_path.specs.Paths.{path_eq}
+use Rattle.acpi_machine.specs.Children.{has_child}
 use Rattle.acpi_machine.specs.MachineStates.{MachineState}
-use Rattle.acpi_prt.specs.Children.{child_named}
 use Rattle.acpi_resources.specs.Numbers.{set_of}
-use Rattle.acpi_links.specs.Answered.{stands}
 use Rattle.acpi_links.specs.Devices.{devices}
 use Rattle.acpi_links.specs.Folds.{folded}
 use Rattle.acpi_links.specs.Links.{PresentLink}
+use Rattle.acpi_links.specs.ObjectNames.{crs}
 use Rattle.acpi_links.specs.Presence.{is_present}
 use Rattle.acpi_links.specs.Resources.{current_resources}
 use Rattle.route_report.specs.declared.report.Rule.{Rule}
@@ -42,14 +42,9 @@ module _ {S : Type 0} (accesses : Accesses S) where
     present ← is_present accesses device
     resources_if present device
 
-  -- nor is a device whose _CRS doesn't stand at its path
-  unfoldable pub resources_at : List Seg → List Seg → Change (MachineState S) (Option (List ℕ))
-  resources_at device crs s = if stands crs s then present_resources device s else (Ok None, s)
-
+  -- nor is a device without _CRS
   unfoldable pub device_resources : List Seg → Change (MachineState S) (Option (List ℕ))
-  device_resources device = do
-    crs ← settle (child_named device (codes "_CRS"))
-    resources_at device crs
+  device_resources device s = if has_child device crs s then present_resources device s else (Ok None, s)
 
   -- a refusal is told, and the next device follows
   unfoldable pub device_asked : List Seg → Change (MachineState S) ReportedAfter

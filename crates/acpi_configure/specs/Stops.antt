@@ -1,17 +1,15 @@
 -- Where a run may stop.
-use Rattle.std.specs.Prelude.{◌≡◌, ℕ, List, [], Bool, true, false, codes, zip}
+use Rattle.std.specs.Prelude.{◌≡◌, ℕ, List, [], Bool, true, false, zip}
 use Rattle.ar_space.specs.Accesses.{Accesses}
-use Rattle.ar_space.specs.Change.{settle}
 use Rattle.aml_path.specs.declared.segment.Seg.{Seg}
+use Rattle.acpi_machine.specs.Children.{has_child}
 use Rattle.acpi_machine.specs.MachineStates.{MachineState, sci_of}
 use Rattle.acpi_machine.specs.Stops.{Stop, AllOrNone, StopsThen, StopsEach}
-use Rattle.acpi_prt.specs.Children.{child_named}
-use Rattle.acpi_links.specs.Answered.{stands}
 use Rattle.acpi_links.specs.Links.{PresentLink}
+use Rattle.acpi_links.specs.ObjectNames.{crs}
 use Rattle.acpi_links.specs.Presence.{is_present}
 use Rattle.acpi_links.specs.Resources.{current_resources}
-use Rattle.acpi_links.specs.Gathering.{Gathering}
-use Rattle.acpi_links.specs.Gatherings.{gathered}
+use Rattle.acpi_links.specs.Gatherings.{Gathering, gathered}
 use Rattle.acpi_links.specs.Stops.{StopsInGathering}
 use Rattle.route_solve.specs.Problems.{RoutingAnswer}
 use Rattle.acpi_configure.specs.Chosen.{IsChosen}
@@ -56,12 +54,12 @@ module _ {S : Type 0} (accesses : Accesses S) where
   StopsInPresent device = StopsThen (is_present accesses device) (AllOrNone (is_present accesses device)) (λ present. StopsIfPresent present device)
 
   -- nor is a device without `_CRS`
-  abbrev pub StopsIfStands : Bool → List Seg → Stop S
-  StopsIfStands true device = StopsInPresent device
-  StopsIfStands false device = ◌≡◌
+  abbrev pub StopsIfResources : Bool → List Seg → Stop S
+  StopsIfResources true device = StopsInPresent device
+  StopsIfResources false device = ◌≡◌
 
   abbrev pub StopsInDevice : List Seg → Stop S
-  StopsInDevice device = StopsThen (settle (child_named device (codes "_CRS"))) ◌≡◌ (λ crs before after. StopsIfStands (stands crs before) device before after)
+  StopsInDevice device before after = StopsIfResources (has_child device crs before) device before after
 
   -- one device after another
   abbrev pub StopsInDevices : List (List Seg) → Stop S

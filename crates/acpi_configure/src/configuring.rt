@@ -16,7 +16,7 @@ use crate::choosing::{answer_to, choose};
 use crate::chosen_lines::{bound_for, gives_of};
 use crate::finding::{Found, find};
 use crate::link_lines::link_lines;
-use crate::madt_lines::{io_apics_of, overrides_of};
+use crate::madt_lines::madt_lines;
 use crate::options::Options;
 use crate::other_lines::option_lines;
 use crate::pin_lines::pin_lines;
@@ -181,8 +181,7 @@ fn report_of<S: Space>(
     ensures offers { IfOk result (λ report. All (λ l. IsReadableOffer l.offers) report.links) }
 {
     let problem = gathered.problem();
-    let io_apics = io_apics_of(alloc, machine.madt())?;
-    let overrides = overrides_of(alloc, machine.madt())?;
+    let (io_apics, overrides) = madt_lines(alloc, machine.madt())?;
     let links = link_lines(alloc, gathered.links())?;
     let avoid = set_of(alloc, avoid)?;
     let wired = pin_counts(alloc, gathered.pins())?;

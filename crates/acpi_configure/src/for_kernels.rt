@@ -16,7 +16,7 @@ ghost use Rattle.acpi_configure.specs.WithOptions.{found_by};
 use crate::configuring::configure_plainly;
 use crate::options::Options;
 use crate::triggers::triggers_of;
-use acpi_links::{list_devices, stands};
+use acpi_links::list_devices;
 use acpi_machine::{Machine, PciBus, prt};
 use aml_path::Path;
 use ar_space::{Refusal, Space};
@@ -181,20 +181,11 @@ fn with_tables<S: Space>(
 {
     let mut list = Vec::new(alloc);
     for device in devices {
-        if has_table(alloc, machine, &device)? {
+        if machine.has_child(alloc, &device, prt())? {
             list.push(device)?;
         }
     }
     Ok(list)
-}
-
-/// Whether a device has a routing table.
-fn has_table<S: Space>(alloc: Global, machine: &Machine<S>, device: &Path) -> Result<bool, Refusal>
-    ensures value { Answers result (Ok (has_table machine.now device.now)) }
-    ensures memory { IfErr result (λ refusal. refusal ≡ OutOfMemory) }
-{
-    let table = device.child(alloc, prt())?;
-    Ok(stands(machine, &table))
 }
 
 /// The bus of the routing table of each of some devices, in their order.

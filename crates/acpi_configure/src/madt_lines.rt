@@ -8,6 +8,19 @@ use ar_tables::{Madt, MadtEntry, madt_entries};
 use route_report::{IoApicLine, OverrideLine};
 use std::alloc::{AllocError, Global};
 
+/// The lines of the I/O APICs, and those of the interrupt source overrides.
+pub(crate) type MadtLines = (Vec<IoApicLine>, Vec<OverrideLine>);
+
+/// The lines of a MADT, each kind in the order of its entries; none where there is no MADT.
+#[tactic(auto, unfolding(crate::specs::Lines::io_apics_of, crate::specs::Lines::overrides_of))]
+pub(crate) fn madt_lines(alloc: Global, madt: Option<&Madt>) -> Result<MadtLines, AllocError>
+    ensures io_apics { IfOk result (λ lines. lines.0.items ≡ io_apics_of (option_map (λ madt. madt.now) madt.entry)) }
+    ensures overrides { IfOk result (λ lines. lines.1.items ≡
+        overrides_of (option_map (λ madt. madt.now) madt.entry)) }
+{
+    lines_among(alloc, entries_of(alloc, madt)?)
+}
+
 /// The entries of a MADT, none where there is no MADT.
 fn entries_of(alloc: Global, madt: Option<&Madt>) -> Result<Vec<MadtEntry>, AllocError>
     ensures { IfOk result (λ list. list.items ≡ entries_of (option_map (λ madt. madt.now) madt.entry)) }
@@ -24,78 +37,31 @@ fn entries_in(alloc: Global, madt: &Madt) -> Result<Vec<MadtEntry>, AllocError>
     madt_entries(madt).collect(alloc)
 }
 
-/// The I/O APICs.
-#[tactic(auto, unfolding(crate::specs::Lines::io_apics_of))]
-pub(crate) fn io_apics_of(alloc: Global, madt: Option<&Madt>) -> Result<Vec<IoApicLine>, AllocError>
-    ensures { IfOk result (λ list. list.items ≡ io_apics_of (option_map (λ madt. madt.now) madt.entry)) }
+/// The lines of some entries.
+fn lines_among(alloc: Global, entries: Vec<MadtEntry>) -> Result<MadtLines, AllocError>
+    ensures io_apics { IfOk result (λ lines. lines.0.items ≡ filter_map io_apic_of entries.items) }
+    ensures overrides { IfOk result (λ lines. lines.1.items ≡ filter_map override_of entries.items) }
 {
-    io_apics_among(alloc, entries_of(alloc, madt)?)
-}
-
-fn io_apics_among(alloc: Global, entries: Vec<MadtEntry>) -> Result<Vec<IoApicLine>, AllocError>
-    ensures { IfOk result (λ list. list.items ≡ filter_map io_apic_of entries.items) }
-{
-    let mut list = Vec::new(alloc);
+    let mut io_apics = Vec::new(alloc);
+    let mut overrides = Vec::new(alloc);
     for entry in entries {
-        match io_apic_of(entry) {
-            None => {}
-            Some(line) => list.push(line)?,
+        match entry {
+            MadtEntry::IoApic {
+                id,
+                address,
+                gsi_base,
+            } => io_apics.push(IoApicLine {
+                id,
+                address,
+                gsi_base,
+            })?,
+            MadtEntry::SourceOverride {
+                bus: _,
+                source,
+                gsi,
+                flags,
+            } => overrides.push(OverrideLine { source, gsi, flags })?,
         }
     }
-    Ok(list)
-}
-
-fn io_apic_of(entry: MadtEntry) -> Option<IoApicLine>
-    ensures { result ≡ io_apic_of entry }
-{
-    match entry {
-        MadtEntry::IoApic {
-            id,
-            address,
-            gsi_base,
-        } => Some(IoApicLine {
-            id,
-            address,
-            gsi_base,
-        }),
-        MadtEntry::SourceOverride { .. } => None,
-    }
-}
-
-/// The interrupt source overrides.
-#[tactic(auto, unfolding(crate::specs::Lines::overrides_of))]
-pub(crate) fn overrides_of(
-    alloc: Global,
-    madt: Option<&Madt>,
-) -> Result<Vec<OverrideLine>, AllocError>
-    ensures { IfOk result (λ list. list.items ≡ overrides_of (option_map (λ madt. madt.now) madt.entry)) }
-{
-    overrides_among(alloc, entries_of(alloc, madt)?)
-}
-
-fn overrides_among(alloc: Global, entries: Vec<MadtEntry>) -> Result<Vec<OverrideLine>, AllocError>
-    ensures { IfOk result (λ list. list.items ≡ filter_map override_of entries.items) }
-{
-    let mut list = Vec::new(alloc);
-    for entry in entries {
-        match override_of(entry) {
-            None => {}
-            Some(line) => list.push(line)?,
-        }
-    }
-    Ok(list)
-}
-
-fn override_of(entry: MadtEntry) -> Option<OverrideLine>
-    ensures { result ≡ override_of entry }
-{
-    match entry {
-        MadtEntry::IoApic { .. } => None,
-        MadtEntry::SourceOverride {
-            bus: _,
-            source,
-            gsi,
-            flags,
-        } => Some(OverrideLine { source, gsi, flags }),
-    }
+    Ok((io_apics, overrides))
 }

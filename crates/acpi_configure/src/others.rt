@@ -2,18 +2,16 @@
 ghost use Rattle.std.specs.Prelude.{◌≡◌, IfOk, Ok, [], false, filter, not};
 ghost use Rattle.ar_space.specs.Outcome.{Answers, seen};
 ghost use Rattle.ar_space.specs.Change.{Does};
-ghost use Rattle.acpi_links.specs.Answered.{stands};
 ghost use Rattle.route_report.specs.Reports.{after_state};
-ghost use Rattle.acpi_configure.specs.Others.{is_link, other_devices, resources_if, present_resources, resources_at};
+ghost use Rattle.acpi_configure.specs.Others.{is_link, other_devices, resources_if, present_resources};
 ghost use Rattle.acpi_configure.specs.Others.{device_resources, device_asked, devices_asked, others_asked};
 ghost use Rattle.acpi_configure.specs.Settling.{attempted, state_told};
-ghost use Rattle.acpi_configure.specs.Stops.{StopsIfPresent, StopsInPresent, StopsIfStands, StopsInDevice};
+ghost use Rattle.acpi_configure.specs.Stops.{StopsIfPresent, StopsInPresent, StopsInDevice};
 ghost use Rattle.acpi_configure.specs.Stops.{StopsInDevices, StopsInOthers};
 
 use crate::settling::{after_line, state_of};
-use acpi_links::{PresentLink, get_current_resources, is_present, list_devices, stands};
+use acpi_links::{PresentLink, crs, get_current_resources, is_present, list_devices};
 use acpi_machine::Machine;
-use acpi_prt::child_named;
 use acpi_resources::InterruptNumbers;
 use aml_path::Path;
 use ar_space::{Refusal, Space};
@@ -134,7 +132,7 @@ fn try_to_ask<S: Space>(
 }
 
 /// The interrupts of the `_CRS` of a device that has one and is present.
-#[tactic(auto, using(ar_space::proofs::Changes::changing), unfolding(crate::specs::Others::device_resources))]
+#[tactic(auto, using(crate::proofs::Asked::resources, ar_space::proofs::Changes::changing))]
 fn device_resources<S: Space>(
     alloc: Global,
     machine: &mut Machine<S>,
@@ -143,22 +141,8 @@ fn device_resources<S: Space>(
     ensures value { Does result machine.new (device_resources S.accesses device.now) machine.old }
     ensures evaluated { StopsInDevice S.accesses device.now machine.old machine.new }
 {
-    let path = child_named(alloc, device, *b"_CRS")?;
-    resources_at(alloc, machine, device, &path)
-}
-
-/// The same, where its `_CRS` stands at a path, if it does.
-#[tactic(auto, unfolding(crate::specs::Others::resources_at))]
-fn resources_at<S: Space>(
-    alloc: Global,
-    machine: &mut Machine<S>,
-    device: &Path,
-    path: &Path,
-) -> Result<Option<InterruptNumbers>, Refusal>
-    ensures value { Does result machine.new (resources_at S.accesses device.now path.now) machine.old }
-    ensures evaluated { StopsIfStands S.accesses (stands path.now machine.old) device.now machine.old machine.new }
-{
-    if stands(machine, path) {
+    let has_resources = machine.has_child(alloc, device, crs())?;
+    if has_resources {
         present_resources(alloc, machine, device)
     } else {
         Ok(None)

@@ -17,8 +17,7 @@ use Rattle.acpi_prt.specs.declared.pin.Pin.{Pin}
 use Rattle.acpi_prt.specs.Children.{child_named}
 use Rattle.acpi_resources.specs.Records.{InterruptOffer}
 use Rattle.acpi_links.specs.Links.{PresentLink, mixed, few_links, few_pins, link_asked, link_found, link_if, links_named, links_of_each, one_polarity, some_left, with_link}
-use Rattle.acpi_links.specs.Gathering.{Gathering}
-use Rattle.acpi_links.specs.Gatherings.{gathered, gathering, links_found, pins_found, sci_shown}
+use Rattle.acpi_links.specs.Gatherings.{Gathering, gathered, gathering, links_found, pins_found, sci_shown}
 use Rattle.acpi_links.specs.Devices.{devices, devices_listed, pins_of_device, pins_of_each}
 use Rattle.acpi_links.specs.Presence.{is_present}
 use Rattle.acpi_links.specs.Resources.{possible_resources, current_resources}

@@ -7,8 +7,7 @@ use Rattle.ar_space.specs.declared.refusal.Refusal.TheVariants as refusal
 use Rattle.ar_space.specs.declared.refusal.RoutingFault.TheVariants.{Avoided}
 use Rattle.aml_path.specs.Text.{text_of}
 use Rattle.route_model.specs.Avoided.{are_all_avoided}
-use Rattle.acpi_links.specs.Gathering.{Gathering}
-use Rattle.acpi_links.specs.Gatherings.{gathering}
+use Rattle.acpi_links.specs.Gatherings.{Gathering, gathering}
 use Rattle.acpi_links.specs.Links.{PresentLink}
 use Rattle.acpi_links.specs.Sparing.{all_left, avoiding}
 use Rattle.acpi_configure.specs.WithOptions.{narrowed}

@@ -6,11 +6,11 @@ use Rattle.std.specs.Option.{is_some, option_map}
 use Rattle.ar_space.specs.Outcome.{Outcome, ◌>>=◌}
 use Rattle.aml_path.specs.declared.segment.Seg.{Seg}
 use Rattle.aml_path.specs.Segments.{seg_of}
+use Rattle.acpi_machine.specs.Children.{stands}
 use Rattle.acpi_machine.specs.FixedPaths.{at_root, below_root}
 use Rattle.acpi_machine.specs.Kinds.{kind_of}
 use Rattle.acpi_machine.specs.MachineStates.{MachineState}
 use Rattle.acpi_prt.specs.Children.{child_named}
-use Rattle.acpi_links.specs.Answered.{stands}
 
 pub root_named : (p : List Seg) (name : List ℕ) (path : List Seg) → p ≡ [] → child_named p name ≡ Ok path → at_root name ≡ Ok path
 unfolding at_root child_named

@@ -9,8 +9,7 @@ use Rattle.aml_path.specs.declared.segment.Seg.{Seg}
 use Rattle.acpi_machine.specs.MachineStates.{MachineState}
 use Rattle.acpi_prt.specs.Children.{child_named}
 use Rattle.acpi_links.specs.Devices.{pins_of_device}
-use Rattle.acpi_links.specs.Gathering.{Gathering}
-use Rattle.acpi_links.specs.Gatherings.{gathered}
+use Rattle.acpi_links.specs.Gatherings.{Gathering, gathered}
 use Rattle.acpi_links.specs.Links.{link_asked}
 use Rattle.acpi_explain.specs.Refused.{IsFirstRefused}
 use Rattle.acpi_explain.specs.Stages.{IsOfLink, IsOfNoObject}

@@ -12,7 +12,7 @@ use Rattle.acpi_links.specs.Resources.{current_resources}
 use Rattle.acpi_links.specs.Settings.{resources_set}
 use Rattle.acpi_configure.specs.Options.{RunOptions}
 use Rattle.acpi_configure.specs.WithOptions.{IsChoice}
-use Rattle.acpi_links.specs.Gathering.{Gathering}
+use Rattle.acpi_links.specs.Gatherings.{Gathering}
 use Rattle.route_solve.specs.Problems.{RoutingAnswer}
 use Rattle.route_report.specs.Lines.{spaced}
 use Rattle.route_report.specs.Printing.{now_words}

@@ -20,8 +20,7 @@ use Rattle.acpi_machine.specs.MachineStates.{MachineState, sci_of}
 use Rattle.acpi_prt.specs.Children.{child_named}
 use Rattle.acpi_prt.specs.declared.pin.Pin.{Pin}
 use Rattle.acpi_links.specs.Devices.{devices, pins_of_device}
-use Rattle.acpi_links.specs.Gathering.{Gathering}
-use Rattle.acpi_links.specs.Gatherings.{gathered, pins_found}
+use Rattle.acpi_links.specs.Gatherings.{Gathering, gathered, pins_found}
 use Rattle.acpi_links.specs.Links.{few_links, link_asked, links_named}
 use Rattle.acpi_links.specs.Presence.{is_present}
 use Rattle.acpi_links.specs.Resources.{possible_resources, current_resources}

@@ -8,24 +8,14 @@ ghost use Rattle.acpi_machine.specs.FixedPaths.{at_root, below_root};
 ghost use Rattle.acpi_explain.specs.Stages.{IsCall};
 
 use crate::halt::is_refused;
-use acpi_links::stands;
-use acpi_machine::{Machine, Mode};
+use acpi_machine::{Machine, Mode, mode_number};
 use acpi_prt::child_named;
 use aml_meaning::Datum;
 use aml_path::Path;
 use ar_space::{Refusal, Space};
 use std::alloc::{AllocError, Global};
 
-/// The argument of `\_PIC` that stands for a mode.
-fn mode_number(mode: Mode) -> u64
-    ensures { result ≡ mode_number mode }
-{
-    match mode {
-        Mode::Pic => 0,
-        Mode::Apic => 1,
-    }
-}
-
+/// The one argument of `\_PIC` for a mode, as a list.
 fn mode_argument(alloc: Global, mode: Mode) -> Result<Vec<Datum>, AllocError>
     ensures { IfOk result (λ list. list.items ≡ datum.Integer (mode_number mode) ∷ []) }
 {
@@ -66,7 +56,7 @@ fn call_at<S: Space>(
     ensures { machine.old.spent ≡ false → Does result machine.new (called_where_it_stands S.accesses path.now
         (map given_of arguments.items)) machine.old }
 {
-    if !stands(machine, path) {
+    if !machine.has_name(path) {
         return Ok(());
     }
     match machine.evaluate_object(alloc, path, arguments) {

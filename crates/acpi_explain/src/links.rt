@@ -13,6 +13,7 @@ ghost use Rattle.acpi_explain.specs.LinkLines.{AreTold, AreLinksTold, AreLinksEx
 
 use crate::explanation::Explanation;
 use crate::link_lines::{put_refused_setting, put_unread, read_lines};
+use crate::objects::copy_path;
 use crate::stage::Stage;
 use acpi_configure::{Choice, Options, choose_with};
 use acpi_links::{PresentLink, get_current_resources, set_current_resources};
@@ -23,15 +24,6 @@ use aml_path::Path;
 use ar_space::{Refusal, Space};
 use std::alloc::{AllocError, Global};
 use watched_space::LastAccess;
-
-fn copied(alloc: Global, path: &Path) -> Result<Path, AllocError>
-    ensures { IfOk result (λ copy. copy ≡ path.now) }
-{
-    match path.copy(alloc) {
-        Ok(path) => Ok(path),
-        Err(_) => Err(AllocError),
-    }
-}
 
 /// The text of what explains a refusal that was just answered.
 fn explained<S: Space>(
@@ -81,7 +73,7 @@ fn refused_setting_lines<S: Space>(
     let refusal = not_memory(refusal)?;
     let mut text = Vec::new(alloc);
     put_refused_setting(alloc, &mut text, path, refusal.number())?;
-    let stage = Stage::Setting(copied(alloc, path)?);
+    let stage = Stage::Setting(copy_path(alloc, path)?);
     let below = explained(alloc, machine, stage, refusal, evaluation)?;
     text.extend_from_slice(&below)?;
     Ok(text)
@@ -136,7 +128,7 @@ fn unread_lines<S: Space>(
     let refusal = not_memory(refusal)?;
     let mut text = Vec::new(alloc);
     put_unread(alloc, &mut text, given, path, refusal.number())?;
-    let stage = Stage::ReadingAgain(copied(alloc, path)?);
+    let stage = Stage::ReadingAgain(copy_path(alloc, path)?);
     let below = explained(alloc, machine, stage, refusal, evaluation)?;
     text.extend_from_slice(&below)?;
     Ok(text)

@@ -24,7 +24,8 @@ use aml_path::Path;
 use ar_space::{Refusal, Space};
 use std::alloc::{AllocError, Global};
 
-fn copy(alloc: Global, path: &Path) -> Result<Path, AllocError>
+/// A copy of a path, or want of memory.
+pub(crate) fn copy_path(alloc: Global, path: &Path) -> Result<Path, AllocError>
     ensures { IfOk result (λ copy. copy ≡ path.now) }
 {
     Ok(Path::from_vec(Vec::from_slice(alloc, path.segments())?))
@@ -44,7 +45,7 @@ fn halt_at(refusal: &Refusal, stage: Stage) -> Halt
 fn table_halt(alloc: Global, refusal: &Refusal, device: &Path) -> Halt
     ensures { IsHaltBy refusal.now (λ stage. stage ≡ stages.RoutingTable device.now) result }
 {
-    match copy(alloc, device) {
+    match copy_path(alloc, device) {
         Ok(device) => halt_at(refusal, Stage::RoutingTable(device)),
         Err(_) => Halt::Memory,
     }

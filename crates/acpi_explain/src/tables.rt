@@ -1,33 +1,16 @@
 //! Which table is refused: they are loaded once more, until one is.
 ghost use Rattle.std.specs.Prelude.{◌∷◌, ◌<◌, IfOk, IfSome, length};
-ghost use Rattle.ar_space.specs.Change.{Does};
 ghost use Rattle.acpi_machine.specs.Loading.{table_loaded};
 ghost use Rattle.acpi_explain.specs.Refused.{IsHowFar};
 ghost use Rattle.acpi_explain.specs.Stages.{IsTable};
 
 use crate::halt::is_refused;
-use aml_interp::load;
+use acpi_machine::{MAX_TEXTS, load_table};
 use aml_meaning::{EvaluationSettings, World};
 use aml_objects::Octets;
-use ar_space::{Refusal, Space};
+use ar_space::Space;
 use ar_tables::{Table, Tables};
 use std::alloc::{AllocError, Global};
-
-/// How many texts `_OSI` may know: where there are more no table is loaded.
-const MAX_TEXTS: usize = 64;
-
-/// Loads the AML behind the header of a table.
-#[tactic(auto, unfolding(acpi_machine::specs::Loading::table_loaded))]
-fn load_table<S: Space>(
-    alloc: Global,
-    world: &mut World<S>,
-    table: &Table,
-    steps: u64,
-) -> Result<(), Refusal>
-    ensures { Does result world.new (table_loaded S.accesses steps table.now) world.old }
-{
-    load(alloc, world, table.body(), steps)
-}
 
 /// Loads tables one after the other, and gives the number of the one that is refused.
 fn refused_among<S: Space>(

@@ -1,70 +1,74 @@
 -- Where the calls that ask links and routing tables stop.
-use Rattle.std.specs.Prelude.{codes}
-use Rattle.std.proofs.Common.{◌≡◌, ℕ, List, [], ◌∷◌, Bool, true, false, Option, Some, Ok, refl, sym, ap, subst}
+use Rattle.std.specs.Prelude.{IsErr, IsErrAnd}
+use Rattle.std.specs.Option.{is_some, option_map}
+use Rattle.std.proofs.Common.{◌≡◌, ◌∙◌, ℕ, List, [], ◌∷◌, Bool, true, false, Option, Some, None, Ok, Err, refl, sym, ap, subst, if◌then◌else◌}
 use Rattle.ar_space.specs.Accesses.{Accesses}
+use Rattle.ar_space.specs.declared.refusal.Refusal.{Refusal}
 use Rattle.ar_space.specs.Outcome.{Outcome, Answers}
-use Rattle.ar_space.specs.Change.{Does, give}
-use Rattle.ar_space.proofs.Changes.{does_ok, does_made, does_settle}
+use Rattle.ar_space.specs.Change.{Does, settle, ◌>>=◌}
+use Rattle.ar_space.proofs.Changes.{does_ok, does_err, does_give, does_settle}
 use Rattle.aml_path.specs.declared.segment.Seg.{Seg}
 use Rattle.aml_meaning.specs.Given.{Given, Bytes}
 use Rattle.acpi_resources.specs.Records.{InterruptOffer}
-use Rattle.acpi_resources.specs.Current.{current_of}
 use Rattle.acpi_resources.specs.Settings.{setting_of}
+use Rattle.acpi_machine.specs.Buses.{prt}
+use Rattle.acpi_machine.specs.Children.{has_child, child_evaluated}
 use Rattle.acpi_machine.specs.MachineStates.{MachineState, sci_of}
-use Rattle.acpi_machine.specs.Calls.{evaluated_object}
-use Rattle.acpi_machine.specs.Stops.{Made, AllOrNone}
-use Rattle.acpi_machine.proofs.Stopping.{all_made, made_as, made_asked, made_after, made_before, made_given, made_then_settled, made_then_tested, stops_first, stops_next, goes_start, stops_here}
-use Rattle.acpi_prt.specs.Children.{child_named}
+use Rattle.acpi_machine.specs.Stops.{AllOrNone}
+use Rattle.acpi_machine.proofs.BelowPaths.{child_asked}
+use Rattle.acpi_machine.proofs.Stopping.{none_made, keeps, made_before, made_given, made_then_settled, stops_first, stops_next, goes_start, stops_here}
+use Rattle.acpi_prt.specs.RoutingTables.{routing_table}
 use Rattle.acpi_prt.specs.Stops.{StopsInTable}
 use Rattle.acpi_prt.specs.declared.pin.Pin.{Pin}
-use Rattle.acpi_links.specs.Answered.{stands, bytes_in, buffer_at}
-use Rattle.acpi_links.specs.Presence.{presence, status_at, presence_at}
-use Rattle.acpi_links.specs.Resources.{offer_in, offer_at, possible_at, possible_resources, numbers_at, current_at, current_resources}
-use Rattle.acpi_links.specs.Settings.{setting_handed, set_at}
-use Rattle.acpi_links.specs.Devices.{devices, devices_listed, pins_of_device}
+use Rattle.acpi_links.specs.Answered.{numbers_of}
+use Rattle.acpi_links.specs.ObjectNames.{sta, prs, crs, srs}
+use Rattle.acpi_links.specs.Presence.{presence_of, is_present}
+use Rattle.acpi_links.specs.Resources.{offer_in, offered_bytes, possible_resources, current_resources}
+use Rattle.acpi_links.specs.Settings.{resources_set}
+use Rattle.acpi_links.specs.Devices.{devices, devices_listed, pins_at, pins_of_device}
 use Rattle.acpi_links.specs.Gatherings.{pins_found}
 use Rattle.acpi_links.specs.Links.{links_named, few_links, some_left}
-use Rattle.acpi_links.specs.Stops.{StopsIfStands, StopsInDevice, StopsInTables, offer_asked, StopsInOffer, StopsIfPresent, StopsInLinks, StopsInFew, StopsInGathering}
+use Rattle.acpi_links.specs.Stops.{StopsIfTable, StopsInDevice, StopsInTables, offer_asked, StopsInOffer, StopsIfPresent, StopsInLinks, StopsInFew, StopsInGathering}
 
--- ---- calls that evaluate one object at most
+-- ---- calls that evaluate one object of a link at most
 
-module _ {S : Type 0} (accesses : Accesses S) {s t : MachineState S} where
-  pub buffer_made : (p : List Seg) (arguments : List Given) → Made (evaluated_object accesses p arguments) s t → arguments ≡ [] → AllOrNone (buffer_at accesses p) s t
-  unfolding buffer_at
-  buffer_made p arguments h none = made_then_settled (evaluated_object accesses p []) bytes_in (made_asked accesses p arguments h none)
+module _ {S : Type 0} (accesses : Accesses S) {s t : MachineState S} (link : List Seg) (name : Seg) (arguments : List Given) (h : AllOrNone (child_evaluated accesses link name arguments) s t) where
+  pub present_made : name ≡ sta → arguments ≡ [] → AllOrNone (is_present accesses link) s t
+  unfolding is_present
+  present_made e none = made_then_settled (child_evaluated accesses link sta []) presence_of (child_asked accesses link name sta arguments h e none)
 
-  pub status_made : (p : List Seg) (arguments : List Given) → Made (evaluated_object accesses p arguments) s t → arguments ≡ [] → AllOrNone (status_at accesses p) s t
-  unfolding status_at
-  status_made p arguments h none = made_then_settled (evaluated_object accesses p []) presence (made_asked accesses p arguments h none)
+  pub possible_made : name ≡ prs → arguments ≡ [] → AllOrNone (possible_resources accesses link) s t
+  unfolding possible_resources offer_in settle ◌>>=◌
+  possible_made e none =
+      made_before (child_evaluated accesses link prs []) (λ answer. settle (offered_bytes link answer) >>= offer_in) (λ answer u. keeps (offered_bytes link answer) u offer_in (λ bytes. refl)) (child_asked accesses link name prs arguments h e none)
 
-  pub offer_made : (p : List Seg) → AllOrNone (buffer_at accesses p) s t → AllOrNone (offer_at accesses p) s t
-  unfolding offer_at offer_in
-  offer_made p h = made_before (buffer_at accesses p) offer_in (λ bytes u. refl) h
+  pub current_made : name ≡ crs → arguments ≡ [] → AllOrNone (current_resources accesses link) s t
+  unfolding current_resources
+  current_made e none = made_then_settled (child_evaluated accesses link crs []) numbers_of (child_asked accesses link name crs arguments h e none)
 
-  pub numbers_made : (p : List Seg) → AllOrNone (buffer_at accesses p) s t → AllOrNone (numbers_at accesses p) s t
-  unfolding numbers_at
-  numbers_made p h = made_then_tested (buffer_at accesses p) current_of (λ _ numbers. Some numbers) h
+  pub set_made : (offer : InterruptOffer) (n : ℕ) → name ≡ srs → Answers (Ok arguments) (Ok (Bytes (setting_of offer n) ∷ [])) → AllOrNone (resources_set accesses link offer n) s t
+  unfolding resources_set
+  set_made offer n e a =
+      let is : Bytes (setting_of offer n) ∷ [] ≡ arguments = cc (a.is tt) in
+      made_given (child_evaluated accesses link srs (Bytes (setting_of offer n) ∷ [])) is_some
+      (subst (λ x. AllOrNone (child_evaluated accesses link x (Bytes (setting_of offer n) ∷ [])) s t) e (subst (λ gs. AllOrNone (child_evaluated accesses link name gs) s t) (sym is) h))
 
-  pub handed_made : (p : List Seg) (offer : InterruptOffer) (n : ℕ) (arguments : List Given) → Answers (Ok arguments) (Ok (Bytes (setting_of offer n) ∷ [])) → Made (evaluated_object accesses p arguments) s t → AllOrNone (setting_handed accesses p offer n) s t
-  unfolding setting_handed
-  handed_made p offer n arguments h m = made_after (give (Bytes (setting_of offer n) ∷ [])) _ (does_made (Ok arguments) _ h) (made_given (evaluated_object accesses p arguments) (λ _. true) (all_made m))
+-- ---- a setting that is handed to a link
 
-  -- where a name stands at the path
-  pub presence_if : (p : List Seg) → stands p s ≡ true → AllOrNone (status_at accesses p) s t → AllOrNone (presence_at accesses p) s t
-  unfolding presence_at
-  presence_if p is h = made_as (status_at accesses p) (presence_at accesses p) (rw is refl) h
+module _ {S : Type 0} (accesses : Accesses S) {s t : MachineState S} (link : List Seg) (offer : InterruptOffer) (n : ℕ) (name : Seg) (arguments : List Given) (e : name ≡ srs) (a : Answers (Ok arguments) (Ok (Bytes (setting_of offer n) ∷ []))) where
+  as_handed : (r : Outcome (Option Given)) → Does r t (child_evaluated accesses link name arguments) s → Does r t (child_evaluated accesses link srs (Bytes (setting_of offer n) ∷ [])) s
+  as_handed r d =
+      let is : Bytes (setting_of offer n) ∷ [] ≡ arguments = cc (a.is tt) in
+      subst (λ x. Does r t (child_evaluated accesses link x (Bytes (setting_of offer n) ∷ [])) s) e (subst (λ gs. Does r t (child_evaluated accesses link name gs) s) (sym is) d)
 
-  pub possible_if : (link p : List Seg) → stands p s ≡ true → AllOrNone (offer_at accesses p) s t → AllOrNone (possible_at accesses link p) s t
-  unfolding possible_at
-  possible_if link p is h = made_as (offer_at accesses p) (possible_at accesses link p) (rw is refl) h
+  pub does_set : {A : Type 0} (view : A → Given) (answer : Option A) → Does (Ok (option_map view answer)) t (child_evaluated accesses link name arguments) s → Does (Ok (is_some answer)) t (resources_set accesses link offer n) s
+  unfolding resources_set
+  does_set view None d = does_ok (child_evaluated accesses link srs (Bytes (setting_of offer n) ∷ [])) _ (as_handed (Ok None) d) does_give
+  does_set view (Some g) d = does_ok (child_evaluated accesses link srs (Bytes (setting_of offer n) ∷ [])) _ (as_handed (Ok (Some (view g))) d) does_give
 
-  pub current_if : (p : List Seg) → stands p s ≡ true → AllOrNone (numbers_at accesses p) s t → AllOrNone (current_at accesses p) s t
-  unfolding current_at
-  current_if p is h = made_as (numbers_at accesses p) (current_at accesses p) (rw is refl) h
-
-  pub set_if : (p : List Seg) (offer : InterruptOffer) (n : ℕ) → stands p s ≡ true → AllOrNone (setting_handed accesses p offer n) s t → AllOrNone (set_at accesses p offer n) s t
-  unfolding set_at
-  set_if p offer n is h = made_as (setting_handed accesses p offer n) (set_at accesses p offer n) (rw is refl) h
+  pub does_not_set : {r : Outcome Bool} (f : Refusal) → Does (Err f) t (child_evaluated accesses link name arguments) s → IsErr r × IsErrAnd r (λ x. x ≡ f) → Does r t (resources_set accesses link offer n) s
+  unfolding resources_set
+  does_not_set f d i = does_err (child_evaluated accesses link srs (Bytes (setting_of offer n) ∷ [])) _ (as_handed (Err f) d) i
 
 -- ---- a link: `_STA`, `_PRS`, `_CRS`
 
@@ -84,17 +88,33 @@ module _ {S : Type 0} (accesses : Accesses S) (avoid : List ℕ) {s t : MachineS
 -- ---- lists of devices and links
 
 module _ {S : Type 0} (accesses : Accesses S) where
+  pub no_device : (device : List Seg) (s : MachineState S) → StopsInDevice accesses device s s
+  no_device device s = by (has_child device prt s)
+    where
+      by : (b : Bool) → StopsIfTable accesses b device s s
+      by true = stops_first none_made
+      by false = refl
+
   pub no_table : (list : List (List Seg)) (s : MachineState S) → StopsInTables accesses list s s
-  no_table list s = stops_here (pins_of_device accesses) (StopsInDevice accesses) (λ device u. stops_first refl) list goes_start
+  no_table list s = stops_here (pins_of_device accesses) (StopsInDevice accesses) no_device list goes_start
 
-  pub if_stands : (is : Bool) (device : List Seg) (s t : MachineState S) → is ≡ true → StopsInTable accesses device s t → StopsIfStands accesses is device s t
-  if_stands is device s t e h = rw e h
+  in_table : (is : Bool) (device : List Seg) (s t : MachineState S) → is ≡ true → StopsInTable accesses device s t → StopsIfTable accesses is device s t
+  in_table is device s t e h = rw e h
 
-  pub if_none_stands : (is : Bool) (device : List Seg) (s : MachineState S) → is ≡ false → StopsIfStands accesses is device s s
-  if_none_stands is device s e = rw e refl
+  module _ (has : Bool) (device : List Seg) (n : Seg) (s : MachineState S) (a : Answers (Ok has) (Ok (has_child device n s))) (e : n ≡ prt) where
+    as_found : has_child device prt s ≡ has
+    as_found = (let is : has_child device n s ≡ has = cc (a.is tt) in subst (λ x. has_child device x s ≡ has) e is)
 
-  pub in_device : (device prt : List Seg) (s t : MachineState S) → Answers (Ok prt) (child_named device (codes "_PRT")) → StopsIfStands accesses (stands prt s) device s t → StopsInDevice accesses device s t
-  in_device device prt s t a h = stops_next (does_settle (Ok prt) (child_named device (codes "_PRT")) a) h
+    pub stops_in_table : (t : MachineState S) → has ≡ true → StopsInTable accesses device s t → StopsInDevice accesses device s t
+    stops_in_table t is h = in_table (has_child device prt s) device s t (as_found ∙ is) h
+
+    pub does_table : (r : Outcome (List Pin)) (t : MachineState S) → has ≡ true → Does r t (routing_table accesses device) s → Does r t (pins_at accesses device) s
+    unfolding pins_at
+    does_table r t is d = record { is = λ ne. ap (λ b. if b then routing_table accesses device s else (Ok [], s)) (as_found ∙ is) ∙ d.is ne }
+
+    pub does_no_table : has ≡ false → Does (Ok []) s (pins_at accesses device) s
+    unfolding pins_at
+    does_no_table is = record { is = λ _. ap (λ b. if b then routing_table accesses device s else (Ok [], s)) (as_found ∙ is) }
 
   pub devices_as_listed : (list : List (List Seg)) (s t : MachineState S) → Does (Ok list) s devices_listed s → StopsInTables accesses list s t → StopsInTables accesses (devices s) s t
   unfolding devices_listed
@@ -116,3 +136,6 @@ module _ {S : Type 0} (accesses : Accesses S) where
       let is : sci ≡ sci_of s = cc e in
       let found : Does (Ok pins) t (pins_found accesses (sci_of s)) s = subst (λ n. Does (Ok pins) t (pins_found accesses n) s) is d in
       stops_next found h
+
+-- these close the reading of a routing table, if there is one
+pub ruleset tables = (no_device, stops_in_table, does_table, does_no_table)

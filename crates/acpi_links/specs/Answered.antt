@@ -1,20 +1,10 @@
--- Objects below a device, and what kind of value they answer (ACPI 6.5, 6.1 and 6.2).
-use Rattle.std.specs.Prelude.{ℕ, List, [], Bool, Ok, Err}
-use Rattle.std.specs.Option.{is_some}
+-- What kind of value the objects of a device answer (ACPI 6.5, 6.1 and 6.2).
+use Rattle.std.specs.Prelude.{ℕ, List, Option, Some, None, Ok, Err}
 use Rattle.ar_space.specs.declared.refusal.Refusal.TheVariants as refusal
 use Rattle.ar_space.specs.declared.refusal.ValueFault.TheVariants.{WrongType}
-use Rattle.ar_space.specs.Accesses.{Accesses}
-use Rattle.ar_space.specs.Outcome.{Outcome}
-use Rattle.ar_space.specs.Change.{Change, settle, ◌>>=◌}
-use Rattle.aml_path.specs.declared.segment.Seg.{Seg}
+use Rattle.ar_space.specs.Outcome.{Outcome, ◌>>=◌}
 use Rattle.aml_meaning.specs.Given as given
-use Rattle.acpi_machine.specs.Kinds.{kind_at}
-use Rattle.acpi_machine.specs.MachineStates.{MachineState}
-use Rattle.acpi_machine.specs.Calls.{evaluated_object}
-
--- whether a name stands at a path
-abbrev pub stands : {S : Type 0} → List Seg → MachineState S → Bool
-stands p s = is_some (kind_at s.world.names.map p)
+use Rattle.acpi_resources.specs.Current.{current_of}
 
 -- the bytes of a buffer; no other value is taken
 abbrev pub bytes_in : given.Given → Outcome (List ℕ)
@@ -26,8 +16,14 @@ bytes_in (given.Package gs) = Err (refusal.Value WrongType)
 bytes_in (given.Named p) = Err (refusal.Value WrongType)
 bytes_in given.Reference = Err (refusal.Value WrongType)
 
--- the buffer that the object at a path answers
-unfoldable pub buffer_at : {S : Type 0} → Accesses S → List Seg → Change (MachineState S) (List ℕ)
-buffer_at accesses p = do
-  answer ← evaluated_object accesses p []
-  settle (bytes_in answer)
+-- the numbers in a buffer of resource descriptors
+unfoldable pub numbers_in : given.Given → Outcome (Option (List ℕ))
+numbers_in g = do
+  bytes ← bytes_in g
+  numbers ← current_of bytes
+  Ok (Some numbers)
+
+-- the numbers of an answer, where there is one
+abbrev pub numbers_of : Option given.Given → Outcome (Option (List ℕ))
+numbers_of None = Ok None
+numbers_of (Some g) = numbers_in g

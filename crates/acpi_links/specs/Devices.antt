@@ -1,16 +1,16 @@
 -- The devices of a machine, and the pins of their routing tables (ACPI 6.5, 6.2.13).
-use Rattle.std.specs.Prelude.{List, [], ◌++◌, map, Bool, true, false, Option, Some, None, Ok, codes, if◌then◌else◌}
+use Rattle.std.specs.Prelude.{List, [], ◌++◌, map, Bool, true, false, Option, Some, None, Ok, if◌then◌else◌}
 use Rattle.std.specs.List.{filter_map}
 use Rattle.ar_space.specs.Accesses.{Accesses}
-use Rattle.ar_space.specs.Change.{Change, give, settle, ◌>>=◌}
+use Rattle.ar_space.specs.Change.{Change, give, ◌>>=◌}
 use Rattle.aml_path.specs.declared.segment.Seg.{Seg}
+use Rattle.acpi_machine.specs.Buses.{prt}
+use Rattle.acpi_machine.specs.Children.{has_child}
 use Rattle.acpi_machine.specs.MachineStates.{MachineState}
 use Rattle.acpi_machine.specs.Kinds as kind
 use Rattle.acpi_machine.specs.Kinds.{Kind, kinds_walked}
 use Rattle.acpi_prt.specs.declared.pin.Pin.{Pin}
 use Rattle.acpi_prt.specs.RoutingTables.{routing_table}
-use Rattle.acpi_prt.specs.Children.{child_named}
-use Rattle.acpi_links.specs.Answered.{stands}
 use Rattle.acpi_links.specs.Folds.{folded}
 
 abbrev pub is_device : Kind → Bool
@@ -49,14 +49,13 @@ with_device device pins = map (λ pin. (device, pin)) pins
 
 -- accesses: what the register space makes of them
 module _ {S : Type 0} (accesses : Accesses S) where
-  -- the pins of a device whose routing table stands at a path, if it does
-  unfoldable pub pins_at : List Seg → List Seg → Change (MachineState S) (List Pin)
-  pins_at device p s = if stands p s then routing_table accesses device s else (Ok [], s)
+  -- the pins of the routing table of a device, if it has one
+  unfoldable pub pins_at : List Seg → Change (MachineState S) (List Pin)
+  pins_at device s = if has_child device prt s then routing_table accesses device s else (Ok [], s)
 
   unfoldable pub pins_of_device : List Seg → Change (MachineState S) (List (List Seg × Pin))
   pins_of_device device = do
-    prt ← settle (child_named device (codes "_PRT"))
-    pins ← pins_at device prt
+    pins ← pins_at device
     give (with_device device pins)
 
   -- the pins of each device, in the order of the devices, each routing table as it is then

@@ -8,7 +8,13 @@ use Rattle.acpi_prt.specs.declared.pin.Pin.{Pin}
 use Rattle.acpi_links.specs.Devices.{devices_listed, pins_of_each}
 use Rattle.acpi_links.specs.Links.{PresentLink, few_pins, links_named, few_links, links_of_each, one_polarity}
 use Rattle.acpi_links.specs.Problems.{problem_of}
-use Rattle.acpi_links.specs.Gathering.{Gathering}
+use Rattle.route_solve.specs.Problems.{RoutingProblem}
+
+-- what was gathered: each pin with its device, the present links with what they offer and are set to, and the problem that they pose
+pub record Gathering : Type 0 where
+  pub pins : List (List Seg × Pin)
+  pub links : List PresentLink
+  pub problem : RoutingProblem
 
 -- avoid: the interrupts that no link is to be given; sci: the source of the System Control Interrupt, if it has one
 abbrev pub gathering : List ℕ → Option ℕ → List (List Seg × Pin) → List PresentLink → Gathering

@@ -1,9 +1,9 @@
 pub mod Answered
 pub mod Devices
 pub mod Folds
-pub mod Gathering
 pub mod Gatherings
 pub mod Links
+pub mod ObjectNames
 pub mod Presence
 pub mod Problems
 pub mod Resources

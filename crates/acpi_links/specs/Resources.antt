@@ -1,9 +1,10 @@
 -- The resources of a link device: what it may be set to, and what it is set to (ACPI 6.5, 6.2.2 and 6.2.12).
-use Rattle.std.specs.Prelude.{ℕ, List, Option, Some, None, codes, Ok, Err, if◌then◌else◌}
+use Rattle.std.specs.Prelude.{ℕ, List, [], Option, Some, None, Err}
 use Rattle.ar_space.specs.declared.refusal.Refusal.TheVariants as refusal
 use Rattle.ar_space.specs.declared.refusal.RoutingFault.TheVariants.{NoOffer}
 use Rattle.ar_space.specs.Accesses.{Accesses}
-use Rattle.ar_space.specs.Change.{Change, give, settle, ◌>>=◌}
+use Rattle.ar_space.specs.Outcome.{Outcome}
+use Rattle.ar_space.specs.Change.{Change, settle, ◌>>=◌}
 use Rattle.aml_path.specs.declared.segment.Seg.{Seg}
 use Rattle.aml_path.specs.Text.{text_of}
 use Rattle.acpi_resources.specs.Records.{InterruptOffer}
@@ -12,10 +13,11 @@ use Rattle.aml_meaning.specs.declared.profile.Profile.TheVariants.{Core, Wide}
 use Rattle.acpi_resources.specs.declared.exclusives.Exclusives.{Exclusives}
 use Rattle.acpi_resources.specs.declared.exclusives.Exclusives.TheVariants.{Refused, Taken}
 use Rattle.acpi_resources.specs.Offers.{possible_as}
-use Rattle.acpi_resources.specs.Current.{current_of}
+use Rattle.aml_meaning.specs.Given.{Given}
+use Rattle.acpi_machine.specs.Children.{child_evaluated}
 use Rattle.acpi_machine.specs.MachineStates.{MachineState}
-use Rattle.acpi_prt.specs.Children.{child_named}
-use Rattle.acpi_links.specs.Answered.{stands, buffer_at}
+use Rattle.acpi_links.specs.Answered.{bytes_in, numbers_of}
+use Rattle.acpi_links.specs.ObjectNames.{prs, crs}
 
 -- exclusive offers are taken in the wide profile alone
 abbrev pub exclusives_in : Profile → Exclusives
@@ -26,37 +28,22 @@ exclusives_in Wide = Taken
 unfoldable pub offer_in : {S : Type 0} → List ℕ → Change (MachineState S) InterruptOffer
 offer_in bytes s = (possible_as (exclusives_in s.world.profile) bytes, s)
 
+-- the bytes that _PRS answered: a link without _PRS offers nothing
+abbrev pub offered_bytes : List Seg → Option Given → Outcome (List ℕ)
+offered_bytes link None = Err (refusal.Routing (NoOffer (text_of link)))
+offered_bytes link (Some g) = bytes_in g
+
 -- accesses: what the register space makes of them
 module _ {S : Type 0} (accesses : Accesses S) where
-  -- the offer in the buffer that an object answers
-  unfoldable pub offer_at : List Seg → Change (MachineState S) InterruptOffer
-  offer_at p = do
-    bytes ← buffer_at accesses p
-    offer_in bytes
-
-  -- of a link whose _PRS stands at a path, if it does
-  unfoldable pub possible_at : List Seg → List Seg → Change (MachineState S) InterruptOffer
-  possible_at link p s = if stands p s then offer_at p s else (Err (refusal.Routing (NoOffer (text_of link))), s)
-
   -- what a link may be set to
   unfoldable pub possible_resources : List Seg → Change (MachineState S) InterruptOffer
   possible_resources link = do
-    prs ← settle (child_named link (codes "_PRS"))
-    possible_at link prs
-
-  -- the numbers in the buffer that an object answers
-  unfoldable pub numbers_at : List Seg → Change (MachineState S) (Option (List ℕ))
-  numbers_at p = do
-    bytes ← buffer_at accesses p
-    numbers ← settle (current_of bytes)
-    give (Some numbers)
-
-  -- of a link whose _CRS stands at a path, if it does
-  unfoldable pub current_at : List Seg → Change (MachineState S) (Option (List ℕ))
-  current_at p s = if stands p s then numbers_at p s else (Ok None, s)
+    answer ← child_evaluated accesses link prs []
+    bytes ← settle (offered_bytes link answer)
+    offer_in bytes
 
   -- what a link is set to
   unfoldable pub current_resources : List Seg → Change (MachineState S) (Option (List ℕ))
   current_resources link = do
-    crs ← settle (child_named link (codes "_CRS"))
-    current_at crs
+    answer ← child_evaluated accesses link crs []
+    settle (numbers_of answer)

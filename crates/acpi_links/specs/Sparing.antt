@@ -6,8 +6,7 @@ use Rattle.ar_space.specs.Outcome.{Outcome, ◌>>=◌}
 use Rattle.aml_path.specs.Text.{text_of}
 use Rattle.route_model.specs.Avoided.{are_all_avoided}
 use Rattle.acpi_links.specs.Links.{PresentLink}
-use Rattle.acpi_links.specs.Gathering.{Gathering}
-use Rattle.acpi_links.specs.Gatherings.{gathering}
+use Rattle.acpi_links.specs.Gatherings.{Gathering, gathering}
 
 -- something of each link's offer is left where these interrupts are avoided
 unfoldable pub all_left : List ℕ → List PresentLink → Outcome (Unit {0})

@@ -1,13 +1,13 @@
 -- Where gathering may stop.
-use Rattle.std.specs.Prelude.{◌≡◌, ℕ, List, Bool, true, false, codes}
+use Rattle.std.specs.Prelude.{◌≡◌, ℕ, List, Bool, true, false}
 use Rattle.ar_space.specs.Accesses.{Accesses}
 use Rattle.ar_space.specs.Change.{Change, settle, ◌>>=◌}
 use Rattle.aml_path.specs.declared.segment.Seg.{Seg}
+use Rattle.acpi_machine.specs.Buses.{prt}
+use Rattle.acpi_machine.specs.Children.{has_child}
 use Rattle.acpi_machine.specs.MachineStates.{MachineState, sci_of}
 use Rattle.acpi_machine.specs.Stops.{Stop, AllOrNone, StopsThen, StopsEach}
-use Rattle.acpi_prt.specs.Children.{child_named}
 use Rattle.acpi_prt.specs.Stops.{StopsInTable}
-use Rattle.acpi_links.specs.Answered.{stands}
 use Rattle.acpi_links.specs.Devices.{devices, pins_of_device}
 use Rattle.acpi_links.specs.Presence.{is_present}
 use Rattle.acpi_links.specs.Resources.{possible_resources, current_resources}
@@ -17,13 +17,13 @@ use Rattle.acpi_links.specs.Gatherings.{pins_found}
 -- accesses: what the register space makes of them
 module _ {S : Type 0} (accesses : Accesses S) where
   -- a device without `_PRT` isn't asked
-  abbrev pub StopsIfStands : Bool → List Seg → Stop S
-  StopsIfStands true device = StopsInTable accesses device
-  StopsIfStands false device = ◌≡◌
+  abbrev pub StopsIfTable : Bool → List Seg → Stop S
+  StopsIfTable true device = StopsInTable accesses device
+  StopsIfTable false device = ◌≡◌
 
   -- the routing table of a device, if it has one
   abbrev pub StopsInDevice : List Seg → Stop S
-  StopsInDevice device = StopsThen (settle (child_named device (codes "_PRT"))) ◌≡◌ (λ prt before after. StopsIfStands (stands prt before) device before after)
+  StopsInDevice device before after = StopsIfTable (has_child device prt before) device before after
 
   -- one routing table after another
   abbrev pub StopsInTables : List (List Seg) → Stop S

@@ -3,15 +3,13 @@ ghost use Rattle.std.specs.Prelude.{◌≡◌, Ok, map};
 ghost use Rattle.std.specs.List.{filter_map};
 ghost use Rattle.ar_space.specs.Outcome.{Answers, seen};
 ghost use Rattle.ar_space.specs.Change.{Does};
-ghost use Rattle.acpi_links.specs.Answered.{stands};
-ghost use Rattle.acpi_links.specs.Stops.{StopsIfStands, StopsInDevice, StopsInTables};
+ghost use Rattle.acpi_links.specs.Stops.{StopsInDevice, StopsInTables};
 ghost use Rattle.acpi_machine.specs.Kinds.{kind_seen};
 ghost use Rattle.acpi_links.specs.Devices.{is_device, device_path, devices, pins_at, with_device, pins_of_device};
 ghost use Rattle.acpi_links.specs.Devices.{pins_of_each};
 
-use crate::child_objects::stands;
-use acpi_machine::{Kind, Machine};
-use acpi_prt::{Pin, child_named, get_irq_routing_table};
+use acpi_machine::{Kind, Machine, prt};
+use acpi_prt::{Pin, get_irq_routing_table};
 use aml_path::Path;
 use ar_space::{Refusal, Space};
 use std::alloc::Global;
@@ -73,24 +71,22 @@ pub fn pins_of_device<S: Space>(
         (pins_of_device S.accesses device.now) machine.old }
     ensures evaluated { StopsInDevice S.accesses device.now machine.old machine.new }
 {
-    let path = child_named(alloc, device, *b"_PRT")?;
-    let pins = pins_at(alloc, machine, device, &path)?;
+    let pins = pins_at(alloc, machine, device)?;
     with_device(alloc, device, pins)
 }
 
-/// The pins of a device whose routing table stands at a path, if it does.
-#[tactic(auto, using(crate::proofs::Stopped::if_stands), unfolding(crate::specs::Devices::pins_at))]
+/// The pins of the routing table of a device, if it has one.
+#[tactic(auto, using(crate::proofs::Stopped::tables, ar_space::proofs::Changes::changing))]
 fn pins_at<S: Space>(
     alloc: Global,
     machine: &mut Machine<S>,
     device: &Path,
-    path: &Path,
 ) -> Result<Vec<Pin>, Refusal>
-    ensures value { Does (seen (λ list. list.items) result) machine.new
-        (pins_at S.accesses device.now path.now) machine.old }
-    ensures evaluated { StopsIfStands S.accesses (stands path.now machine.old) device.now machine.old machine.new }
+    ensures value { Does (seen (λ list. list.items) result) machine.new (pins_at S.accesses device.now) machine.old }
+    ensures evaluated { StopsInDevice S.accesses device.now machine.old machine.new }
 {
-    if stands(machine, path) {
+    let has_table = machine.has_child(alloc, device, prt())?;
+    if has_table {
         get_irq_routing_table(alloc, machine, device)
     } else {
         Ok(Vec::new(alloc))

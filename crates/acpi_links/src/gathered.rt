@@ -20,7 +20,7 @@ pub struct Gathered {
 }
 
 impl Model for Gathered {
-    ghost use Rattle.acpi_links.specs.Gathering.{Gathering};
+    ghost use Rattle.acpi_links.specs.Gatherings.{Gathering};
 
     ghost Value = { Gathering };
 

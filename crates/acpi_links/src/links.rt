@@ -81,17 +81,10 @@ fn add_route(alloc: Global, links: &mut BTreeSet<Path>, route: &Route) -> Result
     match route {
         Route::Wired(_) => {}
         Route::Link(path) => {
-            links.insert(copy(alloc, path)?)?;
+            links.insert(path.copy(alloc)?)?;
         }
     }
     Ok(())
-}
-
-fn copy(alloc: Global, path: &Path) -> Result<Path, Refusal>
-    ensures value { IfOk result (λ copy. copy ≡ path.now) }
-    ensures memory { IsOkUnless result OutOfMemory }
-{
-    Ok(Path::from_vec(Vec::from_slice(alloc, path.segments())?))
 }
 
 /// More than 256 links are refused as `TooMany`.

@@ -1,5 +1,5 @@
 //! The resources of a link device: what it may be set to, what it is set to, and setting it.
-ghost use Rattle.std.specs.Prelude.{◌≡◌, Ok, Err, ◌∷◌, [], map, Contains};
+ghost use Rattle.std.specs.Prelude.{◌≡◌, Ok, Err, ◌∷◌, [], map, option_map, Contains};
 ghost use Rattle.ar_space.specs.Outcome.{Answers, seen};
 ghost use Rattle.ar_space.specs.Change.{Does};
 ghost use Rattle.acpi_machine.specs.Stops.{AllOrNone};
@@ -8,14 +8,14 @@ ghost use Rattle.ar_space.specs.declared.refusal.RoutingFault.TheVariants as rou
 ghost use Rattle.aml_path.specs.Text.{text_of};
 ghost use Rattle.aml_meaning.specs.Given.{given_of, Bytes};
 ghost use Rattle.acpi_resources.specs.Settings.{setting_of};
-ghost use Rattle.acpi_links.specs.Settings.{setting_handed, set_at, resources_set};
-ghost use Rattle.acpi_links.specs.Resources.{possible_resources, possible_at, exclusives_in, offer_in, offer_at};
-ghost use Rattle.acpi_links.specs.Resources.{current_resources, current_at, numbers_at};
+ghost use Rattle.acpi_links.specs.Settings.{resources_set};
+ghost use Rattle.acpi_links.specs.Resources.{possible_resources, offered_bytes, exclusives_in, offer_in};
+ghost use Rattle.acpi_links.specs.Resources.{current_resources};
 
-use crate::child_objects::{buffer_at, stands};
+use crate::answers::{bytes_in, numbers_of};
+use crate::object_names::{crs, prs, srs};
 use acpi_machine::{Machine, Profile};
-use acpi_prt::child_named;
-use acpi_resources::{Exclusives, InterruptNumbers, Offer, current, possible_as, setting};
+use acpi_resources::{Exclusives, InterruptNumbers, Offer, possible_as, setting};
 use aml_meaning::Datum;
 use aml_objects::Octets;
 use aml_path::Path;
@@ -27,7 +27,7 @@ use std::alloc::Global;
 /// Without `_PRS` it is refused as `NoOffer`, with the link's path. An answer that is no buffer is refused as
 /// `WrongType`, and bytes that are no offer of interrupts as `possible` says, but that the wide profile takes
 /// exclusive offers; a refusal of the evaluation is handed on.
-#[tactic(auto, using(ar_space::proofs::Changes::changing, acpi_machine::proofs::Stopping::making), unfolding(crate::specs::Resources::possible_resources))]
+#[tactic(auto, using(ar_space::proofs::Changes::changing), unfolding(crate::specs::Resources::possible_resources))]
 pub fn get_possible_resources<S: Space>(
     alloc: Global,
     machine: &mut Machine<S>,
@@ -36,30 +36,23 @@ pub fn get_possible_resources<S: Space>(
     ensures value { Does result machine.new (possible_resources S.accesses link.now) machine.old }
     ensures evaluated { AllOrNone (possible_resources S.accesses link.now) machine.old machine.new }
 {
-    let path = child_named(alloc, link, *b"_PRS")?;
-    possible_at(alloc, machine, link, &path)
+    let answer = machine.evaluate_child(alloc, link, prs(), Vec::new(alloc))?;
+    let bytes = offered_bytes(alloc, link, answer)?;
+    offer_in(alloc, machine, bytes.as_slice())
 }
 
-/// What a link device offers whose `_PRS` stands at a path, if it does.
-#[tactic(auto, using(acpi_machine::proofs::Stopping::making), unfolding(crate::specs::Resources::possible_at))]
-fn possible_at<S: Space>(
-    alloc: Global,
-    machine: &mut Machine<S>,
-    link: &Path,
-    path: &Path,
-) -> Result<Offer, Refusal>
-    ensures value { Does result machine.new (possible_at S.accesses link.now path.now) machine.old }
-    ensures evaluated { AllOrNone (possible_at S.accesses link.now path.now) machine.old machine.new }
+/// The bytes that `_PRS` answered; a link device without `_PRS` offers nothing.
+fn offered_bytes(alloc: Global, link: &Path, answer: Option<Datum>) -> Result<Octets, Refusal>
+    ensures { Answers result (offered_bytes link.now (option_map given_of answer)) }
 {
-    if stands(machine, path) {
-        offer_at(alloc, machine, path)
-    } else {
-        no_offer(alloc, link)
+    match answer {
+        None => no_offer(alloc, link),
+        Some(answer) => bytes_in(answer),
     }
 }
 
 /// A link device offers nothing.
-fn no_offer(alloc: Global, link: &Path) -> Result<Offer, Refusal>
+fn no_offer(alloc: Global, link: &Path) -> Result<Octets, Refusal>
     ensures { Answers result (Err (refusals.Routing (routing.NoOffer (text_of link.now)))) }
 {
     let text = link.text(alloc)?;
@@ -84,25 +77,11 @@ fn offer_in<S: Space>(alloc: Global, machine: &Machine<S>, bytes: &[u8]) -> Resu
     possible_as(alloc, exclusives_in(machine.profile()), bytes)
 }
 
-/// The offer in the buffer that an object answers.
-#[tactic(auto, using(ar_space::proofs::Changes::changing), unfolding(crate::specs::Resources::offer_at))]
-fn offer_at<S: Space>(
-    alloc: Global,
-    machine: &mut Machine<S>,
-    path: &Path,
-) -> Result<Offer, Refusal>
-    ensures value { Does result machine.new (offer_at S.accesses path.now) machine.old }
-    ensures evaluated { AllOrNone (offer_at S.accesses path.now) machine.old machine.new }
-{
-    let bytes = buffer_at(alloc, machine, path)?;
-    offer_in(alloc, machine, bytes.as_slice())
-}
-
 /// What a link device is set to, by the buffer that its `_CRS` answers (ACPI 6.5, 6.2.2): none where it has no `_CRS`.
 ///
 /// An answer that is no buffer is refused as `WrongType`, and bytes that are no resource descriptors as `current`
 /// says; a refusal of the evaluation is handed on.
-#[tactic(auto, using(ar_space::proofs::Changes::changing, acpi_machine::proofs::Stopping::making), unfolding(crate::specs::Resources::current_resources))]
+#[tactic(auto, using(ar_space::proofs::Changes::changing), unfolding(crate::specs::Resources::current_resources))]
 pub fn get_current_resources<S: Space>(
     alloc: Global,
     machine: &mut Machine<S>,
@@ -111,40 +90,8 @@ pub fn get_current_resources<S: Space>(
     ensures value { Does result machine.new (current_resources S.accesses link.now) machine.old }
     ensures evaluated { AllOrNone (current_resources S.accesses link.now) machine.old machine.new }
 {
-    let path = child_named(alloc, link, *b"_CRS")?;
-    current_at(alloc, machine, &path)
-}
-
-/// What a link device is set to whose `_CRS` stands at a path, if it does.
-#[tactic(auto, using(acpi_machine::proofs::Stopping::making), unfolding(crate::specs::Resources::current_at))]
-fn current_at<S: Space>(
-    alloc: Global,
-    machine: &mut Machine<S>,
-    path: &Path,
-) -> Result<Option<InterruptNumbers>, Refusal>
-    ensures value { Does result machine.new (current_at S.accesses path.now) machine.old }
-    ensures evaluated { AllOrNone (current_at S.accesses path.now) machine.old machine.new }
-{
-    if stands(machine, path) {
-        numbers_at(alloc, machine, path)
-    } else {
-        Ok(None)
-    }
-}
-
-/// The numbers in the buffer that an object answers.
-#[tactic(auto, using(ar_space::proofs::Changes::changing), unfolding(crate::specs::Resources::numbers_at))]
-fn numbers_at<S: Space>(
-    alloc: Global,
-    machine: &mut Machine<S>,
-    path: &Path,
-) -> Result<Option<InterruptNumbers>, Refusal>
-    ensures value { Does result machine.new (numbers_at S.accesses path.now) machine.old }
-    ensures evaluated { AllOrNone (numbers_at S.accesses path.now) machine.old machine.new }
-{
-    let bytes = buffer_at(alloc, machine, path)?;
-    let numbers = current(alloc, bytes.as_slice())?;
-    Ok(Some(numbers))
+    let answer = machine.evaluate_child(alloc, link, crs(), Vec::new(alloc))?;
+    numbers_of(alloc, answer)
 }
 
 /// Sets a link device to one of the interrupts that it offers, by its `_SRS` (ACPI 6.5, 6.2.16), and tells whether it
@@ -152,7 +99,7 @@ fn numbers_at<S: Space>(
 ///
 /// The argument of `_SRS` is `acpi_resources::setting` of the interrupt. What it answers is dropped; a refusal of its
 /// evaluation is handed on.
-#[tactic(auto, using(ar_space::proofs::Changes::changing, acpi_machine::proofs::Stopping::making), unfolding(crate::specs::Settings::resources_set))]
+#[tactic(auto, using(ar_space::proofs::Changes::changing), unfolding(crate::specs::Settings::resources_set))]
 pub fn set_current_resources<S: Space>(
     alloc: Global,
     machine: &mut Machine<S>,
@@ -164,46 +111,9 @@ pub fn set_current_resources<S: Space>(
     ensures value { Does result machine.new (resources_set S.accesses link.now offer.now number) machine.old }
     ensures evaluated { AllOrNone (resources_set S.accesses link.now offer.now number) machine.old machine.new }
 {
-    let path = child_named(alloc, link, *b"_SRS")?;
-    set_at(alloc, machine, &path, offer, number)
-}
-
-/// Sets a link device whose `_SRS` stands at a path, if it does.
-#[tactic(auto, using(acpi_machine::proofs::Stopping::making), unfolding(crate::specs::Settings::set_at))]
-fn set_at<S: Space>(
-    alloc: Global,
-    machine: &mut Machine<S>,
-    path: &Path,
-    offer: &Offer,
-    number: u32,
-) -> Result<bool, Refusal>
-    requires { Contains offer.now.numbers number }
-    ensures value { Does result machine.new (set_at S.accesses path.now offer.now number) machine.old }
-    ensures evaluated { AllOrNone (set_at S.accesses path.now offer.now number) machine.old machine.new }
-{
-    if stands(machine, path) {
-        hand_setting(alloc, machine, path, offer, number)
-    } else {
-        Ok(false)
-    }
-}
-
-/// Calls the method at a path with a setting.
-#[tactic(auto, using(ar_space::proofs::Changes::changing, acpi_machine::proofs::Stopping::making), unfolding(crate::specs::Settings::setting_handed))]
-fn hand_setting<S: Space>(
-    alloc: Global,
-    machine: &mut Machine<S>,
-    path: &Path,
-    offer: &Offer,
-    number: u32,
-) -> Result<bool, Refusal>
-    requires { Contains offer.now.numbers number }
-    ensures value { Does result machine.new (setting_handed S.accesses path.now offer.now number) machine.old }
-    ensures evaluated { AllOrNone (setting_handed S.accesses path.now offer.now number) machine.old machine.new }
-{
     let arguments = arguments_of(alloc, offer, number)?;
-    machine.evaluate_object(alloc, path, arguments)?;
-    Ok(true)
+    let answer = machine.evaluate_child(alloc, link, srs(), arguments)?;
+    Ok(answer.is_some())
 }
 
 /// A setting, as the one argument.

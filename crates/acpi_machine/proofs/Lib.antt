@@ -1,3 +1,4 @@
+pub mod BelowPaths
 mod Bridged
 pub mod DownToBuses
 pub mod Loaded

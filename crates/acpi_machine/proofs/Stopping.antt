@@ -78,7 +78,7 @@ unfolding ◌>>=◌ go_on
 made_after {a = a} {s = s} m k h i = made_as (k a) (m >>= k) (rw (h.is tt) refl) i
 
 -- what comes behind it leaves the machine as it is
-keeps : {S A B : Type 0} (r : Outcome A) (u : MachineState S) (k : A → Change (MachineState S) B) → ((a : A) → (k a u).1 ≡ u) → (go_on r u k).1 ≡ u
+pub keeps : {S A B : Type 0} (r : Outcome A) (u : MachineState S) (k : A → Change (MachineState S) B) → ((a : A) → (k a u).1 ≡ u) → (go_on r u k).1 ≡ u
 unfolding go_on
 keeps (Ok a) u k same = same a
 keeps (Err e) u k same = refl

@@ -1,5 +1,6 @@
 pub mod Buses
 pub mod Calls
+pub mod Children
 pub mod FixedPaths
 pub mod Kinds
 pub mod Loading

@@ -49,7 +49,7 @@ impl<S: Space> Machine<S> {
         if self.spent {
             return Err(SPENT);
         }
-        self.start(alloc, mode)
+        self.initialize_noticed(alloc, mode)
     }
 
     /// What the object at a path answers within the machine's steps (ACPI 6.5, 5.5.2).
@@ -95,20 +95,20 @@ impl<S: Space> Machine<S> {
         if self.spent {
             return Err(SPENT);
         }
-        self.set_few_texts(texts)
+        self.set_texts_if_few(texts)
     }
 
     #[tactic(auto, using(ar_space::proofs::Changes::changing), unfolding(crate::specs::Calls::few_texts_kept))]
-    fn set_few_texts(&mut self, texts: Vec<Octets>) -> Result<(), Refusal>
+    fn set_texts_if_few(&mut self, texts: Vec<Octets>) -> Result<(), Refusal>
         ensures answer { Does result self.new (few_texts_kept texts.items) self.old }
         ensures memory { NotMemory result }
     {
         few_texts(&texts)?;
-        self.keep_texts(texts)
+        self.set_texts(texts)
     }
 
     #[tactic(auto, unfolding(crate::specs::Calls::texts_kept))]
-    fn keep_texts(&mut self, texts: Vec<Octets>) -> Result<(), Refusal>
+    fn set_texts(&mut self, texts: Vec<Octets>) -> Result<(), Refusal>
         ensures answer { Does result self.new (texts_kept texts.items) self.old }
         ensures memory { NotMemory result }
     {
@@ -117,11 +117,11 @@ impl<S: Space> Machine<S> {
     }
 
     #[tactic(auto, using(crate::proofs::Noticed::noticing))]
-    fn start(&mut self, alloc: Global, mode: Mode) -> Result<(), Refusal>
+    fn initialize_noticed(&mut self, alloc: Global, mode: Mode) -> Result<(), Refusal>
         ensures answer { Does result self.new (started S.accesses mode) self.old }
         ensures memory { IfErr result (λ refusal. refusal ≡ OutOfMemory → self.new.spent ≡ true) }
     {
-        let outcome = self.call_first(alloc, mode);
+        let outcome = self.set_mode_and_call(alloc, mode);
         self.notice(&outcome);
         outcome
     }
@@ -152,15 +152,15 @@ impl<S: Space> Machine<S> {
     }
 
     #[tactic(auto, unfolding(crate::specs::Calls::started))]
-    fn call_first(&mut self, alloc: Global, mode: Mode) -> Result<(), Refusal>
+    fn set_mode_and_call(&mut self, alloc: Global, mode: Mode) -> Result<(), Refusal>
         ensures { Does result self.new (started S.accesses mode) self.old }
     {
         self.mode = mode;
-        self.make_calls(alloc, mode)
+        self.call_methods(alloc, mode)
     }
 
     #[tactic(auto, using(ar_space::proofs::Changes::changing), unfolding(crate::specs::Calls::initial_calls))]
-    fn make_calls(&mut self, alloc: Global, mode: Mode) -> Result<(), Refusal>
+    fn call_methods(&mut self, alloc: Global, mode: Mode) -> Result<(), Refusal>
         ensures { Does result self.new (initial_calls S.accesses mode) self.old }
     {
         let root_ini = at_root(alloc, *b"_INI")?;

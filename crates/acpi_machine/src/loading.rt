@@ -16,8 +16,8 @@ use ar_space::{EvaluationFault, Refusal, Space};
 use ar_tables::{Mode, Table, Tables};
 use std::alloc::Global;
 
-/// How many texts `_OSI` may know.
-const MAX_TEXTS: usize = 64;
+/// How many texts `_OSI` may know; more are refused as `ObjectLimit`.
+pub const MAX_TEXTS: usize = 64;
 
 /// Loads the tables of a machine over a register space: the DSDT, and then each SSDT in the order of the list of
 /// tables, each within `steps` steps, 1 to 1,000,000,000. `osi` are the texts that `_OSI` knows (ACPI 6.5, 5.7.2).
@@ -171,9 +171,10 @@ fn load_each<S: Space>(
     Ok(())
 }
 
-/// Loads the AML behind the header of a table.
+/// Loads the AML behind the header of a table into a world, within `steps` steps, 1 to 1,000,000,000 (ACPI 6.5, 5.4).
+/// It is refused as `load` refuses it.
 #[tactic(auto, unfolding(crate::specs::Loading::table_loaded))]
-fn load_table<S: Space>(
+pub fn load_table<S: Space>(
     alloc: Global,
     world: &mut World<S>,
     table: &Table,

@@ -11,8 +11,9 @@ use std::marker::Model;
 /// A machine: the world that its tables were loaded into, the tables, how it delivers interrupts, how many steps an
 /// evaluation may take, and whether a call ran out of memory.
 ///
-/// After a call with `&mut self` that answered `OutOfMemory` each further one answers `Spent` and changes nothing;
-/// calls with `&self` still return, but nothing is promised of what they show.
+/// After `initialize`, `evaluate_object` or `find_bus` answered `OutOfMemory`, each further call that evaluates answers
+/// `Spent` and changes nothing. `evaluate_child` still answers none where no such name stands; where memory runs out for
+/// its path alone, nothing changes. Calls with `&self` still return, but nothing is promised of what they show.
 #[derive(Drop)]
 pub struct Machine<S> {
     pub(crate) world: World<S>,

@@ -6,7 +6,7 @@ ghost use Rattle.acpi_machine.specs.MachineStates.{is_apic};
 use ar_tables::Mode;
 
 /// The argument of `\_PIC` that stands for a mode: 0 or 1.
-pub(crate) fn mode_number(mode: Mode) -> u64
+pub fn mode_number(mode: Mode) -> u64
     ensures { result ≡ mode_number mode }
 {
     match mode {

@@ -21,13 +21,13 @@ unfoldable pub id_at : {S : Type 0} → List Seg → Change (MachineState S) (Li
 id_at p s = (id_in s.world.profile s.world.names.map p, s)
 
 -- the hardware id of link devices, as an integer or as a string
-abbrev pub has_link_id : given.Given → Bool
-has_link_id (given.Integer n) = n == 0x0F0CD041
-has_link_id (given.Text bytes) = bytes_eq bytes (codes "PNP0C0F")
-has_link_id _ = false
+abbrev pub is_link_id : given.Given → Bool
+is_link_id (given.Integer n) = n == 0x0F0CD041
+is_link_id (given.Text bytes) = bytes_eq bytes (codes "PNP0C0F")
+is_link_id _ = false
 
-abbrev pub is_link_id : given.Given → Outcome (Unit {0})
-is_link_id id = if has_link_id id then Ok tt else Err (RoutingTable NotALink)
+abbrev pub link_id_or_not : given.Given → Outcome (Unit {0})
+link_id_or_not id = if is_link_id id then Ok tt else Err (RoutingTable NotALink)
 
 -- the path of the link device at a path
 unfoldable pub link_at : {S : Type 0} → Accesses S → List Seg → Change (MachineState S) (List Seg)
@@ -36,5 +36,5 @@ link_at accesses p = do
   hid ← settle (child_named device (codes "_HID"))
   name ← id_at hid
   id ← evaluated_object accesses name []
-  settle (is_link_id id)
+  settle (link_id_or_not id)
   give device

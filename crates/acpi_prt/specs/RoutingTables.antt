@@ -1,5 +1,5 @@
 -- What the pins of a routing table are (ACPI 6.5, 6.2.13).
-use Rattle.std.specs.Prelude.{ℕ, codes, List, [], ◌∷◌, Option, Some, None}
+use Rattle.std.specs.Prelude.{ℕ, List, [], ◌∷◌, ◌++◌, Option, Some, None}
 use Rattle.ar_space.specs.declared.refusal.Refusal.TheVariants.{RoutingTable}
 use Rattle.ar_space.specs.declared.refusal.RoutingTableFault.TheVariants.{BadEntry}
 use Rattle.ar_space.specs.Accesses.{Accesses}
@@ -7,12 +7,12 @@ use Rattle.ar_space.specs.Change.{Change, give, stop, settle, ◌>>=◌, ◌>>�
 use Rattle.aml_path.specs.declared.segment.Seg.{Seg}
 use Rattle.aml_meaning.specs.Given.{Given}
 use Rattle.aml_meaning.specs.Given as given
+use Rattle.acpi_machine.specs.Buses.{prt}
 use Rattle.acpi_machine.specs.MachineStates.{MachineState}
 use Rattle.acpi_machine.specs.Calls.{evaluated_object}
 use Rattle.acpi_prt.specs.declared.pin.Pin.{Pin}
 use Rattle.acpi_prt.specs.declared.pin.Route.{Route}
 use Rattle.acpi_prt.specs.declared.pin.Route.TheVariants.{Wired, Link}
-use Rattle.acpi_prt.specs.Children.{child_named}
 use Rattle.acpi_prt.specs.Entries.{list_of, entries_of, word_of, source_tested, letter_of, no_index, device_number}
 use Rattle.acpi_prt.specs.Links.{link_at}
 use Rattle.acpi_prt.specs.Pins.{taken}
@@ -63,7 +63,7 @@ module _ {S : Type 0} (accesses : Accesses S) where
   -- the routing table below a device
   unfoldable pub routing_table : List Seg → Change (MachineState S) (List Pin)
   routing_table device = do
-    name ← settle (child_named device (codes "_PRT"))
-    answer ← evaluated_object accesses name []
+    path ← give (device ++ prt ∷ [])
+    answer ← evaluated_object accesses path []
     entries ← settle (entries_of answer)
     pins_from entries []

@@ -1,13 +1,13 @@
 -- Where the reading of a routing table may stop.
-use Rattle.std.specs.Prelude.{List, [], codes}
+use Rattle.std.specs.Prelude.{List, [], ◌∷◌, ◌++◌}
 use Rattle.ar_space.specs.Accesses.{Accesses}
-use Rattle.ar_space.specs.Change.{Change, settle, ◌>>=◌}
+use Rattle.ar_space.specs.Change.{Change, give, settle, ◌>>=◌}
 use Rattle.aml_path.specs.declared.segment.Seg.{Seg}
 use Rattle.aml_meaning.specs.Given.{Given}
+use Rattle.acpi_machine.specs.Buses.{prt}
 use Rattle.acpi_machine.specs.MachineStates.{MachineState}
 use Rattle.acpi_machine.specs.Calls.{evaluated_object}
 use Rattle.acpi_machine.specs.Stops.{Stop, AllOrNone, StopsThen, StopsEach}
-use Rattle.acpi_prt.specs.Children.{child_named}
 use Rattle.acpi_prt.specs.Entries.{entries_of}
 use Rattle.acpi_prt.specs.RoutingTables.{pin_of}
 
@@ -16,8 +16,8 @@ module _ {S : Type 0} (accesses : Accesses S) where
   -- the entries that `_PRT` below a device answers
   unfoldable pub entries_answered : List Seg → Change (MachineState S) (List Given)
   entries_answered device = do
-    name ← settle (child_named device (codes "_PRT"))
-    answer ← evaluated_object accesses name []
+    path ← give (device ++ prt ∷ [])
+    answer ← evaluated_object accesses path []
     settle (entries_of answer)
 
   -- each entry evaluates the `_HID` of one link at most

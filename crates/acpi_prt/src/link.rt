@@ -8,7 +8,7 @@ ghost use Rattle.aml_meaning.specs.Given.{given_of};
 ghost use Rattle.acpi_machine.specs.Kinds.{kind_seen};
 ghost use Rattle.acpi_prt.specs.Children.{child_named};
 ghost use Rattle.acpi_prt.specs.Finding.{followed, device_or_not, device_in, method_or_not, id_or_not, id_in};
-ghost use Rattle.acpi_prt.specs.Links.{device_at, id_at, is_link_id, link_at};
+ghost use Rattle.acpi_prt.specs.Links.{device_at, id_at, is_link_id, link_id_or_not, link_at};
 
 use acpi_machine::{Kind, Machine, Profile};
 use aml_meaning::Datum;
@@ -35,7 +35,7 @@ pub(crate) fn link_at<S: Space>(
     let hid = child_named(alloc, &device, *b"_HID")?;
     let id = id_at(alloc, machine, &hid)?;
     let answer = machine.evaluate_object(alloc, &id, Vec::new(alloc))?;
-    is_link_id(&answer)?;
+    link_id_or_not(&answer)?;
     Ok(device)
 }
 
@@ -114,15 +114,25 @@ fn followed<S: Space>(alloc: Global, machine: &Machine<S>, path: &Path) -> Resul
 }
 
 /// Whether a hardware id is that of interrupt link devices.
-fn is_link_id(id: &Datum) -> Result<(), Refusal>
-    ensures { Answers result (is_link_id (given_of id.now)) }
+fn is_link_id(id: &Datum) -> bool
+    ensures { result ≡ is_link_id (given_of id.now) }
 {
-    let is = match id {
+    match id {
         Datum::Integer(number) => *number == LINK_EISA_ID,
         Datum::Text(text) => text.as_slice() == b"PNP0C0F".as_slice(),
         _ => false,
-    };
-    if is { Ok(()) } else { Err(NOT_A_LINK) }
+    }
+}
+
+/// Refuses any other hardware id as `NotALink`.
+fn link_id_or_not(id: &Datum) -> Result<(), Refusal>
+    ensures { Answers result (link_id_or_not (given_of id.now)) }
+{
+    if is_link_id(id) {
+        Ok(())
+    } else {
+        Err(NOT_A_LINK)
+    }
 }
 
 /// The path of a name of four characters one level below another, or `BadName` where the characters are no name

@@ -1,7 +1,8 @@
 //! A PCI routing table, entry by entry (ACPI 6.5, 6.2.13).
-ghost use Rattle.std.specs.Prelude.{◌≡◌, [], Ok, map};
+ghost use Rattle.std.specs.Prelude.{◌≡◌, [], ◌∷◌, ◌++◌, Ok, map};
 ghost use Rattle.ar_space.specs.Outcome.{Answers, seen};
 ghost use Rattle.ar_space.specs.Change.{Does};
+ghost use Rattle.acpi_machine.specs.Buses.{prt};
 ghost use Rattle.acpi_machine.specs.Stops.{AllOrNone};
 ghost use Rattle.aml_meaning.specs.Given.{given_of};
 ghost use Rattle.acpi_prt.specs.Stops.{StopsInEntries, StopsInTable};
@@ -11,9 +12,9 @@ use crate::entry::{
     BAD_ENTRY, device_number, entries_of, letter_of, no_index, source_tested, word_of,
 };
 use crate::first_pins::FirstPins;
-use crate::link::{child_named, link_at};
+use crate::link::link_at;
 use crate::pin::{Pin, Route};
-use acpi_machine::Machine;
+use acpi_machine::{Machine, prt};
 use aml_meaning::Datum;
 use aml_path::Path;
 use ar_space::{Refusal, Space};
@@ -40,10 +41,17 @@ pub fn get_irq_routing_table<S: Space>(
         (routing_table S.accesses device.now) machine.old }
     ensures evaluated { StopsInTable S.accesses device.now machine.old machine.new }
 {
-    let name = child_named(alloc, device, *b"_PRT")?;
-    let answer = machine.evaluate_object(alloc, &name, Vec::new(alloc))?;
+    let path = table_path(alloc, device)?;
+    let answer = machine.evaluate_object(alloc, &path, Vec::new(alloc))?;
     let entries = entries_of(&answer)?;
     pins_from(alloc, machine, entries)
+}
+
+/// The path of the routing table below a device.
+fn table_path(alloc: Global, device: &Path) -> Result<Path, Refusal>
+    ensures { Answers result (Ok (device.now ++ prt ∷ [])) }
+{
+    device.child(alloc, prt())
 }
 
 /// The pins of entries, in their order.

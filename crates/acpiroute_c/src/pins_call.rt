@@ -79,7 +79,7 @@ fn said_of(alloc: Global, ending: Ending<Report>) -> Result<PinsSaid, AllocError
     }
 }
 
-/// The same settings, with the lines for a kernel.
+/// These settings, with the lines for a kernel.
 fn for_kernels(settings: Settings) -> Settings
     ensures { result ≡ record settings { kernel = true } }
 {

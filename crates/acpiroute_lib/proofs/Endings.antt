@@ -24,7 +24,7 @@ use Rattle.acpiroute_words.specs.declared.request.Question.{Question}
 use Rattle.acpiroute_words.specs.declared.request.Question.TheVariants.{Route, Eval}
 use Rattle.acpiroute_words.specs.declared.arguments.Argument.{Argument}
 use Rattle.acpiroute_lib.specs.EvalCommand.{given_argument}
-use Rattle.acpiroute_lib.specs.Ended.{dropped, after_loading, started, asks, evaluates, loaded_over, run_of, IsRouted, IsAskedBy, IsQuestionEnd, IsMachineEnd, IsEnd}
+use Rattle.acpiroute_lib.specs.RunEnds.{dropped, after_loading, started, asks, evaluates, loaded_over, run_of, IsRouted, IsAskedBy, IsQuestionEnd, IsMachineEnd, IsEnd}
 use Rattle.acpiroute_lib.specs.declared.run_end.RunEnd.{RunEnd}
 use Rattle.acpiroute_lib.specs.declared.run_end.RunEnd.TheVariants.{Refused, Done}
 

@@ -1,5 +1,6 @@
 pub mod Caused
 pub mod Deliveries
+pub mod Described
 pub mod Endings
 pub mod Evaluated
 pub mod LinkRuns

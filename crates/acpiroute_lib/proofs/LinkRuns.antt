@@ -15,7 +15,7 @@ use Rattle.acpiroute_words.specs.declared.request.Flags.{Flags}
 use Rattle.acpiroute_words.specs.declared.request.Question.{Question}
 use Rattle.acpiroute_words.specs.declared.request.Question.TheVariants.{Route}
 use Rattle.acpi_configure.specs.Options.{RunOptions}
-use Rattle.acpiroute_lib.specs.Ended.{loaded_over, options_of}
+use Rattle.acpiroute_lib.specs.RunEnds.{loaded_over, options_of}
 use Rattle.acpiroute_lib.specs.LinksAsked.{AreLinksOf, AreLinksAsked, AreLinksStarted, AreLinksIn}
 
 -- a change that is refused

@@ -25,7 +25,7 @@ use Rattle.acpiroute_words.specs.declared.request.Asking.{Asking}
 use Rattle.acpiroute_words.specs.declared.request.Flags.{Flags}
 use Rattle.acpiroute_words.specs.declared.request.Question.{Question}
 use Rattle.acpiroute_words.specs.declared.request.Question.TheVariants.{Route, Eval}
-use Rattle.acpiroute_lib.specs.Ended.{options_of, dropped, after_loading, finds, asks, started, loaded_over}
+use Rattle.acpiroute_lib.specs.RunEnds.{options_of, dropped, after_loading, finds, asks, started, loaded_over}
 use Rattle.acpiroute_lib.specs.WhyStages.{named_phase, asked_phase, started_phase, machine_phase, loaded_phase, run_phase, IsNamedStage, IsLoadingStage, IsCallingStage, IsAskedStage, IsStartedStage, IsMachineStage, IsLoadedStage, IsStageIn}
 
 -- ---- phases that differ

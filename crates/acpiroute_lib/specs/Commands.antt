@@ -4,7 +4,7 @@ use Rattle.ar_space.specs.Outcome.{Outcome}
 use Rattle.acpiroute_words.specs.declared.request.Request.{Request}
 use Rattle.acpiroute_words.specs.declared.request.Request.TheVariants.{Route, Why, Registers, Names, Eval, Check}
 use Rattle.acpiroute_words.specs.CheckCommand.{IsCheckAnswer}
-use Rattle.acpiroute_lib.specs.Ended.{options_of}
+use Rattle.acpiroute_lib.specs.RunEnds.{options_of}
 use Rattle.acpiroute_lib.specs.EvalCommand.{eval_answer}
 use Rattle.acpiroute_lib.specs.NamesCommand.{names_answer}
 use Rattle.acpiroute_lib.specs.RouteCommand.{IsRouteAnswer}

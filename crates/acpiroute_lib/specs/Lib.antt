@@ -5,7 +5,7 @@ pub mod NamesCommand
 pub mod ValueText
 pub mod EvalCommand
 pub mod RouteCommand
-pub mod Ended
+pub mod RunEnds
 pub mod MissingLines
 pub mod WhyStages
 pub mod WhyCommand

@@ -13,7 +13,7 @@ use Rattle.watched_space.specs.Watching.{Watch, watched}
 use Rattle.acpiroute_words.specs.declared.request.Asking.{Asking}
 use Rattle.acpiroute_words.specs.declared.request.Question.{Question}
 use Rattle.acpiroute_words.specs.declared.request.Question.TheVariants.{Route, Eval}
-use Rattle.acpiroute_lib.specs.Ended.{options_of, loaded_over}
+use Rattle.acpiroute_lib.specs.RunEnds.{options_of, loaded_over}
 
 -- accesses: what the register space makes of them, below the one that keeps the last access
 module _ {S : Type 0} (accesses : Accesses S) where

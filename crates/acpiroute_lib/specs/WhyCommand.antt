@@ -23,7 +23,7 @@ use Rattle.acpiroute_words.specs.ErrorLines.{error_line}
 use Rattle.acpiroute_words.specs.Written.{Written}
 use Rattle.acpiroute_words.specs.declared.completion.Completion.TheVariants.{Done}
 use Rattle.acpi_machine.specs.MachineStates.{MachineState}
-use Rattle.acpiroute_lib.specs.Ended.{IsMachineEnd, IsEnd}
+use Rattle.acpiroute_lib.specs.RunEnds.{IsMachineEnd, IsEnd}
 use Rattle.acpiroute_lib.specs.LinksAsked.{AreLinksIn}
 use Rattle.acpiroute_lib.specs.Machines.{Registers, register_accesses, registers_of}
 use Rattle.acpiroute_lib.specs.MissingLines.{missing_lines}

@@ -12,7 +12,7 @@ use Rattle.aml_meaning.specs.State.{State}
 use Rattle.acpi_machine.specs.Calls.{initialized}
 use Rattle.acpi_machine.specs.Loading.{few_texts}
 use Rattle.acpi_machine.specs.MachineStates.{MachineState, machine_of}
-use Rattle.acpi_links.specs.Gathering.{Gathering}
+use Rattle.acpi_links.specs.Gatherings.{Gathering}
 use Rattle.acpi_explain.specs.Stages.{IsTableRefused, IsCallRefused, IsStageBy, IsNotRefused, IsOfNoObject}
 use Rattle.acpi_explain.specs.declared.stage.Stage.{Stage}
 use Rattle.acpi_explain.specs.declared.stage.Stage.TheVariants as stages
@@ -21,7 +21,7 @@ use Rattle.acpi_explain.specs.declared.told.Phase.TheVariants as phases
 use Rattle.acpiroute_words.specs.declared.request.Asking.{Asking}
 use Rattle.acpiroute_words.specs.declared.request.Question.{Question}
 use Rattle.acpiroute_words.specs.declared.request.Question.TheVariants.{Route, Eval}
-use Rattle.acpiroute_lib.specs.Ended.{loaded_over, run_of}
+use Rattle.acpiroute_lib.specs.RunEnds.{loaded_over, run_of}
 use Rattle.acpiroute_lib.specs.declared.run_end.RunEnd.{RunEnd}
 use Rattle.acpiroute_lib.specs.declared.run_end.RunEnd.TheVariants.{Refused, Done}
 

@@ -4,8 +4,8 @@ ghost use Rattle.ar_space.specs.Outcome.{NotMemory};
 ghost use Rattle.acpiroute_lib.specs.Commands.{IsAnswer};
 ghost use Rattle.acpiroute_lib.specs.Passed.{request_passed};
 
-use crate::ended::options_of;
 use crate::eval_command::eval_answer;
+use crate::machine_end::options_of;
 use crate::names_command::names_answer;
 use crate::route_command::route_answer;
 use crate::why_command::{registers_answer, why_answer};
@@ -16,7 +16,7 @@ use std::alloc::Global;
 /// The answer to a request over the whole input. A machine text is given up as soon as it is read, before any table
 /// of it is loaded. A report is kept while `check` reads and judges it, and given up with the answer. The lines of what
 /// was passed over are put behind those that are told.
-pub(crate) fn answer_to(
+pub(crate) fn answer_request(
     alloc: Global,
     request: Request,
     input: Vec<u8>,

@@ -1,10 +1,10 @@
 //! `eval`: loads and initializes a machine, evaluates an object, and writes its value.
 ghost use Rattle.std.specs.Prelude.{◌≡◌, ◌++◌, IfOk, Ok, map};
-ghost use Rattle.ar_space.specs.Outcome.{Answers, NotMemory, seen};
+ghost use Rattle.ar_space.specs.Outcome.{Answers, NotMemory};
 ghost use Rattle.acpiroute_words.specs.PassedLines.{passed_lines};
 ghost use Rattle.acpiroute_lib.specs.Passed.{run_passed};
 ghost use Rattle.aml_meaning.specs.Given as given;
-ghost use Rattle.acpiroute_lib.specs.EvalCommand.{given_argument, value_at, value_written, evaluated_text, eval_answer};
+ghost use Rattle.acpiroute_lib.specs.EvalCommand.{given_argument, value_written, evaluated_text, eval_answer};
 
 use crate::machine::{Registers, machine_of_text_in};
 use crate::value_text::value_line;
@@ -46,20 +46,6 @@ pub(crate) fn data(alloc: Global, arguments: &[Argument]) -> Result<Vec<Datum>, 
     Ok(list)
 }
 
-/// What the object at a path answers.
-#[tactic(auto, using(crate::proofs::Evaluated::change_answers), unfolding(crate::specs::EvalCommand::value_at))]
-fn value_at(
-    alloc: Global,
-    machine: &mut Machine<Registers>,
-    path: &Path,
-    arguments: Vec<Datum>,
-) -> Result<Datum, Refusal>
-    ensures { Answers (seen given.given_of result) (value_at machine.old path.now
-        (map given.given_of arguments.items)) }
-{
-    machine.evaluate_object(alloc, path, arguments)
-}
-
 /// A value on a line of its own, as `eval` writes it.
 pub fn value_answer(alloc: Global, value: &Datum) -> Result<Answer, Refusal>
     ensures { Answers result (Ok (value_written (given.given_of value.now))) }
@@ -71,7 +57,7 @@ pub fn value_answer(alloc: Global, value: &Datum) -> Result<Answer, Refusal>
 }
 
 /// The value of the object whose path a text is.
-#[tactic(auto, using(ar_space::proofs::Outcomes::answering), unfolding(crate::specs::EvalCommand::evaluated_text))]
+#[tactic(auto, using(ar_space::proofs::Outcomes::answering, crate::proofs::Evaluated::change_answers), unfolding(crate::specs::EvalCommand::evaluated_text, crate::specs::EvalCommand::value_at))]
 fn evaluated_text(
     alloc: Global,
     machine: &mut Machine<Registers>,
@@ -82,7 +68,7 @@ fn evaluated_text(
 {
     let path = Path::from_text(alloc, path.as_bytes())?;
     let arguments = data(alloc, arguments)?;
-    let value = value_at(alloc, machine, &path, arguments)?;
+    let value = machine.evaluate_object(alloc, &path, arguments)?;
     value_answer(alloc, &value)
 }
 

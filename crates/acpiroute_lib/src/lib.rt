@@ -3,11 +3,12 @@
 #![tactic(auto)]
 
 mod commands;
-mod ended;
 mod eval_command;
 pub mod laws;
-mod link_run;
+mod link_lines;
+mod loading;
 mod machine;
+mod machine_end;
 mod memory;
 mod name_lines;
 mod names_command;
@@ -16,8 +17,8 @@ mod program;
 mod refused_stage;
 mod route_command;
 mod run_end;
-mod shown;
 mod value_text;
+mod watched_run;
 mod why_command;
 
 pub use acpiroute_words::{

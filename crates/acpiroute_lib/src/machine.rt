@@ -1,43 +1,26 @@
 //! The machine that a machine text describes.
-ghost use Rattle.std.specs.Prelude.{◌≡◌, ◌++◌, IfOk, OnOk, OnErr, map};
+ghost use Rattle.std.specs.Prelude.{◌≡◌, ◌++◌, OnOk, OnErr};
 ghost use Rattle.ar_space.specs.Change.{Does};
 ghost use Rattle.ar_space.specs.Outcome.{Answers, NotMemory};
 ghost use Rattle.machine_text.specs.MachineText.{machine_text};
 ghost use Rattle.acpi_machine.specs.Calls.{initialized};
 ghost use Rattle.acpiroute_words.specs.PassedLines.{passed_lines};
 ghost use Rattle.acpiroute_lib.specs.Passed.{tables_passed, loading_passed, run_passed};
-ghost use Rattle.acpiroute_lib.specs.Machines.{register_accesses, registers_of, machine_with, machine_of_text};
+ghost use Rattle.acpiroute_lib.specs.Machines.{register_accesses, machine_with, machine_of_text};
 ghost use Rattle.acpiroute_lib.specs.Machines.{initialized_machine, machine_of_text_in};
 
 use acpi_machine::{Machine, Mode, load_tables_traced};
 use acpiroute_words::{Evaluation, put_passed_lines};
 use aml_objects::Octets;
 use ar_space::{Refusal, Sparse};
-use ar_tables::{Tables, find_tables};
+use ar_tables::Tables;
+use machine_description::describe;
 use machine_text::{MachineText, read_machine};
-use std::alloc::{AllocError, Global};
+use std::alloc::Global;
 use watched_space::Metered;
 
 /// The register space of a run: the bytes of a machine text, to which accesses may be bounded.
 pub(crate) type Registers = Metered<Sparse>;
-
-/// Texts that `_OSI` is to know.
-pub(crate) fn octets(alloc: Global, texts: Vec<Vec<u8>>) -> Result<Vec<Octets>, AllocError>
-    ensures { IfOk result (λ list. list.items ≡ map (λ text. text.items) texts.items) }
-{
-    let mut list = Vec::new(alloc);
-    for text in texts {
-        list.push(Octets::from_vec(text))?;
-    }
-    Ok(list)
-}
-
-/// The register space of a run that is evaluated like this.
-pub(crate) fn registers_of(evaluation: Evaluation, space: Sparse) -> Registers
-    ensures { result ≡ registers_of evaluation space }
-{
-    Metered::new(space, evaluation.accesses)
-}
 
 /// A machine of these tables over a register space.
 #[tactic(auto, unfolding(crate::specs::Machines::machine_with))]
@@ -94,10 +77,9 @@ pub(crate) fn machine_of_text(
         passed_lines (loading_passed evaluation text.items)) }
 {
     let said = machine_said(alloc, text)?;
-    let tables = find_tables(alloc, said.space.memory(), said.rsdp)?;
-    let osi = octets(alloc, said.osi.into_vec())?;
-    let space = registers_of(evaluation, said.space);
-    machine_with(alloc, evaluation, tables, space, osi, told)
+    let machine = describe(alloc, said)?;
+    let space = Metered::new(machine.registers, evaluation.accesses);
+    machine_with(alloc, evaluation, machine.tables, space, machine.osi, told)
 }
 
 /// Initializes a machine, and tells what was passed over.

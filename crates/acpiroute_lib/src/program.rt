@@ -6,7 +6,7 @@ ghost use Rattle.acpiroute_words.specs.Deliveries.{Delivered};
 ghost use Rattle.acpiroute_words.specs.Reads.{ReadsWithin};
 ghost use Rattle.acpiroute_lib.specs.Runs.{Ran, Served, Shown, bad_avoid, no_memory};
 
-use crate::commands::answer_to;
+use crate::commands::answer_request;
 use acpiroute_words::{Asked, Request, Sink, Source, deliver, deliver_outcome, parse, read_input};
 use clap::Error;
 use clap::error::ErrorKind;
@@ -31,7 +31,7 @@ fn serve<R: Source, W: Sink, E: Sink>(
     match read_input(alloc, reader) {
         Ok(input) => {
             let mut told = Vec::new(alloc);
-            let outcome = answer_to(alloc, request, input, &mut told);
+            let outcome = answer_request(alloc, request, input, &mut told);
             deliver_outcome(alloc, told.as_slice(), outcome, writer, errors)
         }
         Err(stop) => deliver(b"", stop.line(), 1, writer, errors),
@@ -99,21 +99,24 @@ fn decline<W: Sink, E: Sink>(writer: &mut W, errors: &mut E) -> u8
 /// The commands:
 ///
 /// - `check`: reads a report, and writes `yes`, or `no` and the number of its flaw.
-/// - `eval [--mode apic|pic] [--steps N] [--profile core|wide] [--accesses M] PATH [ARGUMENT..]`: reads a machine text,
-/// loads its tables, initializes the machine in the mode, by default `apic`, evaluates the object at the path with
-/// these arguments, at most seven, each an integer below 2^64 in decimal digits, `s:` and the bytes of a string, or
-/// `b:` and those of a buffer in hexadecimal digits, and writes its value with a line feed: `integer N` in decimal
-/// digits; `string H` and `buffer H`, the bytes in upper-case hexadecimal digits, `-` where there is none; `package C (
-/// V.. )`, the count of its elements and the elements, each behind a blank; `name P`, the path of what holds no data;
-/// `reference`; `none`, no value.
-/// - `names [--steps N] [--profile core|wide] [--accesses M]`: reads a machine text, loads its tables, and writes the
-/// names of the namespace, one a line in path order: the path, a blank, and the kind of what stands there, with a
-/// method how many arguments it takes, with an alias its target.
-/// - `route [--dry] [--mode apic|pic] [--steps N] [--profile core|wide] [--accesses M] [--avoid LIST]`: reads a machine
-/// text, loads its tables, initializes the machine in the mode, by default `apic`, chooses an interrupt for each link
-/// device, none of those in the list, sets them, and writes the report of this; with `--dry` no link device is set. The
-/// list is 1 to 255 numbers below 2^32 in decimal digits, separated by commas; for any other text, where nothing else
-/// is wrong with the words, the errors get the line `bad --avoid`.
+/// - `eval [--mode apic|pic] [--steps N] [--profile core|wide] [--accesses M] [--calls C] [--levels L] PATH
+/// [ARGUMENT..]`: reads a machine text, loads its tables, initializes the machine in the mode, by default `apic`,
+/// evaluates the object at the path with these arguments, at most seven, each an integer below 2^64 in decimal digits,
+/// `s:` and the bytes of a string, or `b:` and those of a buffer in hexadecimal digits, and writes its value with a
+/// line feed: `integer N` in decimal digits; `string H` and `buffer H`, the bytes in upper-case hexadecimal digits, `-`
+/// where there is none; `package C ( V.. )`, the count of its elements and the elements, each behind a blank; `name P`,
+/// the path of what holds no data; `reference`; `none`, no value.
+/// - `names [--steps N] [--profile core|wide] [--accesses M] [--calls C] [--levels L]`: reads a machine text, loads its
+/// tables, and writes the names of the namespace, one a line in path order: the path, a blank, and the kind of what
+/// stands there, with a method how many arguments it takes, with an alias its target.
+/// - `route [--dry] [--mode apic|pic] [--steps N] [--profile core|wide] [--accesses M] [--calls C] [--levels L]
+/// [--avoid LIST] [--spare] [--spread] [--kernel]`: reads a machine text, loads its tables, initializes the machine in
+/// the mode, by default `apic`, chooses an interrupt for each link device, none of those in the list, sets them, and
+/// writes the report of this. With `--dry` no link device is set. With `--spare` no link device is given an interrupt
+/// that the `_CRS` of another present device has. With `--spread` link devices share interrupts as little as they can.
+/// With `--kernel` the report also tells how interrupts are triggered, and the bus of each routing table. The list is 1
+/// to 255 numbers below 2^32 in decimal digits, separated by commas; for any other text, where nothing else is wrong
+/// with the words, the errors get the line `bad --avoid`.
 /// - `why [options of route]`: makes the run of `route` over a machine text, and writes what ended it, a line each:
 /// `refused R` with its detail and the name of the refusal; `while` and what was done then; `in`, a control method and
 /// the offset, the opcode and the name of a term that was being evaluated, the outermost first; `name`, the name that
@@ -127,9 +130,11 @@ fn decline<W: Sink, E: Sink>(writer: &mut W, errors: &mut E) -> u8
 ///
 /// N is the budget of steps for each table and each evaluation, a number from 1 to 1,000,000,000 in decimal digits, by
 /// default 1,000,000. M is how many accesses of registers the run makes, a number below 2^64 in decimal digits: each
-/// further one is refused as 2, and by default none is. The profile says how much of AML is evaluated, by default
-/// `core`. Refusals come in this order: of the machine text, of the tables, of loading, of initializing, of the path's
-/// text, of evaluating or routing.
+/// further one is refused as 2, and by default none is. C is how deep calls may nest, from 1 to 32, and L how deep
+/// terms may nest, from 1 to 64, both in decimal digits: by default they are 32 and 64, and where they are smaller,
+/// what is deeper is refused as 144. The profile says how much of AML is evaluated, by default `core`. Refusals come in
+/// this order: of the machine text, of the tables, of loading, of initializing, of the path's text, of evaluating or
+/// routing.
 ///
 /// The result is the exit status: 0 where all went well, 1 for a refusal, 2 for a faulty command line, 3 where
 /// setting a link was refused, which the report tells, 4 where `check` says no. A faulty command line is found before

@@ -16,15 +16,16 @@ ghost use Rattle.watched_space.specs.Watching.{watched};
 ghost use Rattle.acpiroute_lib.specs.WhyCommand.{IsStageFound, first_watch};
 ghost use Rattle.acpiroute_lib.specs.WhyStages.{IsNamedStage, IsCallingStage, IsStageIn};
 
-use crate::machine::octets;
-use crate::shown::first_watch;
+use crate::loading::load;
+use crate::watched_run::first_watch;
 use acpi_explain::{Phase, Stage, refused_call, refused_object, refused_table};
-use acpi_machine::{Machine, load_tables_as};
+use acpi_machine::Machine;
 use acpiroute_words::{Asking, Question};
 use aml_objects::Octets;
 use aml_path::Path;
 use ar_space::{Refusal, Space};
-use ar_tables::{Tables, find_tables};
+use ar_tables::Tables;
+use machine_description::describe;
 use machine_text::{MachineText, read_machine};
 use std::alloc::{AllocError, Global};
 
@@ -95,15 +96,7 @@ fn call_stage<S: Space + Drop>(
 ) -> Result<Option<Stage>, AllocError>
     ensures { IfOk result (IsStageIn S.accesses (Some Initializing) asking.now (Ok tables) osi.items space) }
 {
-    let evaluation = asking.evaluation;
-    match load_tables_as(
-        alloc,
-        evaluation.settings,
-        tables,
-        space,
-        evaluation.steps,
-        osi,
-    ) {
+    match load(alloc, asking.evaluation, tables, osi, space) {
         Ok(machine) => call_of(alloc, asking, machine),
         Err((refusal, space)) => {
             drop(space);
@@ -153,15 +146,7 @@ fn object_stage<S: Space + Drop>(
         asking.now.question ≡ Route avoid.now flags →
         IsStageIn S.accesses (Some Running) asking.now (Ok tables) osi.items space stage) }
 {
-    let evaluation = asking.evaluation;
-    match load_tables_as(
-        alloc,
-        evaluation.settings,
-        tables,
-        space,
-        evaluation.steps,
-        osi,
-    ) {
+    match load(alloc, asking.evaluation, tables, osi, space) {
         Ok(machine) => object_of(alloc, asking, avoid, machine),
         Err((refusal, space)) => {
             drop(space);
@@ -226,15 +211,14 @@ fn stage_said(
     ensures { IfOk result (IsStageIn (watched register_accesses) (Some phase) asking.now
         (tables_of said.space.memory said.rsdp) said.osi (first_watch asking.now.evaluation said.space)) }
 {
-    let osi = octets(alloc, said.osi.into_vec())?;
-    match find_tables(alloc, said.space.memory(), said.rsdp) {
-        Ok(tables) => stage_in(
+    match describe(alloc, said) {
+        Ok(machine) => stage_in(
             alloc,
             asking,
             phase,
-            tables,
-            osi,
-            first_watch(asking.evaluation, said.space),
+            machine.tables,
+            machine.osi,
+            first_watch(asking.evaluation, machine.registers),
         ),
         Err(refusal) => no_stage(refusal),
     }

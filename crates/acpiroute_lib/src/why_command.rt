@@ -8,11 +8,11 @@ ghost use Rattle.acpiroute_lib.specs.WhyCommand.{told, IsStageFound, AreLinksFou
 ghost use Rattle.acpiroute_lib.specs.WhyCommand.{IsWhy, IsRegisters};
 ghost use Rattle.acpiroute_lib.specs.WhyCommand.{IsWhyAnswer, IsRegistersAnswer};
 
-use crate::link_run::link_lines;
+use crate::link_lines::link_lines;
 use crate::place_words::missing_lines;
 use crate::refused_stage::stage_when_refused;
 use crate::run_end::RunEnd;
-use crate::shown::{filled_run, watched_run};
+use crate::watched_run::{filled_run, watched_run};
 use acpi_explain::Explanation;
 use acpiroute_words::{Answer, Asking, Completion, write_error_line};
 use aml_meaning::Trace;
@@ -74,7 +74,7 @@ fn why(alloc: Global, asking: &Asking, said: MachineText, text: &[u8]) -> Result
     ensures memory { IfErr result (λ refusal. refusal ≡ OutOfMemory) }
     ensures lines { IfOk result (λ w. machine_text text.now ≡ Ok said → IsWhy asking.now said w) }
 {
-    let (end, last, trace) = watched_run(alloc, asking, said)?;
+    let (end, last, trace) = watched_run(alloc, asking, said);
     let answer = explained(alloc, asking, end, last, &trace, text);
     // (by a call: what a scope drops at its end is dropped part by part, and long to prove)
     drop(trace);

@@ -43,7 +43,7 @@ pub fn deliver<W: Sink, E: Sink>(
         return status;
     }
     if told.is_ok() {
-        let _ = put_all(errors, b"refused 142\n");
+        let _ = put_all(errors, b"refused 142\n"); // WriteFault
     }
     1
 }

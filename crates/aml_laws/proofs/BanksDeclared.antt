@@ -33,6 +33,7 @@ use Rattle.aml_meaning.specs.Run.{Run, lift}
 use Rattle.aml_meaning.specs.State.{State}
 use Rattle.aml_meaning.specs.Tasks.{task, operand_value, value_at}
 use Rattle.aml_laws.specs.BankDeclarations.{bank_field, Finds, FindsField}
+use Rattle.aml_laws.specs.FieldsPut.{FindsNoRegion, no_region, other_object, FindsNoUnit, no_unit, no_field, in_a_bank, behind_an_index}
 
 -- ---- what names find
 
@@ -60,13 +61,25 @@ module _ {S : Type 0} (w : State S) (scope : List Seg) (n : Name) where
   source_by number source (u, f, same) = field_by number (object.FieldUnit u) f ∙ ap (λ x. (in_region number x, w)) same
 
 -- an object that is no operation region, and one that is no field unit
-no_region : (number : ℕ) (o : NamedObject) → ((r : OperationRegion) → o ≢ object.OperationRegion r) → region_number number o ≡ Err (refusal.Value WrongType)
-no_region number (object.OperationRegion r) other = absurd (other r refl)
-no_region number o other = refl
+not_region : (number : ℕ) (o : NamedObject) → ((r : OperationRegion) → o ≢ object.OperationRegion r) → region_number number o ≡ Err (refusal.Value WrongType)
+not_region number (object.OperationRegion r) other = absurd (other r refl)
+not_region number o other = refl
 
-no_field : (number : ℕ) (o : NamedObject) → ((u : FieldUnit) → o ≢ object.FieldUnit u) → field_number number o ≡ Err (refusal.Value WrongType)
-no_field number (object.FieldUnit u) other = absurd (other u refl)
-no_field number o other = refl
+not_field : (number : ℕ) (o : NamedObject) → ((u : FieldUnit) → o ≢ object.FieldUnit u) → field_number number o ≡ Err (refusal.Value WrongType)
+not_field number (object.FieldUnit u) other = absurd (other u refl)
+not_field number o other = refl
+
+-- the same, of all of these names
+module _ {S : Type 0} (w : State S) (scope : List Seg) (n : Name) where
+  pub none_there : (e : Refusal) → FindsNoRegion w scope n e → region_found scope n w ≡ (Err e, w)
+  none_there _ (no_region e lost) = region_lost w scope n e lost
+  none_there _ (other_object number o f other) = region_by w scope n number o f ∙ ap (λ x. (x, w)) (not_region number o other)
+
+  pub no_unit_there : (e : Refusal) → FindsNoUnit w scope n e → field_found scope n w ≡ (Err e, w)
+  no_unit_there _ (no_unit e lost) = field_lost w scope n e lost
+  no_unit_there _ (no_field number o f other) = field_by w scope n number o f ∙ ap (λ x. (x, w)) (not_field number o other)
+  no_unit_there _ (in_a_bank number region bank f) = source_by w scope n number (sources.Bank region bank) f
+  no_unit_there _ (behind_an_index number i d f) = source_by w scope n number (sources.Index i d) f
 
 module _ {S : Type 0} (accesses : Accesses S) (scope : List Seg) (depth : ℕ) (region bank : Name) (value : Tree) (flags : ℕ) (fields : Trees) (s : State S × ℕ) (wide : s.0.profile ≡ profiles.Wide) where
   abbrev declared_by : Run S Flow
@@ -92,7 +105,7 @@ module _ {S : Type 0} (accesses : Accesses S) (scope : List Seg) (depth : ℕ) (
 
   pub other_region_refused : (number : ℕ) (o : NamedObject) → Finds s.0 scope region number o → ((r : OperationRegion) → o ≢ object.OperationRegion r) → declared_by s ≡ (Err (refusal.Value WrongType), s)
   unfolding go_on
-  other_region_refused number o there other = by_region (Err (refusal.Value WrongType)) (region_by s.0 scope region number o there ∙ ap (λ x. (x, s.0)) (no_region number o other))
+  other_region_refused number o there other = by_region (Err (refusal.Value WrongType)) (region_by s.0 scope region number o there ∙ ap (λ x. (x, s.0)) (not_region number o other))
 
   module _ (number : ℕ) (r : OperationRegion) (there : Finds s.0 scope region number (object.OperationRegion r)) where
     -- then the bank
@@ -107,7 +120,7 @@ module _ {S : Type 0} (accesses : Accesses S) (scope : List Seg) (depth : ℕ) (
 
     pub other_bank_refused : (b : ℕ) (o : NamedObject) → Finds s.0 scope bank b o → ((u : FieldUnit) → o ≢ object.FieldUnit u) → declared_by s ≡ (Err (refusal.Value WrongType), s)
     unfolding go_on
-    other_bank_refused b o found other = by_bank (Err (refusal.Value WrongType)) (field_by s.0 scope bank b o found ∙ ap (λ x. (x, s.0)) (no_field b o other))
+    other_bank_refused b o found other = by_bank (Err (refusal.Value WrongType)) (field_by s.0 scope bank b o found ∙ ap (λ x. (x, s.0)) (not_field b o other))
 
     pub banked_bank_refused : (b q : ℕ) (held : Bank) → FindsField s.0 scope bank b (sources.Bank q held) → declared_by s ≡ (Err (refusal.Value WrongType), s)
     unfolding go_on

@@ -35,7 +35,7 @@ use Rattle.aml_laws.specs.BufferFieldTerms.{create, create_field, HasSize, of_bi
 use Rattle.aml_laws.proofs.NamesDeclared.{declaring_so}
 use Rattle.aml_laws.proofs.TreesCost.{term_begins}
 
-field_there : {S : Type 0} (w : State S) (o first count : ℕ) → HasBits w o (first + count) → on_objects (new_buffer_field o first count) w ≡ (Ok (bits_from o first count), w)
+pub field_there : {S : Type 0} (w : State S) (o first count : ℕ) → HasBits w o (first + count) → on_objects (new_buffer_field o first count) w ≡ (Ok (bits_from o first count), w)
 unfolding on_objects new_buffer_field buffer_at settle go_on ◌>>=◌
 field_there w o first count h =
     let small : nat_lt (first + count) (2 ^ 64) ≡ true = below (first + count) (length h.bytes) h.short h.within in

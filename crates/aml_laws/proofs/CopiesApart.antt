@@ -65,7 +65,7 @@ CopyAllIf first h es done (Err e) after = Unit {0}
 same_copy : (first : ℕ) (h : Objects) (v : Value) → IsCopy first h v v → Copy first h v v h
 same_copy first h v is = record { made = []; adds = sym (append-nil h); copy = is }
 
-there_now : (h : Objects) (x : Object) → slice_get (h ++ x ∷ []) (length h) ≡ Some x
+pub there_now : (h : Objects) (x : Object) → slice_get (h ++ x ∷ []) (length h) ≡ Some x
 there_now h x = ap (λ xs. slice_get xs (length h)) (sym (append-nil (h ++ x ∷ []))) ∙ stands_there h [] x
 
 -- ---- strings and buffers

@@ -27,10 +27,10 @@ use Rattle.aml_laws.specs.OperatorTerms.{two_to, divide, IsDivision, StoresTo, G
 use Rattle.aml_laws.proofs.TreesCost.{term_begins}
 use Rattle.aml_laws.proofs.OperatorsComputed.{stored_at, operator_gives, operator_refused}
 
-not_nothing : (b : ℕ) → 0 < b → (b == 0) ≡ false
+pub not_nothing : (b : ℕ) → 0 < b → (b == 0) ≡ false
 not_nothing b some = search rules
 
-is_division : (a b : ℕ) → 0 < b → IsDivision a b (a / b) (a % b)
+pub is_division : (a b : ℕ) → 0 < b → IsDivision a b (a / b) (a % b)
 is_division a b some = record { less = mod-lt a some; whole = div-add-mod' a b }
 
 module _ {S : Type 0} (accesses : Accesses S) (scope : List Seg) (depth : ℕ) (x y : Tree) (w : State S) (steps a : ℕ) (after : State S × ℕ) where

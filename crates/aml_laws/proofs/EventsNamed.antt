@@ -9,6 +9,7 @@ use Rattle.aml_path.specs.declared.segment.Seg.{Seg}
 use Rattle.aml_objects.specs.declared.entry.Entry.{Entry}
 use Rattle.aml_objects.specs.declared.entry.NamedObject.{NamedObject}
 use Rattle.aml_objects.specs.declared.entry.NamedObject.TheVariants as object
+use Rattle.aml_objects.specs.declared.value.Reference.{Reference}
 use Rattle.aml_objects.specs.declared.value.Reference.TheVariants as reference
 use Rattle.aml_objects.specs.declared.value.Slot.TheVariants.{Local, Argument}
 use Rattle.aml_objects.specs.declared.value.Value.{Value}
@@ -24,26 +25,26 @@ use Rattle.aml_meaning.specs.State.{State}
 use Rattle.aml_meaning.specs.StoreTargets.{latest_frame, slot_held, own_slot, declaration, entry_declared, name_tested, declared_number}
 use Rattle.aml_meaning.specs.Events.{name_referred, named_by_value, named_by_argument, name_at, event_named, signals_of, signals_under, event_changed, waited}
 use Rattle.aml_laws.specs.Events.{IsNoEvent}
-use Rattle.aml_laws.specs.OperatorTerms.{NamesTarget, slot}
-use Rattle.aml_laws.specs.ObjectTerms.{NamesDeclaration, by_name, by_argument, NamesNoDeclaration, of_nothing, of_local, of_argument}
+use Rattle.aml_laws.specs.OperatorTerms.{NamesTarget}
+use Rattle.aml_laws.specs.ObjectTerms.{Declared, by_name, by_argument, by_reference, Undeclared, nowhere, a_local, an_argument, a_reference, NamesDeclaration, NamesNoDeclaration}
 use Rattle.aml_laws.specs.StoredParts.{ArgumentHolds}
 
--- ---- what operands name
+-- ---- the declaration that a target names
 
 module _ {S : Type 0} (w : State S) where
-  name_is : (path : List Seg) (e : Entry) → get w.names.map path ≡ Some e → event_named (targets.Name path) w ≡ (Ok (Some e.number), w)
+  pub name_is : (path : List Seg) (e : Entry) → get w.names.map path ≡ Some e → event_named (targets.Name path) w ≡ (Ok (Some e.number), w)
   unfolding name_at declared_number give go_on ◌>>=◌
   name_is path e at = rw at refl
 
-  argument_is : (i last : ℕ) (v : Value) → ArgumentHolds w i last v → event_named (targets.Slot (Argument i)) w ≡ named_by_value v w
+  pub argument_is : (i last : ℕ) (v : Value) → ArgumentHolds w i last v → event_named (targets.Slot (Argument i)) w ≡ named_by_value v w
   unfolding named_by_argument own_slot latest_frame slot_held go_on ◌>>=◌
   argument_is i last v h = rw (h.latest, h.stands, h.holds) refl
 
-  reference_is : (path : List Seg) (e : Entry) → Numbered w.names → get w.names.map path ≡ Some e → named_by_value (value.Reference (reference.Name e.number)) w ≡ (Ok (Some e.number), w)
+  pub reference_is : (path : List Seg) (e : Entry) → Numbered w.names → get w.names.map path ≡ Some e → named_by_value (value.Reference (reference.Name e.number)) w ≡ (Ok (Some e.number), w)
   unfolding name_referred name_tested declaration give go_on ◌>>=◌
   reference_is path e standing at = rw (numbered_found w.names standing path e at) refl
 
-  no_reference : (v : Value) → ((n : ℕ) → v ≡ value.Reference (reference.Name n) → ⊥) → named_by_value v w ≡ (Ok None, w)
+  pub no_reference : (v : Value) → ((n : ℕ) → v ≡ value.Reference (reference.Name n) → ⊥) → named_by_value v w ≡ (Ok None, w)
   unfolding give
   no_reference value.Uninitialized not = refl
   no_reference (value.Integer n) not = refl
@@ -55,13 +56,30 @@ module _ {S : Type 0} (w : State S) where
   no_reference (value.Reference (reference.Element o i)) not = refl
   no_reference (value.Reference (reference.Byte o i)) not = refl
 
-  nowhere_is : event_named targets.Nowhere w ≡ (Ok None, w)
+  pub nowhere_is : event_named targets.Nowhere w ≡ (Ok None, w)
   unfolding give
   nowhere_is = refl
 
-  local_is : (i : ℕ) → event_named (targets.Slot (Local i)) w ≡ (Ok None, w)
+  pub local_is : (i : ℕ) → event_named (targets.Slot (Local i)) w ≡ (Ok None, w)
   unfolding give
   local_is i = refl
+
+module _ {S : Type 0} (w : State S) where
+  pub declared_is : (t : StoreTarget) (at : ℕ) → Declared w t at → event_named t w ≡ (Ok (Some at), w)
+  declared_is _ _ (by_name path e at) = name_is w path e at
+  declared_is _ _ (by_argument i last path e holds apart at) = argument_is w i last (value.Reference (reference.Name e.number)) holds ∙ reference_is w path e apart at
+  declared_is _ _ (by_reference path e apart at) = reference_is w path e apart at
+
+  pub undeclared_is : (t : StoreTarget) → Undeclared w t → event_named t w ≡ (Ok None, w)
+  undeclared_is _ nowhere = nowhere_is w
+  undeclared_is _ (a_local i) = local_is w i
+  undeclared_is _ (an_argument i last v holds not) = argument_is w i last v holds ∙ no_reference w v not
+  undeclared_is _ (a_reference r not) = no_reference w (value.Reference r) (λ n is. not n (same_reference r (reference.Name n) is))
+    where
+      same_reference : (r q : Reference) → ◌≡◌ {A = Value} (value.Reference r) (value.Reference q) → r ≡ q
+      same_reference r q is = cc is
+
+-- ---- what operands name
 
 -- the target of such an operand, and the number that it names
 pub record Named {S : Type 0} (scope : List Seg) (w : State S) (p : Part) (at : ℕ) : Type 0 where
@@ -76,14 +94,10 @@ pub record Unnamed {S : Type 0} (scope : List Seg) (w : State S) (p : Part) : Ty
 
 module _ {S : Type 0} (scope : List Seg) (w : State S) where
   pub named : (p : Part) (at : ℕ) → NamesDeclaration scope w p at → Named scope w p at
-  named _ _ (by_name p path e names at) = record { target = targets.Name path; names = names; is = name_is w path e at }
-  named _ _ (by_argument op i last path e names holds standing at) =
-      record { target = targets.Slot (Argument i); names = slot op (Argument i) names; is = argument_is w i last (value.Reference (reference.Name e.number)) holds ∙ reference_is w path e standing at }
+  named p at h = record { target = h.target; names = h.names; is = declared_is w h.target at h.declared }
 
   pub unnamed : (p : Part) → NamesNoDeclaration scope w p → Unnamed scope w p
-  unnamed _ (of_nothing p names) = record { target = targets.Nowhere; names = names; is = nowhere_is w }
-  unnamed _ (of_local op i names) = record { target = targets.Slot (Local i); names = slot op (Local i) names; is = local_is w i }
-  unnamed _ (of_argument op i last v names holds not) = record { target = targets.Slot (Argument i); names = slot op (Argument i) names; is = argument_is w i last v holds ∙ no_reference w v not }
+  unnamed p h = record { target = h.target; names = h.names; is = undeclared_is w h.target h.undeclared }
 
 -- ---- what is no event
 

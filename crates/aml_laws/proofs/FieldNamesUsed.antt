@@ -7,6 +7,8 @@ use Rattle.ar_space.specs.Accesses.{Accesses}
 use Rattle.ar_space.specs.Outcome.{Outcome}
 use Rattle.ar_space.specs.Change.{give, settle, go_on, ◌>>=◌}
 use Rattle.ar_space.specs.declared.refusal.Refusal.{Refusal}
+use Rattle.ar_space.specs.declared.refusal.Refusal.TheVariants as refusal
+use Rattle.ar_space.specs.declared.refusal.EvaluationFault.TheVariants.{ObjectLimit}
 use Rattle.aml_path.specs.declared.segment.Seg.{Seg}
 use Rattle.aml_path.specs.Paths.{Name}
 use Rattle.aml_grammar.specs.declared.opcode.Opcode.TheVariants as opcodes
@@ -46,9 +48,11 @@ use Rattle.aml_laws.specs.OperatorTerms.{one_to, named, GivesValue, Gives, IsRef
 use Rattle.aml_laws.specs.NamesUsed.{use_of}
 use Rattle.aml_laws.specs.JoinedTerms.{with_object, Fits}
 use Rattle.aml_laws.specs.IntegersOfValues.{lowest_first}
+use Rattle.aml_laws.specs.MatchedValues.{Exceeds}
 use Rattle.aml_laws.specs.FieldNames.{IsField, of_unit, of_buffer, NamesField, bits_read_at, bits_written_at}
 use Rattle.aml_laws.proofs.FoundNamesStand.{found_stands}
 use Rattle.aml_laws.proofs.IntegersOfValues.{little_is}
+use Rattle.aml_laws.proofs.LimitsRefused.{no_buffer_made}
 use Rattle.aml_laws.proofs.LimitsTaken.{buffer_made}
 use Rattle.aml_laws.proofs.OperatorsComputed.{target_is}
 use Rattle.aml_laws.proofs.TreesCost.{term_begins}
@@ -71,6 +75,10 @@ module _ {S : Type 0} (w : State S) (bits : ℕ) where
   pub buffer_of_bits : (bytes : List ℕ) → bits_of w.width < bits → Fits w bytes → value_of_bits bits bytes w ≡ (Ok (value.Buffer (length w.objects)), with_object w (object.Buffer bytes))
   unfolding value_of_bits on_objects
   buffer_of_bits bytes many fits = let long : nat_lt (bits_of w.width) bits ≡ true = grind (arith, nat_tests) in rw (long, buffer_made bytes w.objects fits.0 fits.1) refl
+
+  pub no_room_for_bits : (bytes : List ℕ) → bits_of w.width < bits → Exceeds w bytes → value_of_bits bits bytes w ≡ (Err (refusal.Evaluation ObjectLimit), w)
+  unfolding value_of_bits on_objects
+  no_room_for_bits bytes many exceeds = let long : nat_lt (bits_of w.width) bits ≡ true = grind (arith, nat_tests) in rw (long, no_buffer_made bytes w.objects exceeds) refl
 
 -- ---- a name that is read
 
@@ -112,11 +120,11 @@ module _ {S : Type 0} (w : State S) (scope : List Seg) (n : Name) (f : Field) (b
   pub there : get w.names.map h.path ≡ Some (record { number = h.number; object = h.object })
   there = let s = found_stands w.names.map scope n (h.path, record { number = h.number; object = h.object }) h.finds in s.there
 
-  field_is_stored : stored (targets.Name h.path) v w ≡ (Ok (store.Field f), w)
+  pub field_is_stored : stored (targets.Name h.path) v w ≡ (Ok (store.Field f), w)
   unfolding store_in_name held_at give go_on ◌>>=◌
   field_is_stored = rw (there, holding_is h.object f bits h.is) refl
 
-  field_is_copied : copied_to (targets.Name h.path) v w ≡ (Ok (store.Field f), w)
+  pub field_is_copied : copied_to (targets.Name h.path) v w ≡ (Ok (store.Field f), w)
   unfolding copy_in_name held_at give go_on ◌>>=◌
   field_is_copied = rw (there, holding_is h.object f bits h.is) refl
 
@@ -125,9 +133,9 @@ module _ {S : Type 0} (accesses : Accesses S) (depth : ℕ) (f : Field) (v : Val
   unfolding field_stored bytes_in lift go_on ◌>>=◌
   written_so bytes r after converts writes = rw converts writes
 
-  unconverted : (e : Refusal) → to_buffer_of s.0.width (content_in s.0.objects v) ≡ Err e → field_written accesses (meaning accesses) depth f v s ≡ (Err e, s)
+  pub not_converted : (e : Refusal) → to_buffer_of s.0.width (content_in s.0.objects v) ≡ Err e → field_written accesses (meaning accesses) depth f v s ≡ (Err e, s)
   unfolding field_stored bytes_in lift go_on ◌>>=◌
-  unconverted e is = rw is refl
+  not_converted e is = rw is refl
 
 module _ {S : Type 0} (accesses : Accesses S) (scope : List Seg) (depth : ℕ) (x : Tree) (n : Name) (w : State S) (steps : ℕ) (v : Value) (between : State S × ℕ) (gives : GivesValue accesses scope depth x (w, steps) v between) (f : Field) (bits : ℕ) (h : NamesField between.0 scope n f bits) where
   abbrev then_gives : Outcome (Unit {0}) × (State S × ℕ) → Outcome Flow × (State S × ℕ)
@@ -168,5 +176,5 @@ module _ {S : Type 0} (accesses : Accesses S) (scope : List Seg) (depth : ℕ) (
       → IsRefused accesses scope depth (one_to opcodes.Store x (name n)) (w, suc steps) e between × IsRefused accesses scope depth (one_to opcodes.CopyObject x (name n)) (w, suc steps) e between
   unfolding go_on
   field_takes_nothing e is =
-      let done = unconverted accesses depth f v between e is in
+      let done = not_converted accesses depth f v between e is in
       (store_begins ∙ ap then_gives done, copy_begins ∙ ap then_gives done)

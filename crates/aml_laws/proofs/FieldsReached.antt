@@ -112,7 +112,7 @@ module _ {S : Type 0} (w : State S) (scope : List Seg) (n : Name) (f : Field) (b
   unfolding name_read held_at settle go_on ◌>>=◌
   field_is_held = rw (there w scope n f bits h value.Uninitialized, holding_is h.object f bits h.is) refl
 
-integer_is : {S : Type 0} (w : State S) (b : ℕ) (bytes : List ℕ) → integer_of_bits (b ∷ bytes) w ≡ (Ok (lowest_first (take (bytes_of w.width) (b ∷ bytes))), w)
+pub integer_is : {S : Type 0} (w : State S) (b : ℕ) (bytes : List ℕ) → integer_of_bits (b ∷ bytes) w ≡ (Ok (lowest_first (take (bytes_of w.width) (b ∷ bytes))), w)
 unfolding integer_of_bits
 integer_is w b bytes = ap (λ (n : ℕ). (Ok n, w)) (little_is (bytes_of w.width) (b ∷ bytes))
 

@@ -21,6 +21,7 @@ pub mod BridgesTogether
 pub mod BufferFieldAnswers
 pub mod BufferFieldWrites
 pub mod BufferFieldsDeclared
+pub mod BufferFieldsRefused
 pub mod BusesFound
 pub mod BytesListed
 pub mod ChangesNothing
@@ -40,6 +41,7 @@ pub mod ConstantsGiven
 pub mod ConversionTermsDone
 pub mod ConversionsAnswered
 pub mod ConversionsSpelled
+pub mod ConvertedValues
 pub mod CopiesAnswered
 pub mod CopiesApart
 pub mod CoreRefuses
@@ -58,6 +60,7 @@ pub mod CountedTrees
 pub mod CountedMatches
 pub mod CountedWideTerms
 pub mod Counting
+pub mod CountsPut
 pub mod CountsTold
 pub mod DataFormed
 pub mod DecimalCodes
@@ -66,9 +69,11 @@ pub mod DeclaredNamesStand
 pub mod Deepening
 pub mod DefaultDepth
 pub mod Divisions
+pub mod DivisionsPut
 pub mod EndOfCalls
 pub mod EvaluationsPreserve
 pub mod EvaluationsTogether
+pub mod EventsBehind
 pub mod EventsCounted
 pub mod EventsNamed
 pub mod EventsPreserve
@@ -86,7 +91,9 @@ pub mod FaultsOfTerms
 pub mod FaultsOfMatches
 pub mod FaultsOfWideTerms
 pub mod FieldNamesUsed
+pub mod FieldsPut
 pub mod FieldsReached
+pub mod FieldsTaken
 pub mod FormedElsewhere
 pub mod FieldSources
 pub mod FieldsInOrder
@@ -99,6 +106,7 @@ pub mod FramesEnded
 pub mod FramesOpened
 pub mod HandedBack
 pub mod HandedIn
+pub mod HandedOut
 pub mod IndexRegisters
 pub mod IndexTargets
 pub mod IndexedFields
@@ -112,6 +120,7 @@ pub mod ListsGoOn
 pub mod ListsWithinTerms
 pub mod MatchesFound
 pub mod MatchesRefused
+pub mod NamesCounted
 pub mod NamesDeclared
 pub mod NamesGiven
 pub mod NamesHandedOut
@@ -125,6 +134,7 @@ pub mod NothingPassed
 pub mod ObjectTermsDone
 pub mod ObjectsAsked
 pub mod OperandsRefused
+pub mod OperandsStop
 pub mod OperatorLaws
 pub mod OperatorsComputed
 pub mod OsiAsked
@@ -133,6 +143,7 @@ pub mod PartsCounted
 pub mod PartsIndexed
 pub mod PartsStored
 pub mod PassableRefusals
+pub mod PutIntoTargets
 pub mod ReadingChanges
 pub mod ReadingRefusals
 pub mod StoreTermsDone
@@ -140,13 +151,14 @@ pub mod TablesRefused
 pub mod TermRefusals
 pub mod TestsTold
 pub mod ValuesJoined
-pub mod ValuesMissing
+pub mod ValuesMatched
 pub mod ValuesOfEvents
 pub mod ValuesOfFields
 pub mod ValuesOfObjects
 pub mod ValuesOfOperands
 pub mod IntegersOfOperators
 pub mod IntegersOfPredefined
+pub mod ValuesLedTo
 pub mod ValuesOfRules
 pub mod ValuesOfSizes
 pub mod IntegersOfTables
@@ -189,8 +201,10 @@ pub mod ReferenceChains
 pub mod ReferencesToNames
 pub mod ReferencesToSlots
 pub mod ReferencesToTargets
+pub mod ReferringTargets
 pub mod RefusedDeclarations
 pub mod RegionsDeclared
+pub mod RegionsPut
 pub mod RegisterAccesses
 pub mod RuleByParts
 pub mod RulesPreserve
@@ -209,6 +223,7 @@ pub mod StoreTargetsPreserve
 pub mod StoredCopies
 pub mod StoredNames
 pub mod StoreTargetsTogether
+pub mod TargetsActedOn
 pub mod Together
 pub mod TooDeepForSettings
 pub mod TreesCost

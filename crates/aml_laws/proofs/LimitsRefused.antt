@@ -1,6 +1,6 @@
 -- Each limit is refused exactly above it.
-use Rattle.std.specs.Prelude.{◌≡◌, ◌≤◌, ◌<◌, ℕ, nat_le, nat_lt, true, false, List, [], ◌∷◌, ◌++◌, length, Ok, Err, refl}
-use Rattle.std.proofs.Common.{arith}
+use Rattle.std.specs.Prelude.{◌≡◌, ◌⊎◌, ◌≤◌, ◌<◌, ℕ, nat_le, nat_lt, Bool, true, false, List, [], ◌∷◌, ◌++◌, length, Ok, Err, refl}
+use Rattle.std.proofs.Common.{arith, inl, inr}
 use Rattle.std.proofs.lemmas.Bool.Decides.{nat_tests}
 use Rattle.ar_space.specs.declared.refusal.Refusal.TheVariants as refusal
 use Rattle.ar_space.specs.declared.refusal.EvaluationFault.TheVariants.{ObjectLimit, CallDepth, DepthSetting}
@@ -10,6 +10,7 @@ use Rattle.aml_path.specs.declared.segment.Seg.{Seg}
 use Rattle.aml_objects.specs.Objects.{Objects, make, fits, few, make_string, make_buffer, make_package}
 use Rattle.aml_objects.specs.declared.object.Element.{Element}
 use Rattle.aml_objects.specs.declared.object.Object.{Object}
+use Rattle.aml_objects.specs.declared.object.Object.TheVariants as object
 use Rattle.aml_objects.specs.declared.value.Value.{Value}
 use Rattle.aml_meaning.specs.State.{State}
 use Rattle.aml_meaning.specs.Run.{lift}
@@ -39,6 +40,16 @@ string_refused bytes h full = rw (bytes_refused bytes full) refl
 pub buffer_refused : (bytes : List ℕ) (h : Objects) → 1048576 < length bytes → make_buffer bytes h ≡ (Err (refusal.Evaluation ObjectLimit), h)
 unfolding make_buffer settle go_on ◌>>=◌
 buffer_refused bytes h full = rw (bytes_refused bytes full) refl
+
+-- a buffer for which there is no room, in either way
+no_room_for_buffer : (bytes : List ℕ) (h : Objects) → 262144 ≤ length h → (c : Bool) → nat_lt 1048576 (length bytes) ≡ c → make_buffer bytes h ≡ (Err (refusal.Evaluation ObjectLimit), h)
+unfolding make_buffer fits settle go_on ◌>>=◌
+no_room_for_buffer bytes h full true is = rw is refl
+no_room_for_buffer bytes h full false is = rw (is, object_refused (object.Buffer bytes) h full) refl
+
+pub no_buffer_made : (bytes : List ℕ) (h : Objects) → (1048576 < length bytes) ⊎ (262144 ≤ length h) → make_buffer bytes h ≡ (Err (refusal.Evaluation ObjectLimit), h)
+no_buffer_made bytes h (inl many) = buffer_refused bytes h many
+no_buffer_made bytes h (inr full) = no_room_for_buffer bytes h full (nat_lt 1048576 (length bytes)) refl
 
 few_refused : (es : List Element) → 65535 < length es → few es ≡ Err (refusal.Evaluation ObjectLimit)
 unfolding few

@@ -180,10 +180,10 @@ module _ {S : Type 0} (accesses : Accesses S) (depth : ℕ) (k l : MatchOperator
 
 -- ---- the term
 
-is_below : (i n : ℕ) → i < n → nat_lt i n ≡ true
+pub is_below : (i n : ℕ) → i < n → nat_lt i n ≡ true
 is_below i n l = grind (arith, nat_tests)
 
-is_past : (i n : ℕ) → n ≤ i → nat_lt i n ≡ false
+pub is_past : (i n : ℕ) → n ≤ i → nat_lt i n ≡ false
 is_past i n l = grind (arith, nat_tests)
 
 module _ {S : Type 0} (accesses : Accesses S) (scope : List Seg) (depth : ℕ) (p x y i : Tree) (w : State S) (steps : ℕ) (es : List Element) (a b start : ℕ) (after : State S × ℕ) (h : Matches accesses scope depth p x y i (w, steps) es a b start after) (j m : ℕ) (k l : MatchOperator) (one : IsNumberOf j k) (other : IsNumberOf m l) where

@@ -114,19 +114,27 @@ module _ {S : Type 0} (w : State S) (c u v t : Value) (j m : ℕ) where
   unfolding search_begun settle go_on ◌>>=◌
   begun_without_second o x is one none = rw (is, one, none) refl
 
-  begun_not : IsNoPackage c ⊎ (IsNoData u ⊎ IsNoData v) → search_begun c j u m v t w ≡ (Err (refusal.Value WrongType), w)
-  begun_not (inl none) = begun_without_package (no_package c none)
-  begun_not (inr (inl none)) = by (package_or_not c)
+  begun_without_tests : (test_of j u ≡ Err (refusal.Value WrongType)) ⊎ (test_of m v ≡ Err (refusal.Value WrongType)) → search_begun c j u m v t w ≡ (Err (refusal.Value WrongType), w)
+  begun_without_tests (inl none) = by (package_or_not c)
     where
       by : ((o : ℕ) × (package_of c ≡ Ok o)) ⊎ (package_of c ≡ Err (refusal.Value WrongType)) → search_begun c j u m v t w ≡ (Err (refusal.Value WrongType), w)
-      by (inl is) = begun_without_first is.0 is.1 (no_test j u none)
+      by (inl is) = begun_without_first is.0 is.1 none
       by (inr not) = begun_without_package not
-  begun_not (inr (inr none)) = by (package_or_not c) (test_or_not j u)
+  begun_without_tests (inr none) = by (package_or_not c) (test_or_not j u)
     where
       by : ((o : ℕ) × (package_of c ≡ Ok o)) ⊎ (package_of c ≡ Err (refusal.Value WrongType)) → ((x : MatchTest) × (test_of j u ≡ Ok x)) ⊎ (test_of j u ≡ Err (refusal.Value WrongType)) → search_begun c j u m v t w ≡ (Err (refusal.Value WrongType), w)
-      by (inl is) (inl one) = begun_without_second is.0 one.0 is.1 one.1 (no_test m v none)
+      by (inl is) (inl one) = begun_without_second is.0 one.0 is.1 one.1 none
       by (inl is) (inr not) = begun_without_first is.0 is.1 not
       by (inr not) first = begun_without_package not
+
+  begun_without_operators : (5 < j) ⊎ (5 < m) → search_begun c j u m v t w ≡ (Err (refusal.Value WrongType), w)
+  begun_without_operators (inl more) = begun_without_tests (inl (rw (no_operator j more) refl))
+  begun_without_operators (inr more) = begun_without_tests (inr (rw (no_operator m more) refl))
+
+  begun_not : IsNoPackage c ⊎ (IsNoData u ⊎ IsNoData v) → search_begun c j u m v t w ≡ (Err (refusal.Value WrongType), w)
+  begun_not (inl none) = begun_without_package (no_package c none)
+  begun_not (inr (inl none)) = begun_without_tests (inl (no_test j u none))
+  begun_not (inr (inr none)) = begun_without_tests (inr (no_test m v none))
 
 module _ {S : Type 0} (accesses : Accesses S) (scope : List Seg) (depth : ℕ) (p x y i : Tree) (w : State S) (steps : ℕ) (c u v t : Value) (after : State S × ℕ) (h : GivesOperands accesses scope depth p x y i (w, steps) c u v t after) (j m : ℕ) where
   operands_asked : rule accesses (meaning accesses) (task scope depth (match p j x m y i)) (w, steps) ≡ match_rule accesses (meaning accesses) scope depth (match p j x m y i) (w, steps)
@@ -136,6 +144,9 @@ module _ {S : Type 0} (accesses : Accesses S) (scope : List Seg) (depth : ℕ) (
   operands_stop : search_begun c j u m v t after.0 ≡ (Err (refusal.Value WrongType), after.0) → match_rule accesses (meaning accesses) scope depth (match p j x m y i) (w, steps) ≡ (Err (refusal.Value WrongType), after)
   unfolding match_rule value_at operand_value settle lift give go_on ◌>>=◌
   operands_stop is = rw (h.gives_package, h.gives_first, h.gives_second, h.gives_start, is) refl
+
+  pub no_operators : (5 < j) ⊎ (5 < m) → IsRefused accesses scope depth (match p j x m y i) (w, suc steps) (refusal.Value WrongType) after
+  no_operators more = (term_begins accesses (task scope depth (match p j x m y i))).paid w steps ∙ (operands_asked ∙ operands_stop (begun_without_operators after.0 c u v t j m more))
 
   pub no_match : IsNoPackage c ⊎ (IsNoData u ⊎ IsNoData v) → IsRefused accesses scope depth (match p j x m y i) (w, suc steps) (refusal.Value WrongType) after
   no_match none = (term_begins accesses (task scope depth (match p j x m y i))).paid w steps ∙ (operands_asked ∙ operands_stop (begun_not after.0 c u v t j m none))

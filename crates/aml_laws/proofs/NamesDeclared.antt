@@ -58,7 +58,7 @@ module _ {S : Type 0} (w : State S) (path : List Seg) (o : NamedObject) where
       less_differs : (n k : ℕ) → n < k → (n == k) ≡ false
       less_differs n k less = grind (arith, nat_tests)
 
-  new_name_so : (depth : ℕ) → IsFree depth w path → new_name (module_level depth) path o w ≡ (Ok w.names.next, with_name w path o)
+  pub new_name_so : (depth : ℕ) → IsFree depth w path → new_name (module_level depth) path o w ≡ (Ok w.names.next, with_name w path o)
   unfolding new_name go_on ◌>>=◌
   new_name_so depth h = rw (outside depth h, put_there depth h) refl
 

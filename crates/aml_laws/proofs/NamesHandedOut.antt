@@ -30,7 +30,7 @@ path_for_nothing _ path (region r) = refl
 path_for_nothing _ path (mutex c) = refl
 path_for_nothing _ path (event c) = refl
 
-path_for : (o : NamedObject) (path : List Seg) → IsHandedOutAsPath o → held_or_path o (Ok path) ≡ Ok (uses.Path path)
+pub path_for : (o : NamedObject) (path : List Seg) → IsHandedOutAsPath o → held_or_path o (Ok path) ≡ Ok (uses.Path path)
 path_for _ path (holds_nothing o h) = path_for_nothing o path h
 path_for _ path (a_reference r) = refl
 

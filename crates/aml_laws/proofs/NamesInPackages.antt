@@ -48,7 +48,7 @@ use Rattle.aml_laws.proofs.TreesCost.{term_begins}
 
 -- ---- what a name stands for, one step on
 
-given_once : (n : ℕ) (o : NamedObject) (v r : Value) → o ≡ named.Data v → IsGivenBy n v r → named_once n o ≡ held.Value r
+pub given_once : (n : ℕ) (o : NamedObject) (v r : Value) → o ≡ named.Data v → IsGivenBy n v r → named_once n o ≡ held.Value r
 given_once n o v r is gives = ap (named_once n) is ∙ by v r gives
   where
     by : (v r : Value) → IsGivenBy n v r → named_once n (named.Data v) ≡ held.Value r
@@ -69,18 +69,18 @@ nothing_named n _ (region r) = refl
 nothing_named n _ (mutex c) = refl
 nothing_named n _ (event c) = refl
 
-field_named : (n : ℕ) (o : NamedObject) (f : Field) (bits : ℕ) → IsField o f bits → named_once n o ≡ held.Field f
+pub field_named : (n : ℕ) (o : NamedObject) (f : Field) (bits : ℕ) → IsField o f bits → named_once n o ≡ held.Field f
 field_named n _ _ _ (of_unit u) = refl
 field_named n _ _ _ (of_buffer b) = refl
 
 -- ---- DerefOf of an element that is a name
 
 module _ {S : Type 0} (w : State S) (o i : ℕ) (n : Name) (home : List Seg) (h : HoldsName w o i n home) where
-  name_is_read : (path : List Seg) (e : Entry) (x : Held) → found w.names.map home n ≡ Ok (path, e) → named_once e.number e.object ≡ x → dereferenced (reference.Element o i) w ≡ (Ok x, w)
+  pub name_is_read : (path : List Seg) (e : Entry) (x : Held) → found w.names.map home n ≡ Ok (path, e) → named_once e.number e.object ≡ x → dereferenced (reference.Element o i) w ≡ (Ok x, w)
   unfolding held_once name_once entry_found on_objects element_at give go_on ◌>>=◌
   name_is_read path e x finds is = rw (h.stands, h.is, finds, is) refl
 
-  name_is_missing : (e : Refusal) → found w.names.map home n ≡ Err e → dereferenced (reference.Element o i) w ≡ (Err e, w)
+  pub name_is_missing : (e : Refusal) → found w.names.map home n ≡ Err e → dereferenced (reference.Element o i) w ≡ (Err e, w)
   unfolding held_once name_once entry_found on_objects element_at give go_on ◌>>=◌
   name_is_missing e finds = rw (h.stands, h.is, finds) refl
 

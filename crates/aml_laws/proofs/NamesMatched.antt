@@ -35,12 +35,12 @@ use Rattle.aml_laws.proofs.MatchesFound.{IsTold, told, numbered}
 use Rattle.aml_laws.proofs.TreesCost.{term_begins}
 use Rattle.aml_laws.proofs.WideAsked.{asked_in_wide}
 
-both_met : (p q : Bool) (A B : Type 0) → IsTold p A → IsTold q B → A → B → (if p then q else false) ≡ true
+pub both_met : (p q : Bool) (A B : Type 0) → IsTold p A → IsTold q B → A → B → (if p then q else false) ≡ true
 both_met true true A B f g x y = refl
 both_met true false A B f g x y = absurd (g.1 refl y)
 both_met false q A B f g x y = absurd (f.1 refl x)
 
-one_missed : (p q : Bool) (A B : Type 0) → IsTold p A → IsTold q B → (A × B → ⊥) → (if p then q else false) ≡ false
+pub one_missed : (p q : Bool) (A B : Type 0) → IsTold p A → IsTold q B → (A × B → ⊥) → (if p then q else false) ≡ false
 one_missed true true A B f g not = absurd (not (f.0 refl, g.0 refl))
 one_missed true false A B f g not = refl
 one_missed false q A B f g not = refl

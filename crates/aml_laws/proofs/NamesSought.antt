@@ -5,6 +5,7 @@ use Rattle.ar_space.specs.declared.refusal.Refusal.{Refusal}
 use Rattle.ar_space.specs.declared.refusal.Refusal.TheVariants as refusal
 use Rattle.ar_space.specs.declared.refusal.NamespaceFault.TheVariants.{Exists, NotFound}
 use Rattle.ar_space.specs.Accesses.{Accesses}
+use Rattle.ar_space.specs.Outcome.{Outcome}
 use Rattle.ar_space.specs.Change.{give, settle, go_on, ◌>>=◌}
 use Rattle.aml_path.specs.declared.segment.Seg.{Seg}
 use Rattle.aml_path.specs.Paths.{Name}
@@ -18,20 +19,24 @@ use Rattle.aml_objects.specs.declared.value.Value.{Value}
 use Rattle.aml_objects.specs.declared.value.Value.TheVariants as value
 use Rattle.aml_convert.specs.Integers.{bits_of}
 use Rattle.aml_namespace.specs.Search.{found}
+use Rattle.aml_meaning.specs.declared.flow.Flow.{Flow}
 use Rattle.aml_meaning.specs.declared.flow.Flow.TheVariants as flow
 use Rattle.aml_meaning.specs.declared.store_target.StoreTarget.TheVariants as targets
 use Rattle.aml_meaning.specs.State.{State}
 use Rattle.aml_meaning.specs.Run.{lift}
 use Rattle.aml_meaning.specs.Tasks.{task}
 use Rattle.aml_meaning.specs.Readings.{integer_kept}
+use Rattle.aml_meaning.specs.Stores.{stored}
 use Rattle.aml_meaning.specs.OperatorTerms.{sought_name, sought_target, sought, reference_stored, conditional_rule}
 use Rattle.aml_meaning.specs.StoreTargets.{latest_frame, frame_found, slot_held, frame_number, slot_reference, unless_empty, slot_initialized, where_found, reference_if_found}
 use Rattle.aml_meaning.specs.Evaluation.{rule}
 use Rattle.aml_meaning.specs.Meaning.{meaning}
-use Rattle.aml_laws.specs.OperatorTerms.{alone, NamesSlot, slot, StoresTo, SlotHolds, SlotIsEmpty, Gives, IsRefused}
+use Rattle.aml_laws.specs.OperatorTerms.{alone, NamesSlot, slot, SlotHolds, SlotIsEmpty, Gives, IsRefused}
+use Rattle.aml_laws.specs.PutIntoTargets.{IsTaken, IsNotTaken, PutsReference}
 use Rattle.aml_laws.specs.ReferringTerms.{conditional, IsNumberedLast}
 use Rattle.aml_laws.proofs.TreesCost.{term_begins}
-use Rattle.aml_laws.proofs.OperatorsComputed.{target_is, stored_at}
+use Rattle.aml_laws.proofs.OperatorsComputed.{target_is}
+use Rattle.aml_laws.proofs.PutIntoTargets.{targeted_so}
 use Rattle.aml_laws.proofs.ConstantsGiven.{all_kept}
 
 some_reference : (v : Value) (r : Reference) → v ≢ value.Uninitialized → unless_empty v r ≡ Some r
@@ -63,21 +68,29 @@ kept_refusal (refusal.Input f) other = refl
 
 module _ {S : Type 0} (accesses : Accesses S) (scope : List Seg) (depth : ℕ) (w : State S) (steps : ℕ) (p q : Part) where
   -- what comes of what is sought
-  stored_so : (r : Reference) (end : State S) → StoresTo scope q (value.Reference r) w end → reference_stored accesses (meaning accesses) scope depth (conditional p q) r (w, steps) ≡ (Ok (flow.Value (value.Integer (2 ^ bits_of end.width - 1))), (end, steps))
+  stored_so : (r : Reference) (end : State S × ℕ) → IsTaken accesses scope depth stored q (value.Reference r) (w, steps) end
+      → reference_stored accesses (meaning accesses) scope depth (conditional p q) r (w, steps) ≡ (Ok (flow.Value (value.Integer (2 ^ bits_of end.0.width - 1))), end)
   unfolding reference_stored integer_kept lift give go_on ◌>>=◌
-  stored_so r end h = rw (stored_at accesses scope depth (conditional p q) 1 w steps q (value.Reference r) end h refl) (ap (λ (n : ℕ). (Ok (flow.Value (value.Integer n)), (end, steps))) (all_kept end.width))
+  stored_so r end taken = rw (targeted_so accesses scope depth (conditional p q) 1 q refl (value.Reference r) (w, steps) (Ok tt) end taken) (ap (λ (n : ℕ). (Ok (flow.Value (value.Integer n)), end)) (all_kept end.0.width))
 
-  referred_so : (r : Reference) (end : State S) → sought accesses (meaning accesses) scope depth (conditional p q) (Some p) (w, steps) ≡ (Ok (Some r), (w, steps)) → StoresTo scope q (value.Reference r) w end
-      → rule accesses (meaning accesses) (task scope depth (conditional p q)) (w, steps) ≡ (Ok (flow.Value (value.Integer (2 ^ bits_of end.width - 1))), (end, steps))
+  not_stored_so : (r : Reference) (e : Refusal) (end : State S × ℕ) → IsNotTaken accesses scope depth stored q (value.Reference r) (w, steps) e end → reference_stored accesses (meaning accesses) scope depth (conditional p q) r (w, steps) ≡ (Err e, end)
+  unfolding reference_stored go_on ◌>>=◌
+  not_stored_so r e end refuses = rw (targeted_so accesses scope depth (conditional p q) 1 q refl (value.Reference r) (w, steps) (Err e) end refuses) refl
+
+  found_so : (r : Reference) (y : Outcome Flow × (State S × ℕ)) → sought accesses (meaning accesses) scope depth (conditional p q) (Some p) (w, steps) ≡ (Ok (Some r), (w, steps)) → reference_stored accesses (meaning accesses) scope depth (conditional p q) r (w, steps) ≡ y
+      → rule accesses (meaning accesses) (task scope depth (conditional p q)) (w, steps) ≡ y
   unfolding rule conditional_rule go_on ◌>>=◌
-  referred_so r end is h = rw is (stored_so r end h)
+  found_so r y is comes = rw is comes
 
   none_so : sought accesses (meaning accesses) scope depth (conditional p q) (Some p) (w, steps) ≡ (Ok None, (w, steps)) → rule accesses (meaning accesses) (task scope depth (conditional p q)) (w, steps) ≡ (Ok (flow.Value (value.Integer 0)), (w, steps))
   unfolding rule conditional_rule give go_on ◌>>=◌
   none_so is = rw is refl
 
-  referred : (r : Reference) (end : State S) → sought accesses (meaning accesses) scope depth (conditional p q) (Some p) (w, steps) ≡ (Ok (Some r), (w, steps)) → StoresTo scope q (value.Reference r) w end → Gives accesses scope depth (conditional p q) (w, suc steps) (2 ^ bits_of end.width - 1) (end, steps)
-  referred r end is h = (term_begins accesses (task scope depth (conditional p q))).paid w steps ∙ referred_so r end is h
+  referred : (r : Reference) → sought accesses (meaning accesses) scope depth (conditional p q) (Some p) (w, steps) ≡ (Ok (Some r), (w, steps)) → PutsReference accesses scope depth (conditional p q) (w, steps) q r
+  referred r is end = (
+    λ taken. (term_begins accesses (task scope depth (conditional p q))).paid w steps ∙ found_so r (Ok (flow.Value (value.Integer (2 ^ bits_of end.0.width - 1))), end) is (stored_so r end taken),
+    λ e refuses. (term_begins accesses (task scope depth (conditional p q))).paid w steps ∙ found_so r (Err e, end) is (not_stored_so r e end refuses),
+  )
 
   not_referred : sought accesses (meaning accesses) scope depth (conditional p q) (Some p) (w, steps) ≡ (Ok None, (w, steps)) → Gives accesses scope depth (conditional p q) (w, suc steps) 0 (w, steps)
   not_referred is = (term_begins accesses (task scope depth (conditional p q))).paid w steps ∙ none_so is
@@ -93,8 +106,8 @@ module _ {S : Type 0} (accesses : Accesses S) (scope : List Seg) (depth : ℕ) (
   unfolding sought_name reference_if_found settle lift go_on ◌>>=◌
   none_sought n lost = rw lost refl
 
-  pub name_is_referred : (n : Name) (path : List Seg) (e : Entry) (end : State S) → found w.names.map scope n ≡ Ok (path, e) → StoresTo scope q (value.Reference (reference.Name e.number)) w end → Gives accesses scope depth (conditional (name n) q) (w, suc steps) (2 ^ bits_of end.width - 1) (end, steps)
-  name_is_referred n path e end finds h = referred accesses scope depth w steps (name n) q (reference.Name e.number) end (name_sought n path e finds) h
+  pub name_is_referred : (n : Name) (path : List Seg) (e : Entry) → found w.names.map scope n ≡ Ok (path, e) → PutsReference accesses scope depth (conditional (name n) q) (w, steps) q (reference.Name e.number)
+  name_is_referred n path e finds = referred accesses scope depth w steps (name n) q (reference.Name e.number) (name_sought n path e finds)
 
   pub none_is_referred : (n : Name) → found w.names.map scope n ≡ Err (refusal.Namespace NotFound) → Gives accesses scope depth (conditional (name n) q) (w, suc steps) 0 (w, steps)
   none_is_referred n lost = not_referred accesses scope depth w steps (name n) q (none_sought n lost)
@@ -114,9 +127,8 @@ module _ {S : Type 0} (accesses : Accesses S) (scope : List Seg) (depth : ℕ) (
   unfolding sought_target slot_reference latest_frame frame_number slot_initialized frame_found slot_held lift give go_on ◌>>=◌
   empty_sought op s names h numbered = rw (target_is accesses scope depth (conditional (inner (alone op)) q) 0 w steps (inner (alone op)) (targets.Slot s) (slot op s names) refl, h.latest, h.stands, numbered, h.stands, h.empty) refl
 
-  pub slot_is_referred : (op : Opcode) (s : Slot) (v : Value) (end : State S) → NamesSlot op s → (h : SlotHolds w s v) → IsNumberedLast w h.frame h.last → StoresTo scope q (value.Reference (reference.Slot s h.frame.number)) w end
-      → Gives accesses scope depth (conditional (inner (alone op)) q) (w, suc steps) (2 ^ bits_of end.width - 1) (end, steps)
-  slot_is_referred op s v end names h numbered stores = referred accesses scope depth w steps (inner (alone op)) q (reference.Slot s h.frame.number) end (slot_sought op s v names h numbered) stores
+  pub slot_is_referred : (op : Opcode) (s : Slot) (v : Value) → NamesSlot op s → (h : SlotHolds w s v) → IsNumberedLast w h.frame h.last → PutsReference accesses scope depth (conditional (inner (alone op)) q) (w, steps) q (reference.Slot s h.frame.number)
+  slot_is_referred op s v names h numbered = referred accesses scope depth w steps (inner (alone op)) q (reference.Slot s h.frame.number) (slot_sought op s v names h numbered)
 
   pub empty_is_not_referred : (op : Opcode) (s : Slot) → NamesSlot op s → (h : SlotIsEmpty w s) → IsNumberedLast w h.frame h.last → Gives accesses scope depth (conditional (inner (alone op)) q) (w, suc steps) 0 (w, steps)
   empty_is_not_referred op s names h numbered = not_referred accesses scope depth w steps (inner (alone op)) q (empty_sought op s names h numbered)

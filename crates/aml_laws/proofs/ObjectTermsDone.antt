@@ -90,14 +90,14 @@ module _ {S : Type 0} (accesses : Accesses S) (scope : List Seg) (depth : ℕ) (
   unfolding rule
   event_ruled k op is = rw is refl
 
-  event_begins : (k : EventChange) (op : Opcode) → kind_of op ≡ kinds.Wide (wide.Event k) → meaning accesses (task scope depth (on_target op p)) (w, suc steps) ≡ event_rule accesses (meaning accesses) k scope depth (on_target op p) (w, steps)
+  pub event_begins : (k : EventChange) (op : Opcode) → kind_of op ≡ kinds.Wide (wide.Event k) → meaning accesses (task scope depth (on_target op p)) (w, suc steps) ≡ event_rule accesses (meaning accesses) k scope depth (on_target op p) (w, steps)
   event_begins k op is = (term_begins accesses (task scope depth (on_target op p))).paid w steps ∙ (event_ruled k op is ∙ asked_in_wide op w steps core (event_rule accesses (meaning accesses) k scope depth (on_target op p)))
 
   wait_ruled : (x : Tree) → rule accesses (meaning accesses) (task scope depth (on_target_with opcodes.Wait p x)) (w, steps) ≡ in_wide opcodes.Wait (wait_rule accesses (meaning accesses) scope depth (on_target_with opcodes.Wait p x)) (w, steps)
   unfolding rule
   wait_ruled x = refl
 
-  wait_begins : (x : Tree) → meaning accesses (task scope depth (on_target_with opcodes.Wait p x)) (w, suc steps) ≡ wait_rule accesses (meaning accesses) scope depth (on_target_with opcodes.Wait p x) (w, steps)
+  pub wait_begins : (x : Tree) → meaning accesses (task scope depth (on_target_with opcodes.Wait p x)) (w, suc steps) ≡ wait_rule accesses (meaning accesses) scope depth (on_target_with opcodes.Wait p x) (w, steps)
   wait_begins x = (term_begins accesses (task scope depth (on_target_with opcodes.Wait p x))).paid w steps ∙ (wait_ruled x ∙ asked_in_wide opcodes.Wait w steps core (wait_rule accesses (meaning accesses) scope depth (on_target_with opcodes.Wait p x)))
 
   module _ (t : StoreTarget) (names : NamesTarget scope w p t) (event : Option ℕ) (is_named : event_named t w ≡ (Ok event, w)) where

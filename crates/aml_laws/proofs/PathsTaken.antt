@@ -58,14 +58,14 @@ module _ {S : Type 0} (w : State S) (path : List Seg) where
   unfolding on_names declared
   put_nowhere o none = rw none refl
 
-  no_new_name : (o : NamedObject) (depth : ℕ) (e : Refusal) → TakesNoName depth w path e → new_name (module_level depth) path o w ≡ (Err e, w)
+  pub no_new_name : (o : NamedObject) (depth : ℕ) (e : Refusal) → TakesNoName depth w path e → new_name (module_level depth) path o w ≡ (Err e, w)
   unfolding new_name go_on ◌>>=◌
   no_new_name o depth _ (taken parent e stands outside there) = rw (out_of_methods depth parent stands outside, not_put o parent e stands there) refl
   no_new_name o depth _ (below_nothing none) = rw (in_nothing depth none, put_nowhere o none) refl
   no_new_name o depth _ (below_method parent m level stands is) = rw (in_method depth parent m level stands is) refl
 
 module _ {S : Type 0} (accesses : Accesses S) (scope : List Seg) (depth : ℕ) (n : Name) (path : List Seg) (is : resolved n scope ≡ Ok path) where
-  declaring_stops : (t : Tree) (place : ℕ) (o : NamedObject) (s : State S × ℕ) (e : Refusal) → operand_of t place ≡ Some (name n) → TakesNoName depth s.0 path e → declaring (meaning accesses) scope depth t place o s ≡ (Err e, s)
+  pub declaring_stops : (t : Tree) (place : ℕ) (o : NamedObject) (s : State S × ℕ) (e : Refusal) → operand_of t place ≡ Some (name n) → TakesNoName depth s.0 path e → declaring (meaning accesses) scope depth t place o s ≡ (Err e, s)
   unfolding declaring settle lift go_on ◌>>=◌
   declaring_stops t place o s e at h = rw (at, is, no_new_name s.0 path o depth e h) refl
 

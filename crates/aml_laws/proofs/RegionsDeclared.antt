@@ -1,17 +1,20 @@
 -- What OperationRegion, Field and IndexField terms declare.
-use Rattle.std.specs.Prelude.{◌≡◌, ◌≢◌, ◌<◌, ◌+◌, ◌*◌, ◌/◌, ◌%◌, ◌==◌, ℕ, List, Bool, true, false, Some, Ok, Err, refl, if◌then◌else◌}
+use Rattle.std.specs.Prelude.{◌≡◌, ◌≢◌, ◌<◌, ◌+◌, ◌*◌, ◌/◌, ◌%◌, ◌==◌, ℕ, suc, List, Bool, true, false, Some, Ok, Err, refl, if◌then◌else◌}
 use Rattle.std.proofs.Common.{ap, sym, subst, arith, ◌∙◌}
 use Rattle.std.proofs.lemmas.Bool.{eqb-true}
 use Rattle.std.proofs.lemmas.Nat.{div-mul-add, mod-mul-add}
 use Rattle.std.specs.FinMap.{get}
 use Rattle.ar_space.specs.declared.space.Width.{Width}
 use Rattle.ar_space.specs.declared.space.Width.TheVariants.{W8, W16, W32, W64}
+use Rattle.ar_space.specs.declared.refusal.Refusal.{Refusal}
 use Rattle.ar_space.specs.Accesses.{Accesses}
 use Rattle.ar_space.specs.Change.{give, settle, go_on, ◌>>=◌}
 use Rattle.ar_space.specs.Outcome.{Outcome}
 use Rattle.aml_path.specs.declared.segment.Seg.{Seg}
 use Rattle.aml_path.specs.Paths.{Name, resolved}
 use Rattle.aml_grammar.specs.Tree.{Tree, Trees}
+use Rattle.aml_grammar.specs.declared.opcode.Opcode.{Opcode}
+use Rattle.aml_grammar.specs.declared.opcode.Opcode.TheVariants as opcodes
 use Rattle.aml_objects.specs.declared.entry.FieldSource.TheVariants as sources
 use Rattle.aml_objects.specs.declared.entry.FieldUnit.{FieldUnit}
 use Rattle.aml_objects.specs.declared.entry.NamedObject.{NamedObject}
@@ -22,19 +25,24 @@ use Rattle.aml_objects.specs.declared.entry.UpdateRule.TheVariants.{Preserve, Wr
 use Rattle.aml_objects.specs.declared.value.Value.{Value}
 use Rattle.aml_meaning.specs.declared.flow.Flow.{Flow}
 use Rattle.aml_meaning.specs.declared.flow.Flow.TheVariants as flow
+use Rattle.aml_meaning.specs.declared.profile.Profile.TheVariants as profiles
 use Rattle.aml_meaning.specs.DeclarationTerms.{declaring}
 use Rattle.aml_meaning.specs.Declaring.{new_name}
 use Rattle.aml_meaning.specs.Evaluation.{rule}
-use Rattle.aml_meaning.specs.FieldTerms.{width_numbered, access_width, rule_numbered, update_rule, has_connection, asked_if, region_rule, region_found, field_found, field_list_rule, index_list_rule, fields_laid}
+use Rattle.aml_meaning.specs.FieldTerms.{width_numbered, access_width, rule_numbered, update_rule, has_connection, asked_if, connections_asked, region_rule, field_list_rule, index_list_rule, fields_laid}
 use Rattle.aml_meaning.specs.Meaning.{meaning}
+use Rattle.aml_meaning.specs.Profiles.{asked_for}
 use Rattle.aml_meaning.specs.Readings.{integer_in}
 use Rattle.aml_meaning.specs.Run.{Run, lift}
 use Rattle.aml_meaning.specs.State.{State}
 use Rattle.aml_meaning.specs.Tasks.{Task, task, module_level, operand_value, value_at}
 use Rattle.aml_laws.specs.BankDeclarations.{Finds, FindsField}
+use Rattle.aml_laws.specs.FieldsPut.{TakesList, of_any, of_fields, FindsNoRegion, FindsNoUnit}
+use Rattle.aml_laws.specs.OperatorTerms.{IsRefused}
 use Rattle.aml_laws.specs.RegionTerms.{operation_region, field, index_field, IsRegionAt, HasFlags}
-use Rattle.aml_laws.proofs.BanksDeclared.{region_there, source_by}
+use Rattle.aml_laws.proofs.BanksDeclared.{region_there, none_there, source_by, no_unit_there}
 use Rattle.aml_laws.proofs.FieldsInOrder.{Put, entry_put, new_name_puts}
+use Rattle.aml_laws.proofs.TreesCost.{term_begins}
 
 -- ---- a name that is declared
 
@@ -77,16 +85,51 @@ module _ {S : Type 0} (accesses : Accesses S) (scope : List Seg) (depth : ℕ) (
 
 -- ---- Field and IndexField
 
-module _ {S : Type 0} (accesses : Accesses S) (scope : List Seg) (depth : ℕ) (flags : ℕ) (fields : Trees) (s : State S × ℕ) (plain : has_connection fields ≡ false) where
+-- a list that a profile takes
+module _ {S : Type 0} (w : State S) (fields : Trees) (op : Opcode) where
+  asked_in_any : w.profile ≡ profiles.Wide → (b : Bool) → asked_if b op w ≡ (Ok tt, w)
+  unfolding asked_for give
+  asked_in_any wide true = rw wide refl
+  asked_in_any wide false = refl
+
+  pub list_taken : TakesList w fields → connections_asked op fields w ≡ (Ok tt, w)
+  unfolding give
+  list_taken (of_any wide) = asked_in_any wide (has_connection fields)
+  list_taken (of_fields none) = rw none refl
+
+module _ {S : Type 0} (accesses : Accesses S) (scope : List Seg) (depth : ℕ) (flags : ℕ) (fields : Trees) (s : State S × ℕ) (takes : TakesList s.0 fields) where
   pub fields_of_region : (region : Name) (number : ℕ) (r : OperationRegion) → Finds s.0 scope region number (object.OperationRegion r)
       → rule accesses (meaning accesses) (task scope depth (field region flags fields)) s ≡ fields_laid scope depth (sources.Region number) flags fields s
   unfolding rule field_list_rule settle lift give ◌>>=◌ go_on
-  fields_of_region region number r there = rw (plain, region_there s.0 scope region number r there) refl
+  fields_of_region region number r there = rw (list_taken s.0 fields opcodes.Field takes, region_there s.0 scope region number r there) refl
 
   pub fields_behind_index : (index behind : Name) (i d p q : ℕ) → FindsField s.0 scope index i (sources.Region p) → FindsField s.0 scope behind d (sources.Region q)
       → rule accesses (meaning accesses) (task scope depth (index_field index behind flags fields)) s ≡ fields_laid scope depth (sources.Index i d) flags fields s
   unfolding rule index_list_rule settle lift give ◌>>=◌ go_on
-  fields_behind_index index behind i d p q one other = rw (plain, source_by s.0 scope index i (sources.Region p) one, source_by s.0 scope behind d (sources.Region q) other) refl
+  fields_behind_index index behind i d p q one other = rw (list_taken s.0 fields opcodes.IndexField takes, source_by s.0 scope index i (sources.Region p) one, source_by s.0 scope behind d (sources.Region q) other) refl
+
+  -- what the names have to find
+  pub no_list_in_region : (region : Name) (e : Refusal) → FindsNoRegion s.0 scope region e → rule accesses (meaning accesses) (task scope depth (field region flags fields)) s ≡ (Err e, s)
+  unfolding rule field_list_rule settle lift give ◌>>=◌ go_on
+  no_list_in_region region e none = rw (list_taken s.0 fields opcodes.Field takes, none_there s.0 scope region e none) refl
+
+  pub no_list_by_index : (index behind : Name) (e : Refusal) → FindsNoUnit s.0 scope index e → rule accesses (meaning accesses) (task scope depth (index_field index behind flags fields)) s ≡ (Err e, s)
+  unfolding rule index_list_rule settle lift give ◌>>=◌ go_on
+  no_list_by_index index behind e none = rw (list_taken s.0 fields opcodes.IndexField takes, no_unit_there s.0 scope index e none) refl
+
+  pub no_list_of_data : (index behind : Name) (i p : ℕ) (e : Refusal) → FindsField s.0 scope index i (sources.Region p) → FindsNoUnit s.0 scope behind e → rule accesses (meaning accesses) (task scope depth (index_field index behind flags fields)) s ≡ (Err e, s)
+  unfolding rule index_list_rule settle lift give ◌>>=◌ go_on
+  no_list_of_data index behind i p e one none = rw (list_taken s.0 fields opcodes.IndexField takes, source_by s.0 scope index i (sources.Region p) one, no_unit_there s.0 scope behind e none) refl
+
+module _ {S : Type 0} (accesses : Accesses S) (scope : List Seg) (depth : ℕ) (flags : ℕ) (fields : Trees) (w : State S) (steps : ℕ) (takes : TakesList w fields) where
+  pub region_asked : (region : Name) (e : Refusal) → FindsNoRegion w scope region e → IsRefused accesses scope depth (field region flags fields) (w, suc steps) e (w, steps)
+  region_asked region e none = (term_begins accesses (task scope depth (field region flags fields))).paid w steps ∙ no_list_in_region accesses scope depth flags fields (w, steps) takes region e none
+
+  pub index_asked : (index behind : Name) (e : Refusal) → FindsNoUnit w scope index e → IsRefused accesses scope depth (index_field index behind flags fields) (w, suc steps) e (w, steps)
+  index_asked index behind e none = (term_begins accesses (task scope depth (index_field index behind flags fields))).paid w steps ∙ no_list_by_index accesses scope depth flags fields (w, steps) takes index behind e none
+
+  pub data_asked : (index behind : Name) (i p : ℕ) (e : Refusal) → FindsField w scope index i (sources.Region p) → FindsNoUnit w scope behind e → IsRefused accesses scope depth (index_field index behind flags fields) (w, suc steps) e (w, steps)
+  data_asked index behind i p e one none = (term_begins accesses (task scope depth (index_field index behind flags fields))).paid w steps ∙ no_list_of_data accesses scope depth flags fields (w, steps) takes index behind i p e one none
 
 -- ---- field flags
 

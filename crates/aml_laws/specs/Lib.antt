@@ -25,11 +25,13 @@ pub mod Digits
 pub mod Events
 pub mod FieldLists
 pub mod FieldNames
+pub mod FieldsPut
 pub mod FieldsReached
 pub mod FramesOpened
 pub mod Handed
 pub mod HandedBack
 pub mod HandedIn
+pub mod HandedOut
 pub mod Histories
 pub mod IndexRegisters
 pub mod IndexTargets
@@ -40,7 +42,9 @@ pub mod Kinds
 pub mod Limits
 pub mod MatchedNames
 pub mod MatchedTerms
+pub mod MatchedValues
 pub mod Mutexes
+pub mod NamesCounted
 pub mod NamesFound
 pub mod NamesInPackages
 pub mod NamesUsed
@@ -49,6 +53,7 @@ pub mod Noted
 pub mod Numbers
 pub mod Numerals
 pub mod ObjectTerms
+pub mod OperandTerms
 pub mod OperatorTerms
 pub mod Ordered
 pub mod Outside
@@ -59,7 +64,9 @@ pub mod PciScopes
 pub mod Plain
 pub mod PredefinedNames
 pub mod ProfileTerms
+pub mod PutIntoTargets
 pub mod Reached
+pub mod ReferringTargets
 pub mod ReferringTerms
 pub mod RegionAccesses
 pub mod RegionTerms
@@ -70,6 +77,7 @@ pub mod Steps
 pub mod StepsTaken
 pub mod StoreTerms
 pub mod StoredParts
+pub mod TargetsNamed
 pub mod TestTerms
 pub mod UnitValues
 pub mod StoredCopies

@@ -45,7 +45,8 @@ IsMet operators.Greater element object = object < element
 
 -- ---- elements
 
--- an element holds an integer: it is one, or a name that is declared as one, which is searched for from the scope that stands beside it
+-- an element holds an integer: it is one, or a name that is declared as one, which is searched for from the scope
+-- that stands beside it
 pub data HoldsInteger {S : Type 0} (w : State S) : Element → ℕ → Type 0 where
   an_integer : (n : ℕ) → HoldsInteger w (element.Value (value.Integer n)) n
   a_name : (name : Name) (home path : List Seg) (number n : ℕ) → found w.names.map home name ≡ Ok (path, data_entry number (value.Integer n)) → HoldsInteger w (element.Name name home) n
@@ -63,7 +64,8 @@ pub data IsLookedAt {S : Type 0} (w : State S) (e : Element) : Type 0 where
 
 -- ---- operands
 
--- The operands give, one behind another, a value for the package, one for each test, and one for the index, in the wide profile.
+-- The operands give, one behind another, a value for the package, one for each test, and one for the index, in the
+-- wide profile.
 pub record GivesOperands {S : Type 0} (accesses : Accesses S) (scope : List Seg) (depth : ℕ) (p x y i : Tree) (s : State S × ℕ) (c u v t : Value) (after : State S × ℕ) : Type 0 where
   pub wide : s.0.profile ≡ profiles.Wide
   pub behind_package : State S × ℕ
@@ -74,8 +76,8 @@ pub record GivesOperands {S : Type 0} (accesses : Accesses S) (scope : List Seg)
   pub gives_second : GivesValue accesses scope depth y behind_first v behind_second
   pub gives_start : GivesValue accesses scope depth i behind_second t after
 
--- They give a package of these elements, each with an integer or with nothing, an integer for each test, and a value that converts to the
--- index.
+-- They give a package of these elements, each with an integer or with nothing, an integer for each test, and a value
+-- that converts to the index.
 pub record Matches {S : Type 0} (accesses : Accesses S) (scope : List Seg) (depth : ℕ) (p x y i : Tree) (s : State S × ℕ) (es : List Element) (a b start : ℕ) (after : State S × ℕ) : Type 0 where
   pub source : ℕ
   pub v : Value

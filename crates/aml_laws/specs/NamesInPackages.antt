@@ -34,8 +34,8 @@ pub data IsHandedOutAs {S : Type 0} (w : State S) : NamedObject → Given → Ty
   a_string : (o : ℕ) (text : List ℕ) → slice_get w.objects o ≡ Some (object.String text) → IsHandedOutAs w (named.Data (value.String o)) (Text text)
   a_buffer : (o : ℕ) (bytes : List ℕ) → slice_get w.objects o ≡ Some (object.Buffer bytes) → IsHandedOutAs w (named.Data (value.Buffer o)) (Bytes bytes)
 
--- a name in a package is handed out as the data that it finds, and else as the path where it stands; where nothing is found, as the path
--- that it would have
+-- a name in a package is handed out as the data that it finds, and else as the path where it stands; where nothing is
+-- found, as the path that it would have
 pub data NameIsHandedOut {S : Type 0} (w : State S) (n : Name) (home : List Seg) : Given → Type 0 where
   as_data : (path : List Seg) (e : Entry) (g : Given) → found w.names.map home n ≡ Ok (path, e) → IsHandedOutAs w e.object g → NameIsHandedOut w n home g
   as_path : (path : List Seg) (e : Entry) → found w.names.map home n ≡ Ok (path, e) → IsHandedOutAsPath e.object → NameIsHandedOut w n home (Named path)

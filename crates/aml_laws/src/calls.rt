@@ -93,11 +93,12 @@ pub fn a_call_gives_what_its_body_returns<S>()
         method_value (meaning accesses) depth p body arguments s ≡ (Err e, after) }
 {}
 
-/// A name with arguments calls the control method that it finds: its arguments are evaluated first, from left to right
-/// and each once, and the call begins in the world that the last one left, with their values in that order. Where one is
-/// refused, or gives nothing, the call is refused, and the arguments behind it aren't evaluated. A control method takes
-/// as many as bits 0 to 2 of its flags say (ACPI 6.5, 20.2.5.2): with another number of arguments the name is refused as
-/// `ArityChanged` before any of them is evaluated, and so is one with arguments that finds no control method.
+/// A name with arguments calls the control method that it finds: its arguments are evaluated first, from left to
+/// right and each once, and the call begins in the world that the last one left, with their values in that order.
+/// Where one is refused, or gives nothing, the call is refused, and the arguments behind it aren't evaluated. A
+/// control method takes as many as bits 0 to 2 of its flags say (ACPI 6.5, 20.2.5.2): with another number of
+/// arguments the name is refused as `ArityChanged` before any of them is evaluated, and so is one with arguments that
+/// finds no control method.
 pub fn a_call_evaluates_its_arguments_in_turn<S>()
     ensures called { (accesses : Accesses S) (scope : List Seg) (depth : ℕ) (n : Name) (w : State S) (steps : ℕ)
         (path : List Seg) (xs : List Tree) (number flags : ℕ) (body : List ℕ) (vs : List Value)
@@ -128,11 +129,12 @@ pub fn a_call_evaluates_its_arguments_in_turn<S>()
         (call_of n (x ∷ xs)) (w, suc steps) (refusal.Evaluation ArityChanged) (w, steps) }
 {}
 
-/// The body of a control method is read as a body, so that a Return may stand in it, in the path of its control method,
-/// within the levels that are allowed, and with the arguments that names take where it is called. Where it can't be read
-/// the call is refused so. In it a name takes as many arguments as the control method that stands at its path, or to
-/// which an alias there leads; none where something else stands; and where nothing stands, as many as an External told
-/// last, which is not known where none told of it. Names that are declared while a table is evaluated are among them.
+/// The body of a control method is read as a body, so that a Return may stand in it, in the path of its control
+/// method, within the levels that are allowed, and with the arguments that names take where it is called. Where it
+/// can't be read the call is refused so. In it a name takes as many arguments as the control method that stands at
+/// its path, or to which an alias there leads; none where something else stands; and where nothing stands, as many as
+/// an External told last, which is not known where none told of it. Names that are declared while a table is
+/// evaluated are among them.
 pub fn a_body_is_read_under_its_own_path<S>()
     ensures read { (w : State S) (p : List Seg) (body : List ℕ) (ts : List Tree) →
         reading_within w.nesting.levels body p true (body_arities w) ≡ Ok ts →

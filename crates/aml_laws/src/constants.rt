@@ -7,8 +7,8 @@ ghost use Rattle.aml_convert.specs.Integers.{bits_of, bytes_of};
 ghost use Rattle.aml_laws.specs.OperatorTerms.{alone};
 ghost use Rattle.aml_laws.specs.ConstantTerms.{StandsFor, WritesNumber, written};
 
-/// Zero is 0, One is 1, Ones has all bits of the width, and Revision is 2; a number that is written out is itself, modulo
-/// two to the width. Each takes a step and changes nothing.
+/// Zero is 0, One is 1, Ones has all bits of the width, and Revision is 2; a number that is written out is itself,
+/// modulo two to the width. Each takes a step and changes nothing.
 pub fn constants_stand_for_their_numbers<S>()
     ensures none { StandsFor S (alone opcodes.Zero) (λ width. 0) }
     ensures one { StandsFor S (alone opcodes.One) (λ width. 1) }

@@ -68,10 +68,10 @@ pub fn conversions_to_integers_and_buffers_are_stored<S>()
         IsRefused accesses scope depth (one_to opcodes.ToBuffer x p) (w, suc steps) e after) }
 {}
 
-/// In the wide profile ToDecimalString and ToHexString give a new string of the text that their operand converts to, or
-/// the very string that it is, and FromBCD and ToBCD the integer; each stores this to its target, without another
-/// conversion (ACPI 6.5, 19.6: FromBCD, ToBCD, ToDecimalString, ToHexString). Two of them that are exchanged, and a string
-/// that is formed anew, are refused by this.
+/// In the wide profile ToDecimalString and ToHexString give a new string of the text that their operand converts to,
+/// or the very string that it is, and FromBCD and ToBCD the integer; each stores this to its target, without another
+/// conversion (ACPI 6.5, 19.6: FromBCD, ToBCD, ToDecimalString, ToHexString). Two of them that are exchanged, and a
+/// string that is formed anew, are refused by this.
 pub fn conversions_of_the_wide_profile_are_stored<S>()
     ensures decimal { (accesses : Accesses S) (scope : List Seg) (depth : ℕ) (x : Tree) (p : Part) (w : State S)
         (steps : ℕ) → w.profile ≡ profiles.Wide → (v : Value) (after : State S × ℕ) (text : List ℕ) (end : State S) →
@@ -106,12 +106,12 @@ pub fn conversions_of_the_wide_profile_are_stored<S>()
         Gives accesses scope depth (one_to opcodes.ToBcd x p) (w, suc steps) code (end, after.1) }
 {}
 
-/// What a conversion of the wide profile formed isn't converted again: a name that holds an integer, a string or a buffer
-/// takes a value of another of these types as a CopyObject does, and one of its own type as a Store does. A name that
-/// holds a package, a reference or a field, a local, an argument, and a part of an object take it as a Store does, and
-/// Debug as nothing. A name that holds nothing refuses it. Through a reference to a name it is taken as by the name
-/// itself, where the numbers of declarations are apart. A target that converts once more, by its name or through a
-/// reference, is refused by this.
+/// What a conversion of the wide profile formed isn't converted again: a name that holds an integer, a string or a
+/// buffer takes a value of another of these types as a CopyObject does, and one of its own type as a Store does. A
+/// name that holds a package, a reference or a field, a local, an argument, and a part of an object take it as a
+/// Store does, and Debug as nothing. A name that holds nothing refuses it. Through a reference to a name it is taken
+/// as by the name itself, where the numbers of declarations are apart. A target that converts once more, by its name
+/// or through a reference, is refused by this.
 pub fn what_a_conversion_formed_is_not_converted_again<S>()
     ensures other_type { (w : State S) (path : List Seg) (number : ℕ) (old v : Value) (k j : ℕ) →
         get w.names.map path ≡ Some (data_entry number old) → IsNumbered old k → IsNumbered v j → k ≢ j → k < 4 →
@@ -144,8 +144,8 @@ pub fn what_a_conversion_formed_is_not_converted_again<S>()
         formed_to (targets.Refers r) v w ≡ formed_to (targets.Name path) v w }
 {}
 
-/// A conversion of the wide profile whose target is a name of a field writes what it formed as the field's bits, once
-/// this is converted to bytes. A conversion that writes no register is refused by this.
+/// ToHexString and FromBCD, in the wide profile, write to a target that is a name of a field what they formed as the
+/// field's bits, once this is converted to bytes. A conversion that writes no register is refused by this.
 pub fn a_conversion_to_a_name_of_a_field_writes_its_bits<S>()
     ensures hexadecimal { (accesses : Accesses S) (scope : List Seg) (depth : ℕ) (x : Tree) (n : Name) (w : State S)
         (steps : ℕ) → w.profile ≡ profiles.Wide → (v : Value) (after : State S × ℕ) (text : List ℕ) →

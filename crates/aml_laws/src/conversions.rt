@@ -17,10 +17,10 @@ ghost use Rattle.aml_laws.specs.Spellings.{SpellsBytes, SpellsListed, SpellsPref
 ghost use Rattle.aml_laws.specs.Numerals.{AreFigures, BeginsWithoutFigure, IsPrefixed};
 ghost use Rattle.aml_laws.specs.StoredParts.{IsNoData};
 
-/// The string of a buffer has two upper-case hexadecimal digits for each byte, the higher one first, with blanks between
-/// them, and a string is itself (ACPI 6.5, 19.3.5.7). ToDecimalString gives the decimal digits of an integer, without
-/// leading zeros, and of 0 the digit 0. Commas for blanks, digits in the other order, and a 0 in front are refused by
-/// this.
+/// The string of a buffer has two upper-case hexadecimal digits for each byte, the higher one first, with blanks
+/// between them, and a string is itself (ACPI 6.5, 19.3.5.7). ToDecimalString gives the decimal digits of an integer,
+/// without leading zeros, and of 0 the digit 0. Commas for blanks, digits in the other order, and a 0 in front are
+/// refused by this.
 pub fn strings_spell_bytes_and_integers()
     ensures bytes { (width : IntegerWidth) (bytes : List ℕ) → AreBytes bytes → (text : List ℕ) ×
         ((to_text_of width (Buffer bytes) ≡ Ok text) × SpellsBytes bytes text) }
@@ -31,9 +31,9 @@ pub fn strings_spell_bytes_and_integers()
     ensures decimal_of_0 { decimal_string_of (Integer 0) ≡ Ok (48 ∷ []) }
 {}
 
-/// ToHexString of a buffer gives `0x` and two upper-case digits for each byte, and ToDecimalString the decimal digits of
-/// each, with commas between them; of an integer ToHexString gives all its digits, and of a string the string (ACPI 6.5,
-/// 19.6: ToDecimalString, ToHexString). Blanks for commas, and bytes without `0x`, are refused by this.
+/// ToHexString of a buffer gives `0x` and two upper-case digits for each byte, and ToDecimalString the decimal digits
+/// of each, with commas between them; of an integer ToHexString gives all its digits, and of a string the string
+/// (ACPI 6.5, 19.6: ToDecimalString, ToHexString). Blanks for commas, and bytes without `0x`, are refused by this.
 pub fn lists_of_bytes_are_spelled_with_commas()
     ensures hexadecimal { (width : IntegerWidth) (bytes : List ℕ) → AreBytes bytes → (text : List ℕ) ×
         ((hexadecimal_string_of width (Buffer bytes) ≡ Ok text) × SpellsListed SpellsPrefixed bytes text) }
@@ -55,10 +55,10 @@ pub fn buffers_hold_strings_and_integers()
     ensures themselves { (width : IntegerWidth) (bytes : List ℕ) → to_buffer_of width (Buffer bytes) ≡ Ok bytes }
 {}
 
-/// What is neither an integer nor a string nor a buffer (a package, a reference, and where no value is) converts to none
-/// of the three: not to the integer of an operand nor to that of ToInteger, not to the string of an operand nor to those
-/// of ToDecimalString and ToHexString, and not to a buffer. A reference that is 0 as an operand, and a package that is an
-/// empty string, also in ToHexString, are refused by this.
+/// What is neither an integer nor a string nor a buffer (a package, a reference, and where no value is) converts to
+/// none of the three: not to the integer of an operand nor to that of ToInteger, not to the string of an operand nor
+/// to those of ToDecimalString and ToHexString, and not to a buffer. A reference that is 0 as an operand, and a
+/// package that is an empty string, also in ToHexString, are refused by this.
 pub fn what_has_no_conversion_is_refused<S>()
     ensures integer { (w : State S) (v : Value) → IsNoData v → integer_in v w ≡ (Err (refusal.Value WrongType), w) }
     ensures text { (w : State S) (v : Value) → IsNoData v →
@@ -71,11 +71,11 @@ pub fn what_has_no_conversion_is_refused<S>()
         explicit_integer_of w.width (content_in w.objects v) ≡ Err (refusal.Value WrongType) }
 {}
 
-/// ToInteger of a string that begins with `0x` or `0X` reads the hexadecimal digits behind it, of either case, up to the
-/// first character that is none; of any other string the decimal digits that it begins with, up to the first character
-/// that is none, and 0 where there are none (ACPI 6.5, 19.6: ToInteger). An integer is itself, a buffer is the number of
-/// its first bytes, and what is empty is refused. Digits behind `0x` that are read as decimal ones, and a character
-/// behind decimal digits that is read as a 0, are refused by this.
+/// ToInteger of a string that begins with `0x` or `0X` reads the hexadecimal digits behind it, of either case, up to
+/// the first character that is none; of any other string the decimal digits that it begins with, up to the first
+/// character that is none, and 0 where there are none (ACPI 6.5, 19.6: ToInteger). An integer is itself, a buffer is
+/// the number of its first bytes, and what is empty is refused. Digits behind `0x` that are read as decimal ones, and
+/// a character behind decimal digits that is read as a 0, are refused by this.
 pub fn explicit_integers_are_read_by_their_prefix()
     ensures hexadecimal { (width : IntegerWidth) (x : ℕ) (digits numbers rest : List ℕ) → (x ≡ 120) ⊎ (x ≡ 88) →
         AreDigits digits numbers → BeginsWithout rest → explicit_integer_of width (String (48 ∷ x ∷ digits ++ rest)) ≡

@@ -28,10 +28,10 @@ pub fn strings_and_buffers_hold_what_is_written_out<S>()
         ) }
 {}
 
-/// A Package forms a new object of the elements that are written out, in their order, each evaluated before the next, and
-/// of uninitialized ones behind them up to as many as it counts; a VarPackage does so with the count that its first
-/// operand gives (ACPI 6.5, 19.6: Package). A name in it isn't evaluated: it stays a name. Elements in the other order,
-/// and uninitialized ones in front, are refused by this.
+/// A Package forms a new object of the elements that are written out, in their order, each evaluated before the next,
+/// and of uninitialized ones behind them up to as many as it counts; a VarPackage does so with the count that its
+/// first operand gives (ACPI 6.5, 19.6: Package). A name in it isn't evaluated: it stays a name. Elements in the
+/// other order, and uninitialized ones in front, are refused by this.
 pub fn packages_hold_their_elements_in_order<S>()
     ensures counted { (accesses : Accesses S) (scope : List Seg) (depth n : ℕ) (ts : Trees) (w : State S) (steps : ℕ)
         (es : List Element) (after : State S × ℕ) → GivesElements accesses scope depth n ts (w, steps) es after →

@@ -20,11 +20,11 @@ ghost use Rattle.aml_laws.specs.ObjectTerms.{Passes};
 ghost use Rattle.aml_laws.specs.InnerLists.{DeclaresScope};
 ghost use Rattle.aml_laws.specs.DeclaredObjects.{name_term, method_term, alias_term, mutex_term, event_term, method_of, IsFree, TakesNoName, with_name};
 
-/// A Name term leaves at the path of its name the very value that its term gives, a Method term a control method with its
-/// flags and its body, an Alias term an alias of the path at which its first name stands, a Mutex term a mutex that nobody
-/// has acquired, and an Event term an event without signals (ACPI 6.5, 5.3 and 19.6). So it is where the path is free;
-/// nothing else of the world changes. A Name that declares no data, a control method that takes fewer arguments, and an
-/// alias of itself, are refused by this.
+/// A Name term leaves at the path of its name the very value that its term gives, a Method term a control method with
+/// its flags and its body, an Alias term an alias of the path at which its first name stands, a Mutex term a mutex
+/// that nobody has acquired, and an Event term an event without signals (ACPI 6.5, 5.3 and 19.6). So it is where the
+/// path is free; nothing else of the world changes. A Name that declares no data, a control method that takes fewer
+/// arguments, and an alias of itself, are refused by this.
 pub fn a_declaration_leaves_what_its_term_says<S>()
     ensures name { (accesses : Accesses S) (scope : List Seg) (depth : ℕ) (n : Name) (path : List Seg) →
         resolved n scope ≡ Ok path → (w : State S) (steps : ℕ) (x : Tree) (v : Value) (after : State S × ℕ) →
@@ -57,11 +57,11 @@ pub fn an_external_declares_nothing<S>()
         Passes accesses scope depth (of_opcode opcodes.External operands) (w, suc steps) (w, steps) }
 {}
 
-/// A declaration at a path that takes no name, also one of a scope as by a Device term, is refused, and nothing changes
-/// (ACPI 6.5, 5.3): where a name stands there,
-/// by the number of a name that exists; where none stands above it, and at module level where a control method does, by
-/// that of a name that isn't found. A Name is refused so once its term is evaluated. A name that is declared in a control
-/// method at module level is refused by this.
+/// A Name, Method, Alias, Mutex or Event term at a path that takes no name, and one of a scope as a Device term, is
+/// refused, and nothing changes (ACPI 6.5, 5.3): where a name stands there, by the number of a name that exists;
+/// where none stands above it, and at module level where a control method does, by that of a name that isn't found. A
+/// Name is refused so once its term is evaluated. A name that is declared in a control method at module level is
+/// refused by this.
 pub fn a_path_that_takes_no_name_refuses_declarations<S>()
     ensures name { (accesses : Accesses S) (scope : List Seg) (depth : ℕ) (n : Name) (path : List Seg) →
         resolved n scope ≡ Ok path → (w : State S) (steps : ℕ) (e : Refusal) (x : Tree) (v : Value)

@@ -47,9 +47,9 @@ pub fn a_name_of_a_field_reads_its_bits<S>()
         IsRefused accesses scope depth (use_of n) (w, suc steps) e after }
 {}
 
-/// A Store to a name of a field, and a CopyObject, write the field: the value is converted to bytes first, and these are
-/// written as the field's bits (ACPI 6.5, 19.3.5.8). Where it doesn't convert, or the field can't be written, the term is
-/// refused for that. A Store that writes no register is refused by this.
+/// A Store to a name of a field, and a CopyObject, write the field: the value is converted to bytes first, and these
+/// are written as the field's bits (ACPI 6.5, 19.3.5.8). Where it doesn't convert, or the field can't be written, the
+/// term is refused for that. A Store that writes no register is refused by this.
 pub fn a_store_to_a_name_of_a_field_writes_its_bits<S>()
     ensures written { (accesses : Accesses S) (scope : List Seg) (depth : ℕ) (x : Tree) (n : Name) (w : State S)
         (steps : ℕ) (v : Value) (between : State S × ℕ) → GivesValue accesses scope depth x (w, steps) v between →
@@ -73,9 +73,9 @@ pub fn a_store_to_a_name_of_a_field_writes_its_bits<S>()
         IsRefused accesses scope depth (one_to opcodes.CopyObject x (name n)) (w, suc steps) e between }
 {}
 
-/// DerefOf of a reference to a name of a field reads the field, as the name does where a value stands (ACPI 6.5, 19.6:
-/// DerefOf). So it is where the numbers of declarations are apart, as they are and do in each world that evaluations make
-/// of the predefined names. A field that is 0 behind a reference is refused by this.
+/// DerefOf of a reference to a name of a field reads the field, as the name does where a value stands (ACPI 6.5,
+/// 19.6: DerefOf). So it is where the numbers of declarations are apart, as they are and do in each world that
+/// evaluations make of the predefined names. A field that is 0 behind a reference is refused by this.
 pub fn a_field_is_read_through_a_reference<S>()
     ensures integer { (accesses : Accesses S) (scope : List Seg) (depth : ℕ) (w : State S) (steps : ℕ) (n : Name)
         (f : Field) (bits : ℕ) → NamesField w scope n f bits → Numbered w.names → (b : ℕ) (bytes : List ℕ)
@@ -99,9 +99,9 @@ pub fn a_field_is_read_through_a_reference<S>()
         (w, suc (suc steps)) e after }
 {}
 
-/// Increment and Decrement of a name of a field read the integer that its bits are, and write the next one, or the one
-/// before it, as the field's bits; this is their value. An Increment that writes nothing, and one that counts from 0, are
-/// refused by this.
+/// Increment and Decrement of a name of a field read the integer that its bits are, and write the next one, or the
+/// one before it, as the field's bits; this is their value. An Increment that writes nothing, and one that counts
+/// from 0, are refused by this.
 pub fn a_count_of_a_field_is_written_back<S>()
     ensures up { CountsField S opcodes.Increment (λ width a m. m ≡ (a + 1) % 2 ^ bits_of width) }
     ensures down { CountsField S opcodes.Decrement (λ width a m.

@@ -25,9 +25,9 @@ pub fn frames_are_balanced<S>()
 /// No frame's number is ever given again. Those that stand have rising numbers, all below the next frame's, after
 /// whatever is evaluated from the predefined names on, in either profile; and a frame that is opened stands behind
 /// them, under the next number. When a call is over its frame's number is below the next one, and the end of a frame
-/// leaves the next number as it was, however many frames were opened and ended inside of it: so what refers to a slot of
-/// a frame that ended refers to none of a later one. A frame that gives its number back, or those of calls inside of it,
-/// is refused by this.
+/// leaves the next number as it was, however many frames were opened and ended inside of it: so what refers to a slot
+/// of a frame that ended refers to none of a later one. A frame that gives its number back, or those of calls inside
+/// of it, is refused by this.
 #[tactic(auto, using(crate::proofs::FrameNumbers::frame_numbers_are_given_once, crate::proofs::FramesEnded::numbers_stay_given))]
 pub fn frame_numbers_are_given_once<S>()
     ensures kept { (accesses : Accesses S) (w v : State S) → Becomes accesses w v →

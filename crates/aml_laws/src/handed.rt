@@ -55,8 +55,9 @@ pub fn data_nests_at_most_64_deep<S>()
 {}
 
 /// What a control method answers to a caller is what it gives, called with the arguments that are handed in, in their
-/// order: each is taken in before the next one, and the first stands first. Another number of arguments than the control
-/// method takes is refused as `ArityChanged`. Arguments that are exchanged on their way in are refused by this.
+/// order: each is taken in before the next one, and the first stands first. Another number of arguments than the
+/// control method takes is refused as `ArityChanged`. Arguments that are exchanged on their way in are refused by
+/// this.
 pub fn arguments_are_handed_in_in_their_order<S>()
     ensures answered { (accesses : Accesses S) (p path : List Seg) (gs : List Given) (w : State S) (number flags : ℕ)
         (body : List ℕ) (steps : ℕ) → found w.names.map [] (from_root p) ≡ Ok (path, method_entry number flags body) →

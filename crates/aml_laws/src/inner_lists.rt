@@ -37,11 +37,11 @@ pub fn lists_of_scopes_are_evaluated_in_turn<S>()
         meaning accesses (task scope depth t) (w, suc steps) ≡ in_turn (meaning accesses) p depth ts (after, steps) }
 {}
 
-/// The list of an If whose condition holds, which is any integer but 0, is evaluated in turn, in the scope of the If and
-/// as deep in calls, and so is that of an Else, which is evaluated where the condition doesn't hold. So at module level
-/// these are lists at module level, too. Where the condition doesn't hold and there is no Else, the If gives nothing, and
-/// the list in which it stands goes on. A branch whose list isn't at its level, and an If that ends the list round it,
-/// are refused by this.
+/// The list of an If whose condition holds, which is any integer but 0, is evaluated in turn, in the scope of the If
+/// and as deep in calls, and so is that of an Else, which is evaluated where the condition doesn't hold. So at module
+/// level these are lists at module level, too. Where the condition doesn't hold and there is no Else, the If gives
+/// nothing, and the list in which it stands goes on. A branch whose list isn't at its level, and an If that ends the
+/// list round it, are refused by this.
 pub fn lists_of_branches_are_evaluated_in_turn<S>()
     ensures holds { (accesses : Accesses S) (scope : List Seg) (depth : ℕ) (t : Tree) (ts : Trees) (w : State S)
         (steps x : ℕ) (after : State S × ℕ) → Tests accesses scope depth opcodes.If t ts (w, steps) x after → 0 < x →
@@ -59,12 +59,12 @@ pub fn lists_of_branches_are_evaluated_in_turn<S>()
         meaning accesses (task scope depth t) (w, suc steps) ≡ in_turn (meaning accesses) scope depth ts (w, steps) }
 {}
 
-/// While the condition of a While holds, which is any integer but 0, its list is evaluated in turn, in the scope of the
-/// While and as deep in calls: so at module level it is a list at module level, too. The While ends as its list is
-/// refused, and with what is returned there; a Break ends it, and the list in which it stands goes on. At the end of its
-/// list and at a Continue it begins anew in the world that the list left, for a step that isn't taken again. Where the
-/// condition doesn't hold it is over. A loop that ends behind an item that is passed over, one that ends at a Continue,
-/// and a Return that ends its loop alone are refused by this.
+/// While the condition of a While holds, which is any integer but 0, its list is evaluated in turn, in the scope of
+/// the While and as deep in calls: so at module level it is a list at module level, too. The While ends as its list
+/// is refused, and with what is returned there; a Break ends it, and the list in which it stands goes on. At the end
+/// of its list and at a Continue it begins anew in the world that the list left, for a step that isn't taken again.
+/// Where the condition doesn't hold it is over. A loop that ends behind an item that is passed over, one that ends at
+/// a Continue, and a Return that ends its loop alone are refused by this.
 pub fn lists_of_loops_are_evaluated_in_turn<S>()
     ensures refused { (accesses : Accesses S) (scope : List Seg) (depth : ℕ) (t : Tree) (w : State S) (steps : ℕ)
         (e : Refusal) (end : State S × ℕ) → Turns accesses scope depth t (w, steps) (Err e) end →

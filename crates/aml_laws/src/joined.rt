@@ -16,9 +16,9 @@ ghost use Rattle.aml_laws.specs.TestTerms.{TwoValues};
 ghost use Rattle.aml_laws.specs.JoinedTerms.{with_object, Fits, IsJoined, IsNew, middle, IsPart, TakesPart, HasBytes, TakesText, IsTextOf};
 
 /// Concatenate gives a new object: of a string the string and what the second value is as a string, of a buffer the
-/// buffer and what it is as one, and of an integer the bytes of it and of the integer that the second value converts to.
-/// It stores this to its target. Values that are joined the other way round, or by the type of the second one, are
-/// refused by this. ConcatenateResTemplate does the same with the items of its two buffers, of which
+/// buffer and what it is as one, and of an integer the bytes of it and of the integer that the second value converts
+/// to. It stores this to its target. Values that are joined the other way round, or by the type of the second one,
+/// are refused by this. ConcatenateResTemplate does the same with the items of its two buffers, of which
 /// `joined_resources_have_the_items_of_both` says which they are.
 pub fn joined_values_begin_with_the_first<S>()
     ensures resources { (accesses : Accesses S) (scope : List Seg) (depth : ℕ) (x y : Tree) (w : State S) (steps : ℕ)

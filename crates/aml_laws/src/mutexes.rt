@@ -46,9 +46,9 @@ pub fn acquisitions_are_counted_one_by_one<S>()
 {}
 
 /// A name that is declared as anything but a mutex can neither be acquired nor released (ACPI 6.5, 19.6: Acquire,
-/// Release), and nothing changes; nor can Debug, a local and an argument, nor a slot, an element and a byte by a reference.
-/// A reference to a declaration acquires and releases what its name does. A device that becomes a mutex is refused by
-/// this.
+/// Release), and nothing changes; nor can Debug, a local and an argument, nor a slot, an element and a byte by a
+/// reference. A reference to a declaration acquires and releases what its name does. A device that becomes a mutex is
+/// refused by this.
 pub fn what_is_no_mutex_is_neither_acquired_nor_released<S>()
     ensures names { (w : State S) (path : List Seg) (e : Entry) → get w.names.map path ≡ Some e → IsNoMutex e.object →
         (acquired_at (targets.Name path) w ≡ (Err (Value WrongType), w)) ×

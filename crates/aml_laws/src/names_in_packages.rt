@@ -1,5 +1,5 @@
 //! Names that stand in packages, where they are used.
-ghost use Rattle.std.specs.Prelude.{◌≡◌, ◌≤◌, ◌-◌, ◌^◌, ◌∷◌, [], ℕ, suc, List, take, slice_get, Some, Ok, Err};
+ghost use Rattle.std.specs.Prelude.{◌≡◌, ◌<◌, ◌≤◌, ◌+◌, ◌-◌, ◌%◌, ◌^◌, ◌∷◌, [], ℕ, suc, List, take, slice_get, Some, Ok, Err};
 ghost use Rattle.ar_space.specs.Accesses.{Accesses};
 ghost use Rattle.ar_space.specs.declared.refusal.Refusal.{Refusal};
 ghost use Rattle.aml_path.specs.declared.segment.Seg.{Seg};
@@ -20,7 +20,9 @@ ghost use Rattle.aml_namespace.specs.Search.{found};
 ghost use Rattle.aml_meaning.specs.Exporting.{exported};
 ghost use Rattle.aml_meaning.specs.Given.{Given, Package, none, more};
 ghost use Rattle.aml_meaning.specs.State.{State};
+ghost use Rattle.aml_laws.specs.NamesCounted.{CountsName, CountsNoName};
 ghost use Rattle.aml_laws.specs.FieldNames.{NamesField, bits_read_at};
+ghost use Rattle.aml_laws.specs.HandedOut.{IsHandedOut, IsKeptBack};
 ghost use Rattle.aml_laws.specs.IntegersOfValues.{lowest_first};
 ghost use Rattle.aml_laws.specs.MatchedNames.{MatchesName};
 ghost use Rattle.aml_laws.specs.MatchedTerms.{match, IsNumberOf, IsMet};
@@ -31,9 +33,9 @@ ghost use Rattle.aml_laws.specs.ReferringTerms.{Indexes, part_read, object_type,
 ghost use Rattle.aml_laws.specs.StoredParts.{HoldsNothing};
 
 /// A name in a package is searched for where it is used, from the scope where the package was made. DerefOf of the
-/// element gives the data that the name finds, reads the field that it finds, and gives a reference to anything else;
-/// where nothing is found it is refused for that. ObjectType of the element tells the type of the data. A name that is
-/// searched for from the root is refused by this.
+/// element gives the data that the name finds, reads the field that it finds, where its bits fit an integer, and
+/// gives a reference to anything else; where the search is refused, so is DerefOf. ObjectType of the element tells
+/// the type of the data. A name that is searched for from the root is refused by this.
 pub fn a_name_in_a_package_is_searched_where_it_is_used<S>()
     ensures held { (accesses : Accesses S) (scope : List Seg) (depth : ℕ) (x y : Tree) (w : State S) (steps o i : ℕ)
         (after : State S × ℕ) → Indexes accesses scope depth x y (w, steps) (value.Package o) i after → (n : Name)
@@ -65,14 +67,45 @@ pub fn a_name_in_a_package_is_searched_where_it_is_used<S>()
         after }
 {}
 
-/// A name in a package that an answer hands out stands for the data that it finds, searched for from the scope where the
-/// package was made. Where it finds a reference, or what holds neither data nor a field, it is handed out as the path
-/// of what it finds; where nothing is found, as the path that it would have. It costs the step of an element. A name
-/// that is handed out as nothing, as the link of an entry of a routing table, is refused by this.
+/// The name in a package of one name that an answer hands out stands for the integer, the string or the buffer that
+/// it finds, searched for from the scope where the package was made. Where it finds a reference, or what holds
+/// neither data nor a field, it is handed out as the path of what it finds; where nothing is found, as the path that
+/// it would have. It costs the step of an element. A name that is handed out as nothing, as the link of an entry of a
+/// routing table, is refused by this.
 pub fn a_name_in_a_package_is_handed_out_as_what_it_finds<S>()
     ensures { (accesses : Accesses S) (w : State S) (steps o : ℕ) (n : Name) (home : List Seg) (g : Given) →
         slice_get w.objects o ≡ Some (object.Package (element.Name n home ∷ [])) → NameIsHandedOut w n home g →
         exported accesses (value.Package o) (w, suc steps) ≡ (Ok (Package (more g none)), (w, steps)) }
+{}
+
+/// An answer hands out a package element by element, from the first on, each of which costs a step. An element that
+/// is a name is handed out as what it finds then, searched for from the scope where the package was made: a package
+/// with all its elements, which nest at most 64 deep through names, too; a field as its bits, read as in a call of
+/// its own, which are an integer where they are no more than an integer has, and else bytes; other data as it is; and
+/// anything else as its path. The first element that isn't handed out ends it, and refuses the answer: no step is
+/// left for it, a package nests too deep, a field can't be read, or its name leads above the root. A package that a
+/// name finds and that is handed out as its path or as nothing, and a field that is handed out as 0, are refused by
+/// this.
+pub fn a_package_is_handed_out_with_what_its_names_find<S>()
+    ensures handed_out { (accesses : Accesses S) (v : Value) (s : State S × ℕ) (g : Given) (end : State S × ℕ) →
+        IsHandedOut accesses 64 v s g end → exported accesses v s ≡ (Ok g, end) }
+    ensures kept_back { (accesses : Accesses S) (v : Value) (s : State S × ℕ) (e : Refusal) (end : State S × ℕ) →
+        IsKeptBack accesses 64 v s e end → exported accesses v s ≡ (Err e, end) }
+{}
+
+/// Increment and Decrement of an element of a package that is a name read the integer of what the name finds,
+/// searched for from the scope where the package was made: of its data, or of the bits of the field, which is read
+/// once. The next integer, or the one before it, is their value, and stands in the element in place of the name; the
+/// field isn't written, and what the name finds stays (ACPI 6.5, 19.6: Decrement, Increment). Where the name finds no
+/// integer, as one that holds no value yet, they are refused as `WrongType`; where it finds nothing, what it finds
+/// doesn't convert, or the field can't be read, by that refusal. The name stays then. An Increment that writes the
+/// field, and one that leaves the name, are refused by this.
+pub fn a_name_in_a_package_is_counted_and_replaced<S>()
+    ensures up { CountsName S opcodes.Increment (λ width a m. m ≡ (a + 1) % 2 ^ bits_of width) }
+    ensures down { CountsName S opcodes.Decrement (λ width a m.
+        (m < 2 ^ bits_of width) × ((m + 1) % 2 ^ bits_of width ≡ a % 2 ^ bits_of width)) }
+    ensures up_refused { CountsNoName S opcodes.Increment }
+    ensures down_refused { CountsNoName S opcodes.Decrement }
 {}
 
 /// Match compares an element that is a name by the integer that the name finds, searched for from the scope where the

@@ -16,9 +16,9 @@ ghost use Rattle.aml_laws.specs.OperatorTerms.{alone, NamesSlot, SlotHolds, Slot
 ghost use Rattle.aml_laws.specs.TestTerms.{IsTruth};
 ghost use Rattle.aml_laws.specs.NamesUsed.{use_of, IsGivenBy, call_of_one, IsAmong, AsksOsi};
 
-/// A name that holds an integer, a string, a buffer or a package gives this value where a value stands, and not a copy of
-/// it; one that holds a reference gives a reference to itself. A local and an argument give what they hold, and are
-/// refused as `NoValue` where they hold nothing yet. Each takes a step and changes nothing.
+/// A name that holds an integer, a string, a buffer or a package gives this value where a value stands, and not a
+/// copy of it; one that holds a reference gives a reference to itself. A local and an argument give what they hold,
+/// and are refused as `NoValue` where they hold nothing yet. Each takes a step and changes nothing.
 pub fn a_name_gives_what_it_holds<S>()
     ensures names { (accesses : Accesses S) (scope : List Seg) (depth : ℕ) (w : State S) (steps : ℕ) (n : Name)
         (path : List Seg) (number : ℕ) (v r : Value) →
@@ -33,8 +33,8 @@ pub fn a_name_gives_what_it_holds<S>()
 {}
 
 /// The predefined control method \_OSI, called by any name with a string, is True where the text is one of those that
-/// the machine says it knows, and else False. It changes nothing. One that knows texts that begin alike, or that answers
-/// 1, is refused by this.
+/// the machine says it knows, and else False. It changes nothing. One that knows texts that begin alike, or that
+/// answers 1, is refused by this.
 pub fn osi_tells_of_known_texts<S>()
     ensures { (accesses : Accesses S) (scope : List Seg) (depth : ℕ) (n : Name) (x : Tree) (w : State S) (steps : ℕ)
         (text : List ℕ) (after : State S × ℕ) → AsksOsi accesses scope depth n x (w, steps) text after → (k : ℕ) ×

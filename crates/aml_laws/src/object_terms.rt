@@ -23,9 +23,10 @@ ghost use Rattle.aml_meaning.specs.Events.{event_changed, waited};
 ghost use Rattle.aml_laws.specs.OperatorTerms.{of_one, NamesTarget, GivesValue, Gives, IsRefused};
 ghost use Rattle.aml_laws.specs.ObjectTerms.{acquire, on_target, on_target_with, fatal, Passes, NamesDeclaration, NamesNoDeclaration};
 
-/// Acquire acquires the mutex that its operand names, and gives False, which is 0: it never waits. Release gives it back
-/// once. Where that is refused, the term is (ACPI 6.5, 19.6: Acquire, Release; `acquisitions_are_counted_one_by_one` says
-/// what both do). An Acquire that tells of a timeout, and a Release that does nothing, are refused by this.
+/// Acquire acquires the mutex that its operand names, and gives False, which is 0: it never waits. Release gives it
+/// back once. Where that is refused, the term is (ACPI 6.5, 19.6: Acquire, Release;
+/// `acquisitions_are_counted_one_by_one` says what both do). An Acquire that tells of a timeout, and a Release that
+/// does nothing, are refused by this.
 pub fn mutexes_are_acquired_and_released_by_their_terms<S>()
     ensures acquired { (accesses : Accesses S) (scope : List Seg) (depth : ℕ) (p : Part) (t : StoreTarget) (w : State S)
         (steps : ℕ) → NamesTarget scope w p t → (end : State S) (time : ℕ) → (acquired_at t w ≡ (Ok tt, end) →
@@ -48,11 +49,11 @@ pub fn a_reference_is_given_of_what_is_named<S>()
 {}
 
 /// In the wide profile Signal and Reset change the event that their operand names, and Wait waits for it, once its
-/// timeout is evaluated: it gives what `signals_are_counted_one_by_one` says (ACPI 6.5, 19.6: Reset, Signal, Wait). The
-/// operand is the event's name, or an argument that holds a reference to it. Where that is refused, as it is of what is
-/// no event (`what_is_no_event_takes_no_signal`), the term is. Debug, a local, also one that holds an event, and an
-/// argument that holds no reference to a name are refused. A Signal and a Reset that are exchanged, and a local that
-/// stands for the event of the number 0, are refused by this.
+/// timeout is evaluated: it gives what `signals_are_counted_one_by_one` says (ACPI 6.5, 19.6: Reset, Signal, Wait).
+/// The operand here is the event's name, or an argument that holds a reference to it. Where that is refused, as it is
+/// of what is no event (`what_is_no_event_takes_no_signal`), the term is. Debug, a local, also one that holds an
+/// event, and an argument that holds no reference to a name are refused. A Signal and a Reset that are exchanged, and
+/// a local that stands for the event of the number 0, are refused by this.
 pub fn events_are_signaled_and_waited_for_by_their_terms<S>()
     ensures signaled { (accesses : Accesses S) (scope : List Seg) (depth : ℕ) (p : Part) (at : ℕ) (w : State S)
         (steps : ℕ) → w.profile ≡ profiles.Wide → NamesDeclaration scope w p at → (end : State S) →
@@ -81,10 +82,10 @@ pub fn events_are_signaled_and_waited_for_by_their_terms<S>()
         (on_target_with opcodes.Wait p x) (w, suc steps) (refusal.Value WrongType) after) }
 {}
 
-/// Fatal ends the evaluation, once its argument is evaluated. Sleep and Stall evaluate their operand, and no time passes.
-/// Notify finds what its first operand names, and then evaluates its second one, and nobody is told; a name that isn't
-/// found is refused before that (ACPI 6.5, 19.6: Fatal, Notify, Sleep, Stall). A Fatal that goes on, and a Notify of a name
-/// that doesn't exist, are refused by this.
+/// Fatal ends the evaluation, once its argument is evaluated. Sleep and Stall evaluate their operand, and no time
+/// passes. Notify finds what its first operand names, and then evaluates its second one, and nobody is told; a name
+/// that isn't found is refused before that (ACPI 6.5, 19.6: Fatal, Notify, Sleep, Stall). A Fatal that goes on, and a
+/// Notify of a name that doesn't exist, are refused by this.
 pub fn a_fatal_term_ends_and_others_pass<S>()
     ensures fatal { (accesses : Accesses S) (scope : List Seg) (depth : ℕ) (x : Tree) (w : State S) (steps : ℕ)
         (v : Value) (after : State S × ℕ) → GivesValue accesses scope depth x (w, steps) v after → (kind code : ℕ) →

@@ -16,16 +16,17 @@ ghost use Rattle.aml_objects.specs.declared.value.Value.TheVariants as value;
 ghost use Rattle.aml_convert.specs.Integers.{bits_of, bytes_of};
 ghost use Rattle.aml_meaning.specs.State.{State};
 ghost use Rattle.aml_meaning.specs.Readings.{integer_in};
-ghost use Rattle.aml_laws.specs.OperatorTerms.{of_one, of_two, two_to, divide, GivesValue, GivesNothing, IsRefused};
+ghost use Rattle.aml_laws.specs.OperandTerms.{TakesValues, ComesTo};
+ghost use Rattle.aml_laws.specs.OperatorTerms.{of_two, two_to, divide, GivesNothing, IsRefused};
 ghost use Rattle.aml_laws.specs.StoredParts.{IsNoData};
 ghost use Rattle.aml_laws.specs.TestTerms.{TwoValues};
 ghost use Rattle.aml_laws.specs.IntegersOfValues.{lowest_first, AreDigits, EndsDigits, TakesIntegers};
 
 /// Where an operator takes an integer, an integer is itself; a buffer is the number of its first bytes, as many as an
-/// integer has, the lowest first; and a string is that of the hexadecimal digits that it begins with, of either case, at
-/// most as many as an integer has. An empty string, an empty buffer, a package, a reference and what holds no value are
-/// refused, and nothing changes. Bytes in the other order, decimal digits, digits of one case alone, and a reference
-/// that is 0, are refused by this.
+/// integer has, the lowest first; and a string is that of the hexadecimal digits that it begins with, of either case,
+/// at most as many as an integer has. An empty string, an empty buffer, a package, a reference and what holds no
+/// value are refused, and nothing changes. Bytes in the other order, decimal digits, digits of one case alone, and a
+/// reference that is 0, are refused by this.
 pub fn operands_convert_to_integers<S>()
     ensures integer { (w : State S) (n : ℕ) → integer_in (value.Integer n) w ≡ (Ok n, w) }
     ensures buffer { (w : State S) (o b : ℕ) (bytes : List ℕ) →
@@ -45,8 +46,8 @@ pub fn operands_convert_to_integers<S>()
 {}
 
 /// An operator that takes two integers, Divide, LAnd and LOr among them, is refused as the conversion of its first
-/// operand is, or of its second one where the first converts: both are evaluated before that, and nothing is stored. One
-/// that converts its second operand first is refused by this.
+/// operand is, or of its second one where the first converts: both are evaluated before that, and nothing is stored.
+/// One that converts its second operand first is refused by this.
 pub fn operands_that_do_not_convert_are_refused<S>()
     ensures first { (accesses : Accesses S) (scope : List Seg) (depth : ℕ) (op : Opcode) (x y : Tree) (p : Part)
         (w : State S) (steps : ℕ) (v u : Value) (after : State S × ℕ) (e : Refusal) → TakesIntegers op →
@@ -71,20 +72,27 @@ pub fn operands_that_do_not_convert_are_refused<S>()
         IsRefused accesses scope depth (of_two opcodes.LOr x y) (w, suc steps) e after }
 {}
 
-/// An operand that gives nothing, as a call of a control method that comes to its end, is refused as `NoValue` where a
-/// value is wanted: as the first and as the second operand of an operator that takes two integers, and as that of a
-/// Return. The operator is refused before it evaluates any further operand, and nothing is stored. A call without a
-/// Return that counts as a value is refused by this.
+/// A term that evaluates operands as values is refused as one of them is, where those in front of it give values; no
+/// further operand is evaluated, and nothing is stored. So is each operator with one operand or two, LAnd and LOr
+/// among them, Store and CopyObject by their source, DerefOf, the conversions, Mid and Match; so are Return, the
+/// condition of an If and of the first turn of a While, the time of a Sleep or Stall, and the argument of a Fatal;
+/// and so are the size of a Buffer and of a VarPackage, the value of a Name, the place and the length of an
+/// OperationRegion, and the operands of CreateField and its like. An operand that counts as 0 where it is refused is
+/// refused by this.
+pub fn an_operand_that_is_refused_refuses_its_term<S>()
+    ensures { (accesses : Accesses S) (scope : List Seg) (depth : ℕ) (w : State S) (steps : ℕ) (t : Tree)
+        (operands : List Tree) → TakesValues w.profile t operands → (x : Tree) (between : State S × ℕ) →
+        ComesTo accesses scope depth operands (w, steps) x between → (e : Refusal) (after : State S × ℕ) →
+        IsRefused accesses scope depth x between e after → IsRefused accesses scope depth t (w, suc steps) e after }
+{}
+
+/// An operand of these terms that gives nothing, as a call of a control method that comes to its end, is refused as
+/// `NoValue`, since a value is wanted there. The term is refused before it evaluates any further operand, and nothing
+/// is stored. A call without a Return that counts as a value is refused by this.
 pub fn an_operand_without_a_value_is_refused<S>()
-    ensures first { (accesses : Accesses S) (scope : List Seg) (depth : ℕ) (op : Opcode) (x y : Tree) (p : Part)
-        (w : State S) (steps : ℕ) (after : State S × ℕ) → TakesIntegers op →
-        GivesNothing accesses scope depth x (w, steps) after →
-        IsRefused accesses scope depth (two_to op x y p) (w, suc steps) (refusal.Evaluation NoValue) after }
-    ensures second { (accesses : Accesses S) (scope : List Seg) (depth : ℕ) (op : Opcode) (x y : Tree) (p : Part)
-        (w : State S) (steps : ℕ) (v : Value) (between after : State S × ℕ) → TakesIntegers op →
-        GivesValue accesses scope depth x (w, steps) v between → GivesNothing accesses scope depth y between after →
-        IsRefused accesses scope depth (two_to op x y p) (w, suc steps) (refusal.Evaluation NoValue) after }
-    ensures returned { (accesses : Accesses S) (scope : List Seg) (depth : ℕ) (x : Tree) (w : State S) (steps : ℕ)
-        (after : State S × ℕ) → GivesNothing accesses scope depth x (w, steps) after →
-        IsRefused accesses scope depth (of_one opcodes.Return x) (w, suc steps) (refusal.Evaluation NoValue) after }
+    ensures { (accesses : Accesses S) (scope : List Seg) (depth : ℕ) (w : State S) (steps : ℕ) (t : Tree)
+        (operands : List Tree) → TakesValues w.profile t operands → (x : Tree) (between : State S × ℕ) →
+        ComesTo accesses scope depth operands (w, steps) x between → (after : State S × ℕ) →
+        GivesNothing accesses scope depth x between after →
+        IsRefused accesses scope depth t (w, suc steps) (refusal.Evaluation NoValue) after }
 {}

@@ -53,9 +53,9 @@ pub fn set_bits_are_numbered_from_one<S>()
     ensures lowest { ComputesOfOne S opcodes.FindSetRightBit (λ width a n. a < 2 ^ bits_of width → IsLowest a n) }
 {}
 
-/// Divide and Mod give quotient and remainder where the divisor isn't 0, and where it is they are refused and nothing is
-/// stored. Divide stores the remainder to its first target, then the quotient, which is its value, to the second. A
-/// quotient that is rounded up, and targets that are exchanged, are refused by this.
+/// Divide and Mod give quotient and remainder where the divisor isn't 0, and where it is they are refused and nothing
+/// is stored. Divide stores the remainder to its first target, then the quotient, which is its value, to the second.
+/// A quotient that is rounded up, and targets that are exchanged, are refused by this.
 pub fn a_division_gives_quotient_and_remainder<S>()
     ensures quotient { (accesses : Accesses S) (scope : List Seg) (depth : ℕ) (x y : Tree) (w : State S) (steps a : ℕ)
         (after : State S × ℕ) (b : ℕ) → TwoIntegers accesses scope depth x y (w, steps) a b after → 0 < b → (n : ℕ) ×

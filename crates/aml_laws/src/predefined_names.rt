@@ -8,11 +8,11 @@ ghost use Rattle.aml_meaning.specs.Predefined.{fresh_as, predefined};
 ghost use Rattle.aml_meaning.specs.declared.settings.EvaluationSettings.{EvaluationSettings};
 ghost use Rattle.aml_laws.specs.PredefinedNames.{IsPredefined, StandsAtRoot};
 
-/// Before any table is loaded the scopes \_GPE, \_PR_, \_SB_, \_SI_ and \_TZ_ stand at the root, the mutex \_GL_, which
-/// nobody has acquired, \_OS_, which holds the string "Microsoft Windows NT", \_REV, which holds 2, and the control method
-/// \_OSI (ACPI 6.5, 5.3.1 and 5.7). In a table \_OSI is read with one argument, as in the body of a control method, and
-/// the others with none. So they stand in each new world, whatever its settings. A revision of 1, and \_OSI without an
-/// argument, are refused by this.
+/// Before any table is loaded the scopes \_GPE, \_PR_, \_SB_, \_SI_ and \_TZ_ stand at the root, the mutex \_GL_,
+/// which nobody has acquired, \_OS_, which holds the string "Microsoft Windows NT", \_REV, which holds 2, and the
+/// control method \_OSI (ACPI 6.5, 5.3.1 and 5.7). In a table \_OSI is read with one argument, as in the body of a
+/// control method, and the others with none. So they stand in each new world, whatever its settings. A revision of 1,
+/// and \_OSI without an argument, are refused by this.
 pub fn predefined_names_stand<S>()
     ensures { (settings : EvaluationSettings) (width : IntegerWidth) (osi : List (List ℕ)) (space : S) →
         (w : State S) × ((predefined (fresh_as settings width osi space) ≡ (Ok tt, w)) ×

@@ -13,10 +13,10 @@ ghost use Rattle.aml_laws.specs.OperatorTerms.{of_opcode, IsRefused};
 ghost use Rattle.aml_laws.specs.RegionTerms.{field, index_field};
 ghost use Rattle.aml_laws.specs.ProfileTerms.{IsOfTheWide, IsOfNone, Connects};
 
-/// The core profile refuses each term that the wide one evaluates beyond it, and each Field and IndexField term in whose
-/// list a Connection stands, by the number of its opcode (ACPI 6.5, 20.3). No profile evaluates Load, LoadTable, Timer
-/// and DataRegion, nor Debug where a value stands. So it is before any operand is evaluated: but for the term's step
-/// nothing has changed. A core profile that evaluates any of them is refused by this.
+/// The core profile refuses each term that the wide one evaluates beyond it, and each Field and IndexField term in
+/// whose list a Connection stands, by the number of its opcode (ACPI 6.5, 20.3). No profile evaluates Load,
+/// LoadTable, Timer and DataRegion, nor Debug where a value stands. So it is before any operand is evaluated: but for
+/// the term's step nothing has changed. A core profile that evaluates any of them is refused by this.
 pub fn the_core_profile_refuses_the_terms_of_the_wide_one<S>()
     ensures terms { (accesses : Accesses S) (scope : List Seg) (depth : ℕ) (op : Opcode) (number : ℕ) (ps : Parts)
         (w : State S) (steps : ℕ) → IsOfTheWide op number → w.profile ≡ profiles.Core →

@@ -1,5 +1,5 @@
 //! References to parts of objects and to names, and what is asked of objects.
-ghost use Rattle.std.specs.Prelude.{◌≡◌, ◌≢◌, ◌<◌, ◌≤◌, ◌+◌, ◌-◌, ◌%◌, ◌^◌, ℕ, suc, List, Some, Ok, Err};
+ghost use Rattle.std.specs.Prelude.{◌≡◌, ◌≢◌, ◌<◌, ◌≤◌, ◌+◌, ◌%◌, ◌^◌, ℕ, suc, List, Some, Ok, Err};
 ghost use Rattle.std.specs.FinMap.{get};
 ghost use Rattle.ar_space.specs.Accesses.{Accesses};
 ghost use Rattle.ar_space.specs.declared.refusal.Refusal.{Refusal};
@@ -28,6 +28,7 @@ ghost use Rattle.aml_meaning.specs.TargetTerms.{target_of};
 ghost use Rattle.aml_meaning.specs.Meaning.{meaning};
 ghost use Rattle.aml_laws.specs.OperatorTerms.{alone, one_to, two_to, NamesSlot, NamesTarget, StoresTo, SlotHolds, SlotIsEmpty, TargetHolds, GivesValue, Gives, IsRefused};
 ghost use Rattle.aml_laws.specs.IndexTargets.{CountsPart};
+ghost use Rattle.aml_laws.specs.PutIntoTargets.{PutsReference};
 ghost use Rattle.aml_laws.specs.ReferringTerms.{HasParts, HasPart, Indexes, part_read, size_of, object_type, IsNumbered, IsNamedKind, conditional, IsNumberedLast};
 
 /// Index gives a reference to the element of a package, or to the byte of a string or of a buffer, that its second
@@ -49,10 +50,10 @@ pub fn an_index_refers_to_a_part<S>()
         GivesValue accesses scope depth (part_read x y) (w, suc (suc steps)) r after }
 {}
 
-/// An Index where a target stands is the part that it refers to, and its own target takes the reference first (ACPI 6.5,
-/// 19.6: Index; 20.2.2: SuperName). So a Store to an Index evaluates its source, then the Index, and stores the source's
-/// value to the part, and an Increment or a Decrement of an Index counts the part. A Store to an Index that stores
-/// nothing is refused by this.
+/// An Index where a target stands is the part that it refers to, and its own target takes the reference first (ACPI
+/// 6.5, 19.6: Index; 20.2.2: SuperName). So a Store to an Index evaluates its source, then the Index, and stores the
+/// source's value to the part, and an Increment or a Decrement of an Index counts the part, where this is a value or
+/// a byte. A Store to an Index that stores nothing is refused by this.
 pub fn an_index_is_a_target<S>()
     ensures target { (accesses : Accesses S) (scope : List Seg) (depth : ℕ) (x y : Tree) (w : State S) (steps : ℕ)
         (v : Value) (i : ℕ) (after : State S × ℕ) → Indexes accesses scope depth x y (w, steps) v i after → (n : ℕ)
@@ -85,9 +86,10 @@ pub fn a_size_counts_bytes_and_elements<S>()
         Gives accesses scope depth (size_of (inner (part_read x y))) (w, suc (suc (suc steps))) n after }
 {}
 
-/// ObjectType of a local, an argument or a name that holds a value gives the number of the type of this value, of a name
-/// that holds none that of what it names, of a slot that holds none 0, and of Debug 16 (ACPI 6.5, 19.6: ObjectType, its
-/// table). Of a DerefOf of an Index it is that of the element, and of a byte that of an integer. It changes nothing.
+/// ObjectType of a local, an argument or a name that holds a value gives the number of the type of this value, of a
+/// name that holds none that of what it names, of a slot that holds none 0, and of Debug 16 (ACPI 6.5, 19.6:
+/// ObjectType, its table). Of a DerefOf of an Index it is that of the element, and of a byte that of an integer. It
+/// changes nothing.
 pub fn object_types_have_their_numbers<S>()
     ensures values { (accesses : Accesses S) (scope : List Seg) (depth : ℕ) (p : Part) (w : State S) (steps : ℕ)
         (t : StoreTarget) (v : Value) (k : ℕ) → NamesTarget scope w p t → TargetHolds w t v → IsNumbered v k →
@@ -107,15 +109,16 @@ pub fn object_types_have_their_numbers<S>()
         Gives accesses scope depth (object_type (inner (alone opcodes.Debug))) (w, suc steps) 16 (w, steps) }
 {}
 
-/// CondRefOf of a name that is found stores a reference to its declaration and gives Ones; where none is found it stores
-/// nothing and gives Zero. A name that is refused for another reason, as one that leads above the root, is refused here,
-/// too. Of a local or an argument it does the same by whether it holds a value. What it refers to isn't evaluated, and it
-/// changes nothing but its target. One that stores in either case, or that gives One, is refused by this.
+/// CondRefOf of a name that is found puts a reference to its declaration into its target and gives Ones; where none is
+/// found it stores nothing and gives Zero. A name that is refused for another reason, as one that leads above the
+/// root, is refused here, too. Of a local or an argument it does the same by whether it holds a value. Where its
+/// target doesn't take the reference, as a field doesn't, it is refused so. What it refers to isn't evaluated, and it
+/// changes nothing but its target. One that stores in either case, one that gives One, and one that is done where its
+/// target refuses, are refused by this.
 pub fn a_conditional_reference_tells_what_is_found<S>()
     ensures name_found { (accesses : Accesses S) (scope : List Seg) (depth : ℕ) (w : State S) (steps : ℕ) (q : Part)
-        (n : Name) (path : List Seg) (e : Entry) (end : State S) → found w.names.map scope n ≡ Ok (path, e) →
-        StoresTo scope q (value.Reference (reference.Name e.number)) w end →
-        Gives accesses scope depth (conditional (name n) q) (w, suc steps) (2 ^ bits_of end.width - 1) (end, steps) }
+        (n : Name) (path : List Seg) (e : Entry) → found w.names.map scope n ≡ Ok (path, e) →
+        PutsReference accesses scope depth (conditional (name n) q) (w, steps) q (reference.Name e.number) }
     ensures no_name { (accesses : Accesses S) (scope : List Seg) (depth : ℕ) (w : State S) (steps : ℕ) (q : Part)
         (n : Name) → found w.names.map scope n ≡ Err (refusal.Namespace NotFound) →
         Gives accesses scope depth (conditional (name n) q) (w, suc steps) 0 (w, steps) }
@@ -123,10 +126,9 @@ pub fn a_conditional_reference_tells_what_is_found<S>()
         (n : Name) (e : Refusal) → found w.names.map scope n ≡ Err e → e ≢ refusal.Namespace NotFound →
         IsRefused accesses scope depth (conditional (name n) q) (w, suc steps) e (w, steps) }
     ensures slot_with_value { (accesses : Accesses S) (scope : List Seg) (depth : ℕ) (w : State S) (steps : ℕ) (q : Part)
-        (op : Opcode) (s : Slot) (v : Value) (end : State S) → NamesSlot op s → (h : SlotHolds w s v) →
-        IsNumberedLast w h.frame h.last → StoresTo scope q (value.Reference (reference.Slot s h.frame.number)) w end →
-        Gives accesses scope depth (conditional (inner (alone op)) q) (w, suc steps) (2 ^ bits_of end.width - 1)
-        (end, steps) }
+        (op : Opcode) (s : Slot) (v : Value) → NamesSlot op s → (h : SlotHolds w s v) →
+        IsNumberedLast w h.frame h.last → PutsReference accesses scope depth (conditional (inner (alone op)) q)
+        (w, steps) q (reference.Slot s h.frame.number) }
     ensures empty_slot { (accesses : Accesses S) (scope : List Seg) (depth : ℕ) (w : State S) (steps : ℕ) (q : Part)
         (op : Opcode) (s : Slot) → NamesSlot op s → (h : SlotIsEmpty w s) → IsNumberedLast w h.frame h.last →
         Gives accesses scope depth (conditional (inner (alone op)) q) (w, suc steps) 0 (w, steps) }

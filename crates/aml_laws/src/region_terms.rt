@@ -1,5 +1,5 @@
 //! Operation regions and the fields in them, as their terms declare them.
-ghost use Rattle.std.specs.Prelude.{◌≡◌, ◌<◌, ℕ, List, Ok, false};
+ghost use Rattle.std.specs.Prelude.{◌≡◌, ◌<◌, ℕ, List, Ok};
 ghost use Rattle.ar_space.specs.Accesses.{Accesses};
 ghost use Rattle.ar_space.specs.declared.space.Width.TheVariants.{W8, W16, W32, W64};
 ghost use Rattle.aml_path.specs.declared.segment.Seg.{Seg};
@@ -13,12 +13,13 @@ ghost use Rattle.aml_objects.specs.declared.value.Value.{Value};
 ghost use Rattle.aml_meaning.specs.declared.flow.Flow.{Flow};
 ghost use Rattle.aml_meaning.specs.declared.flow.Flow.TheVariants as flow;
 ghost use Rattle.aml_meaning.specs.Evaluation.{rule};
-ghost use Rattle.aml_meaning.specs.FieldTerms.{access_width, update_rule, has_connection, fields_laid};
+ghost use Rattle.aml_meaning.specs.FieldTerms.{access_width, update_rule, fields_laid};
 ghost use Rattle.aml_meaning.specs.Meaning.{meaning};
 ghost use Rattle.aml_meaning.specs.Readings.{integer_in};
 ghost use Rattle.aml_meaning.specs.State.{State};
 ghost use Rattle.aml_meaning.specs.Tasks.{task};
 ghost use Rattle.aml_laws.specs.BankDeclarations.{Finds, FindsField};
+ghost use Rattle.aml_laws.specs.FieldsPut.{TakesList};
 ghost use Rattle.aml_laws.specs.RegionTerms.{operation_region, field, index_field, IsRegionAt, HasFlags};
 
 /// An OperationRegion term that isn't refused leaves at the path of its name just the region that it says: in the
@@ -35,19 +36,19 @@ pub fn a_region_is_declared_as_its_term_says<S>()
         IsRegionAt after.0.names.map path (record { space = space; offset = x; length = y }) }
 {}
 
-/// The fields of a Field term lie in the operation region that its name finds, by its flags, and those of an IndexField
-/// term behind the index field and the data field that its names find, in this order: as
-/// `fields_lie_where_their_list_lays_them_out` says of such lists. Neither evaluates anything. Another region's
-/// fields, or an index field and a data field that are exchanged, are refused by this. Lists with a Connection aren't
-/// meant.
+/// The fields of a Field term lie in the operation region that its name finds, by its flags, and those of an
+/// IndexField term behind the index field and the data field that its names find, in this order: as
+/// `fields_lie_where_their_list_lays_them_out` says of such lists. Neither evaluates anything. The core profile takes
+/// lists without a Connection alone. Another region's fields, or an index field and a data field that are exchanged,
+/// are refused by this.
 pub fn fields_are_declared_in_what_their_names_find<S>()
     ensures region { (accesses : Accesses S) (scope : List Seg) (depth flags : ℕ) (fields : Trees) (s : State S × ℕ) →
-        has_connection fields ≡ false → (region : Name) (number : ℕ) (r : OperationRegion) →
+        TakesList s.0 fields → (region : Name) (number : ℕ) (r : OperationRegion) →
         Finds s.0 scope region number (object.OperationRegion r) →
         rule accesses (meaning accesses) (task scope depth (field region flags fields)) s ≡
         fields_laid scope depth (sources.Region number) flags fields s }
     ensures index { (accesses : Accesses S) (scope : List Seg) (depth flags : ℕ) (fields : Trees) (s : State S × ℕ) →
-        has_connection fields ≡ false → (index behind : Name) (i d p q : ℕ) →
+        TakesList s.0 fields → (index behind : Name) (i d p q : ℕ) →
         FindsField s.0 scope index i (sources.Region p) → FindsField s.0 scope behind d (sources.Region q) →
         rule accesses (meaning accesses) (task scope depth (index_field index behind flags fields)) s ≡
         fields_laid scope depth (sources.Index i d) flags fields s }

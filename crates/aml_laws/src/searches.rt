@@ -27,10 +27,10 @@ pub fn a_searched_name_finds_the_nearest()
         found names scope (single s) ≡ Err (Namespace NotFound) }
 {}
 
-/// A name with a prefix or of more segments than one stands for one path (`StandsFor`): it finds what stands there, an
-/// alias's target in one step, and nothing else. More `^` than the scope has segments lead above the root, and a name
-/// without a prefix and without a segment stands for nothing: both are refused. A search above the scope for such a name
-/// and a `\` that begins at the scope are refused by this.
+/// A name with a prefix or of more segments than one stands for one path (`StandsFor`): it finds what stands there,
+/// an alias's target in one step, and nothing else. More `^` than the scope has segments lead above the root, and a
+/// name without a prefix and without a segment stands for nothing: both are refused. A search above the scope for
+/// such a name and a `\` that begins at the scope are refused by this.
 #[tactic(auto, using(crate::proofs::NamesWritten::a_path))]
 pub fn any_other_name_stands_at_one_path()
     ensures stands { (names : Map) (scope : List Seg) (name : Name) (path : List Seg) (entry : Entry)
@@ -44,10 +44,10 @@ pub fn any_other_name_stands_at_one_path()
         found names scope (from_parents 0 []) ≡ Err (refusal.Name BadName) }
 {}
 
-/// A name is declared at one path, without a search: at that of its segments below the root behind a `\`, below what the
-/// `^` leave of the scope, or else below the scope, of however many segments it is. More `^` than the scope has segments
-/// and a name without a prefix and without a segment are refused. One `^` that leads to the root from wherever it stands
-/// is refused by this.
+/// A name is declared at one path, without a search: at that of its segments below the root behind a `\`, below what
+/// the `^` leave of the scope, or else below the scope, of however many segments it is. More `^` than the scope has
+/// segments and a name without a prefix and without a segment are refused. One `^` that leads to the root from
+/// wherever it stands is refused by this.
 #[tactic(auto, using(crate::proofs::NamesWritten::a_name_is_declared_at_one_path))]
 pub fn a_name_is_declared_at_one_path()
     ensures path { (scope : List Seg) (name : Name) (path : List Seg) → StandsFor scope name path →

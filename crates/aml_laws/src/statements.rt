@@ -12,11 +12,11 @@ ghost use Rattle.aml_meaning.specs.State.{State};
 ghost use Rattle.aml_meaning.specs.Tasks.{task, in_turn};
 ghost use Rattle.aml_laws.specs.OperatorTerms.{alone, of_one, GivesValue, IsRefused};
 
-/// The items of a list are evaluated one after another: behind one that gives nothing, and one that gives a value, which
-/// nobody takes, the list goes on in the world and with the steps that the item left. An item that returns a value, a
-/// Break and a Continue end the list, and what they tell is told of the list, so that it leaves the lists round it, too,
-/// up to the loop or the control method that it ends. A list that comes to its end gives nothing. A list that goes on
-/// behind a Return is refused by this.
+/// The items of a list are evaluated one after another: behind one that gives nothing, and one that gives a value,
+/// which nobody takes, the list goes on in the world and with the steps that the item left. An item that returns a
+/// value, a Break and a Continue end the list, and what they tell is told of the list, so that it leaves the lists
+/// round it, too, up to the loop or the control method that it ends. A list that comes to its end gives nothing. A
+/// list that goes on behind a Return is refused by this.
 pub fn items_are_evaluated_one_after_another<S>()
     ensures nothing { (accesses : Accesses S) (scope : List Seg) (depth : ℕ) (t : Tree) (ts : Trees)
         (s after : State S × ℕ) → meaning accesses (task scope depth t) s ≡ (Ok flow.Next, after) →

@@ -38,9 +38,9 @@ pub fn arguments_and_elements_take_copies<S>()
         ElementTakesCopy before after o i es v) }
 {}
 
-/// A Store to a byte of a string or of a buffer takes an integer modulo 256, and of a string or a buffer the first byte;
-/// nothing else of the world changes. An empty one is refused, and so is a value of any other type. A byte that is
-/// written elsewhere is refused by this.
+/// A Store to a byte of a string or of a buffer takes an integer modulo 256, and of a string or a buffer the first
+/// byte; nothing else of the world changes. An empty one is refused, and so is a value of any other type. A byte that
+/// is written elsewhere is refused by this.
 pub fn a_byte_takes_the_first_byte_of_a_value<S>()
     ensures stored { (w : State S) (o i : ℕ) (v : Value) (b : ℕ) (old new : Object) →
         slice_get w.objects o ≡ Some old → GivesByte w v b → ByteTaken i b old new →

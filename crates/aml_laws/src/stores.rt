@@ -17,14 +17,15 @@ ghost use Rattle.aml_meaning.specs.declared.store_target.StoreTarget.TheVariants
 ghost use Rattle.aml_meaning.specs.declared.store_target.Stored.TheVariants as store;
 ghost use Rattle.aml_laws.specs.StoredNames.{data_entry, with_integer, with_object_numbered, cut_or_filled};
 
-/// A Store to a name converts to what the name holds (ACPI 6.5, 19.3.5.8). A name that holds an integer then holds the
-/// integer that the value converts to, under the number of its declaration. One that holds a string keeps its object,
-/// which has the text that the value converts to; one that holds a buffer of some bytes keeps its object and its length,
-/// and has the bytes that the value converts to, cut or with zeros behind them; an empty buffer takes them all. Nothing
-/// else of the world changes. One that holds a package takes a copy of another package, as CopyObject leaves it. A value
-/// that doesn't convert (`what_has_no_conversion_is_refused` says which those are), and any but a package where a package
-/// is held, is refused, and the world stays as it was. A Store that puts the value itself into the name, that makes
-/// another object, that changes the length of a buffer, or that shares a package is refused by this.
+/// A Store to a name converts to what the name holds (ACPI 6.5, 19.3.5.8). A name that holds an integer then holds
+/// the integer that the value converts to, under the number of its declaration. One that holds a string keeps its
+/// object, which has the text that the value converts to; one that holds a buffer of some bytes keeps its object and
+/// its length, and has the bytes that the value converts to, cut or with zeros behind them; an empty buffer takes
+/// them all. Nothing else of the world changes. One that holds a package takes a copy of another package, as
+/// CopyObject leaves it. A value that doesn't convert (`what_has_no_conversion_is_refused` says which those are), and
+/// any but a package where a package is held, is refused, and the world stays as it was. A Store that puts the value
+/// itself into the name, that makes another object, that changes the length of a buffer, or that shares a package is
+/// refused by this.
 #[tactic(auto, using(crate::proofs::StoredNames::a_store_converts_to_what_its_name_holds))]
 pub fn a_store_converts_to_what_its_name_holds<S>()
     ensures integer { (w : State S) (path : List Seg) (number : ℕ) (v : Value) (m n : ℕ) →

@@ -24,8 +24,8 @@ ghost use Rattle.aml_laws.specs.TestTerms.{TellsOfOne, TellsOfTwo, ComparesInteg
 ghost use Rattle.aml_laws.specs.MatchedTerms.{match, IsNumberOf, GivesOperands, Matches, MeetsBoth, IsNoPackage};
 ghost use Rattle.aml_laws.specs.StoredParts.{IsNoData};
 
-/// LAnd is True where both of its integers are not 0, LOr where one of them isn't, LNot where its integer is 0: and else
-/// they are False. Both operands are evaluated in any case, from left to right.
+/// LAnd is True where both of its integers are not 0, LOr where one of them isn't, LNot where its integer is 0: and
+/// else they are False. Both operands are evaluated in any case, from left to right.
 pub fn logical_operators_tell_of_truth<S>()
     ensures both { TellsOfTwo S opcodes.LAnd (λ a b. (0 < a) × (0 < b)) }
     ensures any { TellsOfTwo S opcodes.LOr (λ a b. (0 < a) ⊎ (0 < b)) }
@@ -33,9 +33,9 @@ pub fn logical_operators_tell_of_truth<S>()
 {}
 
 /// LEqual, LGreater and LLess of an integer are True where it is equal to, greater than or less than the integer that
-/// the second operand converts to, and else False. Of any values they tell the order of the values, and where these have
-/// none they are refused so. Each evaluates its operands from left to right, and changes nothing. Comparisons that are
-/// exchanged, or whose operands are, are refused by this.
+/// the second operand converts to, and else False. Of any values they tell the order of the values, and where these
+/// have none they are refused so. Each evaluates its operands from left to right, and changes nothing. Comparisons
+/// that are exchanged, or whose operands are, are refused by this.
 pub fn terms_of_comparisons_tell_the_order<S>()
     ensures equal { ComparesIntegers S opcodes.LEqual (λ a b. a ≡ b) }
     ensures greater { ComparesIntegers S opcodes.LGreater (λ a b. b < a) }
@@ -43,13 +43,14 @@ pub fn terms_of_comparisons_tell_the_order<S>()
     ensures values { (op : Opcode) (wanted : Ordering) → Asks op wanted → ComparesValues S op wanted }
 {}
 
-/// Match, in the wide profile, of a package whose elements hold integers or nothing, gives the index of the first element,
-/// from the start index on, that holds an integer which is so to both integers as their operators ask: MTR any, MEQ equal,
-/// MLE less or equal, MLT less, MGE greater or equal, MGT greater, which are the numbers from 0 to 5. A name that is an
-/// element is searched for from the scope that stands beside it. What is uninitialized and a name that isn't found hold
-/// nothing, and match under no operator. Where no element matches, the term gives Ones; a start index past the end is
-/// refused, and so is an operator of any other number. The element stands on the left of the operator: a search that has
-/// it on the right, and one that finds an element that holds nothing, are refused by this.
+/// Match, in the wide profile, of a package whose elements hold integers or nothing, gives the index of the first
+/// element, from the start index on, that holds an integer which is so to both integers as their operators ask: MTR
+/// any, MEQ equal, MLE less or equal, MLT less, MGE greater or equal, MGT greater, which are the numbers from 0 to 5.
+/// A name that is an element is searched for from the scope that stands beside it. What is uninitialized and a name
+/// that isn't found hold nothing, and match under no operator. Where no element matches, the term gives Ones; a start
+/// index past the end is refused, and so is an operator of any other number. The element stands on the left of the
+/// operator: a search that has it on the right, and one that finds an element that holds nothing, are refused by
+/// this.
 pub fn a_match_finds_the_first_element<S>()
     ensures first { (accesses : Accesses S) (scope : List Seg) (depth : ℕ) (p x y i : Tree) (w : State S) (steps : ℕ)
         (es : List Element) (a b start : ℕ) (after : State S × ℕ) →
@@ -78,9 +79,9 @@ pub fn a_match_finds_the_first_element<S>()
         (refusal.Value WrongType) after }
 {}
 
-/// In the wide profile Match of what is no package, and one with an object that is neither an integer nor a string nor a
-/// buffer, is refused, once all its operands are evaluated (ACPI 6.5, 19.6: Match). A package as an object that elements
-/// are compared with is refused by this.
+/// In the wide profile Match of what is no package, and one with an object that is neither an integer nor a string
+/// nor a buffer, is refused, once all its operands are evaluated (ACPI 6.5, 19.6: Match). A package as an object that
+/// elements are compared with is refused by this.
 pub fn a_match_asks_for_a_package_and_for_data<S>()
     ensures { (accesses : Accesses S) (scope : List Seg) (depth : ℕ) (p x y i : Tree) (w : State S) (steps : ℕ)
         (c u v t : Value) (after : State S × ℕ) →
@@ -89,9 +90,9 @@ pub fn a_match_asks_for_a_package_and_for_data<S>()
         (w, suc steps) (refusal.Value WrongType) after }
 {}
 
-/// What an element holds that has no order with the object of a test, since it doesn't convert to the object's type, meets
-/// no test but MTR, which whatever an element holds meets (ACPI 6.5, 19.6: Match); an element that holds nothing meets none
-/// at all (`a_match_finds_the_first_element`). One that matches all the same is refused by this.
+/// What an element holds that has no order with the object of a test, since it doesn't convert to the object's type,
+/// meets no test but MTR, which whatever an element holds meets (ACPI 6.5, 19.6: Match); an element that holds
+/// nothing meets none at all (`a_match_finds_the_first_element`). One that matches all the same is refused by this.
 pub fn what_does_not_convert_matches_no_object()
     ensures other { (width : IntegerWidth) (j : ℕ) (k : MatchOperator) (object element : Content) (e : Refusal) →
         IsNumberOf j k → 0 < j → compared width object element ≡ Err e → is_match width k object element ≡ false }

@@ -5,11 +5,13 @@ ghost use Rattle.std.specs.Int.Digits.{digits_of};
 ghost use Rattle.std.specs.declared.cmp.Ordering.{Ordering};
 ghost use Rattle.std.specs.declared.cmp.Ordering.TheVariants.{Less};
 ghost use Rattle.ar_space.specs.declared.refusal.Refusal.{Refusal};
+ghost use Rattle.ar_space.specs.declared.refusal.Refusal.TheVariants as refusal;
+ghost use Rattle.ar_space.specs.declared.refusal.ValueFault.TheVariants.{WrongType};
 ghost use Rattle.ar_space.specs.declared.integer_width.IntegerWidth.{IntegerWidth};
 ghost use Rattle.acpi_resources.specs.Items.{items_of};
-ghost use Rattle.aml_objects.specs.Contents.{Integer, String, Buffer};
+ghost use Rattle.aml_objects.specs.Contents.{Content, Integer, String, Buffer, Other};
 ghost use Rattle.aml_convert.specs.Integers.{bits_of, bytes_of};
-ghost use Rattle.aml_convert.specs.Conversions.{to_integer_of, to_text_of, explicit_integer_of, compared};
+ghost use Rattle.aml_convert.specs.Conversions.{to_integer_of, to_text_of, to_buffer_of, explicit_integer_of, compared};
 ghost use Rattle.aml_convert.specs.Strings.{decimal_string_of};
 ghost use Rattle.aml_convert.specs.Decimals.{coded_decimal, decoded_decimal};
 ghost use Rattle.aml_convert.specs.Concatenation.{resources_joined};
@@ -56,8 +58,9 @@ pub fn values_of_one_type_are_in_a_total_order()
 {}
 
 /// LEqual, LGreater and LLess are True, which has all bits of the width set, exactly where the order of their two
-/// values is the one that they ask for, and else False, which is 0; where the values have no order the comparison is
-/// refused so. It changes nothing. A comparison that asks for another order, and a True that is 1, are refused by this.
+/// values is the one that they ask for, and else False, which is 0; where the values have no order, the comparison is
+/// refused by what keeps them from one. It changes nothing. A comparison that asks for another order, and a True that
+/// is 1, are refused by this.
 pub fn comparisons_answer_by_the_order<S>()
     ensures asked { (w : State S) (c : Comparison) (a b : Value) (o : Ordering) →
         compared w.width (content_in w.objects a) (content_in w.objects b) ≡ Ok o → AsksFor c o →
@@ -67,6 +70,27 @@ pub fn comparisons_answer_by_the_order<S>()
         compared_in c a b w ≡ (Ok (value.Integer 0), w) }
     ensures refused { (w : State S) (c : Comparison) (a b : Value) (e : Refusal) →
         compared w.width (content_in w.objects a) (content_in w.objects b) ≡ Err e → compared_in c a b w ≡ (Err e, w) }
+{}
+
+/// Two values of different types are compared by the type of the first: the second one is converted to an integer, to
+/// a text or to bytes. Where it doesn't convert so, the comparison is refused as the conversion is; and where the
+/// first is neither an integer nor a string nor a buffer, as `WrongType`. A string that is compared with an integer
+/// by the integer's type is refused by this.
+pub fn the_second_value_is_compared_as_the_first_one()
+    ensures integer { (width : IntegerWidth) (n m : ℕ) (second : Content) → to_integer_of width second ≡ Ok m →
+        compared width (Integer n) second ≡ compared width (Integer n) (Integer m) }
+    ensures string { (width : IntegerWidth) (s t : List ℕ) (second : Content) → to_text_of width second ≡ Ok t →
+        compared width (String s) second ≡ compared width (String s) (String t) }
+    ensures buffer { (width : IntegerWidth) (s t : List ℕ) (second : Content) → to_buffer_of width second ≡ Ok t →
+        compared width (Buffer s) second ≡ compared width (Buffer s) (Buffer t) }
+    ensures no_integer { (width : IntegerWidth) (n : ℕ) (second : Content) (e : Refusal) →
+        to_integer_of width second ≡ Err e → compared width (Integer n) second ≡ Err e }
+    ensures no_text { (width : IntegerWidth) (s : List ℕ) (second : Content) (e : Refusal) →
+        to_text_of width second ≡ Err e → compared width (String s) second ≡ Err e }
+    ensures no_bytes { (width : IntegerWidth) (s : List ℕ) (second : Content) (e : Refusal) →
+        to_buffer_of width second ≡ Err e → compared width (Buffer s) second ≡ Err e }
+    ensures no_data { (width : IntegerWidth) (second : Content) →
+        compared width Other second ≡ Err (refusal.Value WrongType) }
 {}
 
 /// The hexadecimal digits of a number in binary coded decimal are the decimal digits of the number, so that ToBCD and
@@ -92,12 +116,12 @@ pub fn joined_resources_have_the_items_of_both()
         items_of joined ≡ before_end_tag (items_of first) ++ before_end_tag (items_of second) ++ end_tag ∷ [] }
 {}
 
-/// Each integer has a string of all the digits of its width, upper-case hexadecimal ones, and one that ToDecimalString
-/// gives; and each buffer has one, three characters long for each byte but the last, which has two. Which characters these
-/// are `strings_spell_bytes_and_integers` says. ToBCD answers of each number that has no more decimal digits than the
-/// width has hexadecimal ones, and FromBCD of each whose hexadecimal digits are decimal ones. Two buffers of resource
-/// items are joined where each is empty or has an end tag. A conversion that refuses these, or that leaves leading zeros
-/// out of a hexadecimal string, is refused by this.
+/// Each integer has a string of all the digits of its width, upper-case hexadecimal ones, and one that
+/// ToDecimalString gives; and each buffer has one, three characters long for each byte but the last, which has two.
+/// Which characters these are `strings_spell_bytes_and_integers` says. ToBCD answers of each number that has no more
+/// decimal digits than the width has hexadecimal ones, and FromBCD of each whose hexadecimal digits are decimal ones.
+/// Two buffers of resource items are joined where each is empty or has an end tag. A conversion that refuses these,
+/// or that leaves leading zeros out of a hexadecimal string, is refused by this.
 #[tactic(auto, using(crate::proofs::ConversionsAnswered::conversions_answer))]
 pub fn conversions_answer()
     ensures hexadecimal { (width : IntegerWidth) (n : ℕ) → (text : List ℕ) ×

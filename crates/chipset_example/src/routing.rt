@@ -3,8 +3,7 @@ use crate::chipset::Chipset;
 use acpi_configure::{Options, configure_with};
 use acpi_machine::{EvaluationSettings, Machine, Mode, Nesting, Profile, load_tables_as};
 use ar_space::{Refusal, Space, SpaceFault};
-use ar_tables::find_tables;
-use machine_text::read_machine;
+use machine_description::read_description;
 use recorded_route::{Access, Ending, Exchange, Settings, configure_recorded};
 use route_report::{Report, print};
 use std::alloc::Global;
@@ -25,15 +24,14 @@ const SETTINGS: Settings = Settings {
 
 /// The tables in the memory of a machine text, over the registers of a chipset.
 fn machine(alloc: Global, text: &[u8]) -> Result<Machine<Chipset>, Refusal> {
-    let said = read_machine(alloc, text)?;
-    let tables = find_tables(alloc, said.space.memory(), said.rsdp)?;
+    let machine = read_description(alloc, text)?;
     match load_tables_as(
         alloc,
         SETTINGS.evaluation,
-        tables,
+        machine.tables,
         Chipset::new(),
         SETTINGS.steps,
-        Vec::new(alloc),
+        machine.osi,
     ) {
         Ok(machine) => Ok(machine),
         Err((refusal, _)) => Err(refusal),
@@ -81,7 +79,7 @@ fn made(chipset: &mut Chipset, access: Access) -> Exchange {
 /// How many accesses are made at most.
 const MAX_ACCESSES: usize = 1000;
 
-/// The same report, from a record of accesses that grows with each run until no access is wanted.
+/// The report of a machine whose registers are a record of accesses, which grows with each run until none is wanted.
 pub fn report_by_record(alloc: Global, text: &[u8]) -> anyhow::Result<String> {
     let mut chipset = Chipset::new();
     let mut record = Vec::new(alloc);

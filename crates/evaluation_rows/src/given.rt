@@ -1,10 +1,10 @@
 //! Arguments that rows hand to control methods.
-use crate::answers::add;
 use crate::loading::valued;
-use crate::reading::{count, number, path_of, value};
+use crate::reading::{number, value};
 use aml_meaning::{Datum, World};
 use aml_objects::{Reference, Value};
 use ar_space::Sparse;
+use row_words::{add, count, path_of};
 use space_trace::Traced;
 use test_rows::Exchange;
 

@@ -1,13 +1,13 @@
 //! Tables that are loaded into a world, and what its names answer.
-use crate::answers::{extend, refuse, say_done};
 use crate::evaluation::Aside;
-use crate::reading::{number, path, path_of, steps};
+use crate::given;
+use crate::reading::{number, steps};
 use crate::telling::{push_datum, say_value};
-use crate::{given, shown};
 use aml_meaning::{Datum, World};
 use aml_objects::Value;
 use aml_path::Path;
 use ar_space::{Refusal, Sparse};
+use row_words::{extend, path, path_of, refuse, say_accesses, say_done};
 use space_trace::Traced;
 use std::alloc::Global;
 use test_rows::Exchange;
@@ -161,6 +161,6 @@ pub fn answer(
         Ask::Body => call_body(asked, world),
         Ask::Answer => answer_path(asked, world),
         Ask::Value => value_of_path(asked, world, &mut aside.left),
-        Ask::Accesses => shown::say_accesses(asked, world.space().accesses()),
+        Ask::Accesses => say_accesses(asked, world.space().accesses()),
     }
 }

@@ -1,8 +1,8 @@
 //! Machines that are made from images of their tables.
-use crate::answers::{push_path, refuse, say_done, say_path, say_table};
+use crate::answers::{say_path_of, say_table};
 use crate::given;
 use crate::loading::say_answered;
-use crate::reading::{count, path, texts};
+use crate::reading::texts;
 use crate::shown::say_kind;
 use acpi_machine::{Kind, Machine, Mode};
 use acpi_prt::{Pin, Route, get_irq_routing_table};
@@ -10,6 +10,7 @@ use aml_meaning::Datum;
 use aml_objects::Octets;
 use aml_path::Path;
 use ar_space::{Refusal, Sparse};
+use row_words::{count, path, push_path, refuse, say_done};
 use std::alloc::Global;
 use test_rows::Exchange;
 
@@ -147,7 +148,7 @@ fn push_pin(asked: &mut Exchange, pin: &Pin) {
             asked.say("wired");
             asked.say_number(u64::from(*interrupt));
         }
-        Route::Link(path) => say_path(asked, "link", path),
+        Route::Link(path) => say_path_of(asked, "link", path),
     }
 }
 

@@ -1,11 +1,11 @@
 //! Worlds and machines that are made over the registers that stand.
-use crate::answers::{refuse, say_done};
 use crate::evaluation::Evaluation;
 use acpi_machine::{Machine, load_tables};
 use aml_meaning::World;
 use aml_objects::Octets;
 use ar_space::{IntegerWidth, Refusal, Sparse};
 use ar_tables::{Image, Tables, find_tables};
+use row_words::{refuse, say_done};
 use space_trace::Traced;
 use std::alloc::Global;
 use std::mem;

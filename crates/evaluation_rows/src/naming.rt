@@ -1,12 +1,12 @@
 //! The names of a world.
-use crate::answers::{refuse, say_of};
-use crate::reading::{number, path};
+use crate::reading::number;
 use crate::shown::{say_object, say_paths};
 use aml_meaning::World;
 use aml_namespace::Names;
 use aml_objects::NamedObject;
 use aml_path::{NameString, Path, Prefix};
 use ar_space::{IntegerWidth, Refusal, Sparse};
+use row_words::{path, refuse, say_of};
 use space_trace::Traced;
 use test_rows::Exchange;
 

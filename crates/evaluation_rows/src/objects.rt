@@ -1,10 +1,10 @@
 //! The objects and the frames of a world.
-use crate::answers::{refuse, say_done, say_of};
-use crate::reading::{number, object_number, octets, slot, value};
+use crate::reading::{number, octets, slot, value};
 use crate::telling::{say_content, say_outcome};
 use aml_meaning::World;
 use aml_objects::{Element, Elements, Value};
 use ar_space::{Refusal, Sparse};
+use row_words::{object_number, refuse, say_done, say_of};
 use space_trace::Traced;
 use std::alloc::Global;
 use test_rows::Exchange;

@@ -1,9 +1,9 @@
 //! Which function answers which question.
 use crate::evaluation::{Aside, Evaluation};
-use crate::reading::SpaceKind;
 use crate::{loading, machines, making, naming, objects, setting};
 use aml_meaning::World;
 use ar_space::Sparse;
+use row_words::SpaceKind;
 use space_trace::Traced;
 use test_rows::Exchange;
 

@@ -1,8 +1,6 @@
-//! How rows write numbers, paths, places and values.
-use crate::answers::{add, extend, refuse};
+//! How rows write numbers and values.
 use aml_objects::{Octets, Reference, Slot, Value};
-use aml_path::Path;
-use ar_space::{Place, Refusal};
+use row_words::{add, count, extend, object_number, tiny};
 use test_rows::Exchange;
 
 /// A number in decimal digits, or behind `0x` in hexadecimal ones.
@@ -12,16 +10,6 @@ pub fn number(asked: &mut Exchange) -> u64 {
     } else {
         asked.number(u64::MAX)
     }
-}
-
-/// A number that indexes or counts.
-pub fn count(asked: &mut Exchange) -> usize {
-    asked.number(u64::MAX) as usize
-}
-
-/// The number of an object.
-pub fn object_number(asked: &mut Exchange) -> u32 {
-    asked.number(0xFFFF_FFFF) as u32
 }
 
 /// The steps of `in N steps`; there are 1000 where it is left out.
@@ -34,29 +22,6 @@ pub fn steps(asked: &mut Exchange) -> u64 {
         asked.misunderstand();
     }
     count
-}
-
-/// What a path that was read comes to: the root where it is none.
-fn path_or_root(asked: &mut Exchange, read: Result<Path, Refusal>) -> Path {
-    match read {
-        Ok(path) => path,
-        Err(refusal) => {
-            refuse(asked, refusal);
-            Path::root(asked.alloc())
-        }
-    }
-}
-
-/// The path that a text is.
-pub fn path_of(asked: &mut Exchange, text: &str) -> Path {
-    let read = Path::from_text(asked.alloc(), text.as_bytes());
-    path_or_root(asked, read)
-}
-
-/// The path that the next word is.
-pub fn path(asked: &mut Exchange) -> Path {
-    let word = asked.word();
-    path_of(asked, word)
 }
 
 /// All that is left, as the bytes of an object.
@@ -81,52 +46,6 @@ pub fn texts(asked: &mut Exchange) -> Vec<Octets> {
         add(asked, &mut list, bytes);
     }
     list
-}
-
-/// An address space.
-#[derive(Clone, Copy)]
-pub enum SpaceKind {
-    Io,
-    Memory,
-    Pci,
-}
-
-/// The address spaces, by their words.
-const SPACES: [(&str, SpaceKind); 3] = [
-    ("io", SpaceKind::Io),
-    ("memory", SpaceKind::Memory),
-    ("pci", SpaceKind::Pci),
-];
-
-/// The address space that the next word is.
-pub fn space(asked: &mut Exchange) -> SpaceKind {
-    let word = asked.word();
-    asked.one_of(&SPACES, word, SpaceKind::Io)
-}
-
-/// A number of 16 bits in hexadecimal digits.
-fn short(asked: &mut Exchange) -> u16 {
-    asked.hexadecimal(0xFFFF) as u16
-}
-
-/// A number of 8 bits in hexadecimal digits.
-fn tiny(asked: &mut Exchange) -> u8 {
-    asked.hexadecimal(0xFF) as u8
-}
-
-/// A place in an address space: `PORT`, `ADDRESS`, or `SEGMENT BUS DEVICE FUNCTION REGISTER`.
-pub fn place(asked: &mut Exchange, space: SpaceKind) -> Place {
-    match space {
-        SpaceKind::Io => Place::Io(short(asked)),
-        SpaceKind::Memory => Place::Memory(asked.hexadecimal(u64::MAX)),
-        SpaceKind::Pci => Place::Pci {
-            seg: short(asked),
-            bus: tiny(asked),
-            dev: tiny(asked),
-            func: tiny(asked),
-            reg: short(asked),
-        },
-    }
 }
 
 /// A slot of a frame: `local N` or `argument N`.

@@ -1,9 +1,9 @@
 //! What stands before a world or a machine is made, and single bytes of the registers.
-use crate::answers::{say_byte, say_done};
 use crate::evaluation::Evaluation;
-use crate::reading::{SpaceKind, place, space, texts};
+use crate::reading::texts;
 use aml_objects::Octets;
-use ar_space::{IntegerWidth, Place, Sparse};
+use ar_space::{IntegerWidth, Sparse};
+use row_words::{SpaceKind, place, place_in, put_from, say_byte, say_done};
 use test_rows::Exchange;
 
 /// The widths of integers, by their bits.
@@ -28,26 +28,11 @@ fn put_aside(asked: &mut Exchange, aml: &mut Vec<u8>) {
     *aml = asked.bytes();
 }
 
-/// Puts bytes into registers from a place on.
-fn put_all(asked: &mut Exchange, space: &mut Sparse, first: Place, bytes: &[u8]) {
-    let mut next = Some(first);
-    for byte in bytes {
-        match next {
-            Some(at) => {
-                say_done(asked, space.put(at, *byte));
-                next = at.offset_by(1);
-            }
-            None => asked.misunderstand(),
-        }
-    }
-}
-
 /// `io PORT BYTES`, `memory ADDRESS BYTES` or `pci SEGMENT BUS DEVICE FUNCTION REGISTER BYTES`: bytes that stand in
 /// registers.
 fn put(asked: &mut Exchange, space: &mut Sparse, kind: SpaceKind) {
-    let first = place(asked, kind);
-    let bytes = asked.bytes();
-    put_all(asked, space, first, bytes.as_slice());
+    let first = place_in(asked, kind);
+    put_from(asked, space, first);
 }
 
 /// The same, before there is a world or a machine.
@@ -72,8 +57,7 @@ fn registers(row: &Evaluation) -> &Sparse {
 
 /// `byte io PORT` and so on: the byte that stands there now.
 fn byte(asked: &mut Exchange, registers: &Sparse) {
-    let kind = space(asked);
-    let at = place(asked, kind);
+    let at = place(asked);
     say_byte(asked, registers.byte(at));
 }
 

@@ -1,72 +1,11 @@
-//! Answers in words: accesses, and what stands at a path.
-use crate::answers::{push_path, say_of, say_path};
+//! Answers in words: paths, and what stands at a path.
+use crate::answers::say_path_of;
 use crate::telling::say_value;
 use acpi_machine::Kind;
 use aml_objects::{Method, MethodBody, NamedObject};
 use aml_path::Path;
-use ar_space::{Place, Width};
-use space_trace::Access;
+use row_words::{push_path, say_of};
 use test_rows::Exchange;
-
-/// Answers a place of an address space.
-fn say_place(asked: &mut Exchange, place: Place) {
-    match place {
-        Place::Memory(address) => {
-            asked.say("memory");
-            asked.say_hexadecimal(address);
-        }
-        Place::Io(port) => {
-            asked.say("io");
-            asked.say_hexadecimal(u64::from(port));
-        }
-        Place::Pci {
-            seg,
-            bus,
-            dev,
-            func,
-            reg,
-        } => {
-            asked.say("pci");
-            asked.say_hexadecimal(u64::from(seg));
-            asked.say_hexadecimal(u64::from(bus));
-            asked.say_hexadecimal(u64::from(dev));
-            asked.say_hexadecimal(u64::from(func));
-            asked.say_hexadecimal(u64::from(reg));
-        }
-    }
-}
-
-/// Answers where an access is, and how many bits it has.
-fn say_register(asked: &mut Exchange, place: Place, width: Width) {
-    say_place(asked, place);
-    asked.say_number(u64::from(width.bits()));
-}
-
-/// Answers an access.
-fn say_access(asked: &mut Exchange, access: Access) {
-    match access {
-        Access::Read(at, width) => {
-            asked.push("read");
-            say_register(asked, at, width);
-        }
-        Access::Write(at, width, number) => {
-            asked.push("write");
-            say_register(asked, at, width);
-            asked.say_hexadecimal(number);
-        }
-    }
-}
-
-/// Answers accesses in their order, or `none`.
-pub fn say_accesses(asked: &mut Exchange, made: &[Access]) {
-    if made.is_empty() {
-        asked.say("none");
-    }
-    for access in made {
-        asked.separate(", ");
-        say_access(asked, *access);
-    }
-}
 
 /// Answers paths in their order, or `none`.
 pub fn say_paths(asked: &mut Exchange, found: &[Path]) {
@@ -110,7 +49,7 @@ pub fn say_object(asked: &mut Exchange, object: &NamedObject) {
         NamedObject::Data(held) => say_value(asked, *held),
         NamedObject::Mutex(count) => say_of(asked, "mutex", *count),
         NamedObject::Event(count) => say_of(asked, "event", *count),
-        NamedObject::Alias(path) => say_path(asked, "alias", path),
+        NamedObject::Alias(path) => say_path_of(asked, "alias", path),
         _ => asked.say(object_word(object)),
     }
 }
@@ -142,7 +81,7 @@ fn kind_word(kind: Kind<'_>) -> &'static str {
 pub fn say_kind(asked: &mut Exchange, kind: Kind<'_>) {
     match kind {
         Kind::Method(count) => say_of(asked, "method", u64::from(count)),
-        Kind::Alias(path) => say_path(asked, "alias", path),
+        Kind::Alias(path) => say_path_of(asked, "alias", path),
         _ => asked.say(kind_word(kind)),
     }
 }

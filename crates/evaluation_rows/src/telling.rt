@@ -1,8 +1,8 @@
 //! Answers in words: what evaluation hands out, and values of a world.
-use crate::answers::{push_path, refuse, say_of};
 use aml_meaning::Datum;
 use aml_objects::{Content, Reference, Slot, Value};
 use ar_space::Refusal;
+use row_words::{push_path, refuse, say_of};
 use test_rows::Exchange;
 
 /// How many bytes an answer shows at most.

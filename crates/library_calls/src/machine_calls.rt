@@ -49,7 +49,8 @@ pub(crate) fn of_machine<T: Drop>(
     }
 }
 
-/// The same of a call of a library above the machine, which may want memory of its own.
+/// The value of a call of a library above the machine, which may want memory of its own, and what is promised where
+/// memory ran out in it.
 pub(crate) fn over_machine<T: Drop>(
     alloc: Global,
     machine: &mut Machine<Sparse>,

@@ -20,8 +20,7 @@ use crate::route_calls::call_routes;
 use crate::term_calls::call_terms;
 use acpi_machine::{Machine, load_tables};
 use ar_space::{Refusal, Sparse};
-use ar_tables::{Tables, find_tables};
-use machine_text::{MachineText, read_machine};
+use machine_description::read_description;
 use std::alloc::Global;
 use std::io;
 use std::process::ExitCode;
@@ -29,19 +28,16 @@ use std::process::ExitCode;
 /// How many steps each table and each evaluation may take.
 const STEPS: u64 = 1_000_000;
 
-/// The tables of a machine text.
-fn tables_of(alloc: Global, said: &MachineText) -> Result<Tables, Ended> {
-    answered(
-        "find_tables",
-        find_tables(alloc, said.space.memory(), said.rsdp),
-    )
-}
-
 /// The machine of the text, with its tables loaded. Where loading is refused, the register space comes back.
 fn loaded(alloc: Global) -> Result<Machine<Sparse>, Ended> {
-    let said = answered("read_machine", read_machine(alloc, TEXT))?;
-    let tables = tables_of(alloc, &said)?;
-    match load_tables(alloc, tables, said.space, STEPS, Vec::new(alloc)) {
+    let described = answered("read_description", read_description(alloc, TEXT))?;
+    match load_tables(
+        alloc,
+        described.tables,
+        described.registers,
+        STEPS,
+        described.osi,
+    ) {
         Ok(machine) => Ok(machine),
         Err((Refusal::OutOfMemory, _space)) => Err(Ended::OutOfMemory),
         Err(_) => Err(Ended::Broken("load_tables")),

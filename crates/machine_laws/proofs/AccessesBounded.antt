@@ -14,8 +14,7 @@ use Rattle.aml_laws.specs.Reached as reached
 use Rattle.aml_laws.proofs.SpaceReached.{space_reached}
 use Rattle.aml_laws.proofs.Together.{SideBySide, Goes, alike, goes_from}
 use Rattle.acpi_machine.specs.MachineStates.{MachineState}
-use Rattle.acpi_links.specs.Gathering.{Gathering}
-use Rattle.acpi_links.specs.Gatherings.{gathered}
+use Rattle.acpi_links.specs.Gatherings.{Gathering, gathered}
 use Rattle.acpi_configure.specs.Configured.{IsReport}
 use Rattle.route_report.specs.Reports.{RoutingReport}
 use Rattle.watched_space.specs.Metering.{Meter, made, metered}

@@ -1,15 +1,16 @@
 -- Resource descriptors, routing tables and links are no faults of the register space.
 use Rattle.route_model.specs.Avoided.{are_all_avoided}
 use Rattle.std.specs.Prelude.{Bool, List, None, Ok, Option, Some, [], false, if◌then◌else◌, length, nat_le, nat_lt, ok_or, option_to_list, true, ℕ, ◌*◌, ◌++◌, ◌+◌, ◌==◌, ◌^◌, ◌||◌, ◌∷◌}
-use Rattle.acpi_links.specs.Answered.{bytes_in}
+use Rattle.acpi_links.specs.Answered.{bytes_in, numbers_in, numbers_of}
 use Rattle.acpi_links.specs.Links.{PresentLink, few_links, few_pins, mixed, one_polarity, some_left}
-use Rattle.acpi_links.specs.Presence.{presence}
+use Rattle.acpi_links.specs.Presence.{presence, presence_of}
+use Rattle.acpi_links.specs.Resources.{offered_bytes}
 use Rattle.acpi_machine.specs.Kinds as kind
 use Rattle.acpi_machine.specs.Kinds.{Kind, kind_at}
 use Rattle.acpi_prt.specs.Children.{child_named}
 use Rattle.acpi_prt.specs.Entries.{entries_of, fits_word, letter_of, no_index, source_tested, word_of, zero_source}
 use Rattle.acpi_prt.specs.Finding.{device_in, device_or_not, id_in, id_or_not, method_or_not}
-use Rattle.acpi_prt.specs.Links.{has_link_id, is_link_id}
+use Rattle.acpi_prt.specs.Links.{is_link_id, link_id_or_not}
 use Rattle.acpi_prt.specs.declared.pin.Pin.{Pin}
 use Rattle.acpi_resources.specs.Current.{all_numbers, current_of, numbers_from}
 use Rattle.acpi_resources.specs.Descriptors.{descriptor_of, extended_interrupt_descriptor}
@@ -96,7 +97,7 @@ unfolding all_numbers
 all_numbers_clean [] = tt
 all_numbers_clean (item ∷ items) = item_listed_clean (all_numbers items) (all_numbers_clean items) item
 
-pub current_of_clean : (bytes : List ℕ) → Clean (current_of bytes)
+current_of_clean : (bytes : List ℕ) → Clean (current_of bytes)
 unfolding current_of
 current_of_clean bytes = followed_clean _ _ (all_numbers_clean (items_of bytes)) (λ numbers. tt)
 
@@ -153,18 +154,34 @@ pub id_in_clean : (profile : Profile) (m : Map) (p : List Seg) → Clean (id_in 
 unfolding id_in
 id_in_clean profile m p = followed_clean _ _ tt (λ q. followed_clean _ _ (id_or_not_clean profile (kind_at m q)) (λ u. tt))
 
-pub is_link_id_clean : (id : given.Given) → Clean (is_link_id id)
-is_link_id_clean id = if_clean (has_link_id id) _ _ tt tt
+pub link_id_or_not_clean : (id : given.Given) → Clean (link_id_or_not id)
+link_id_or_not_clean id = if_clean (is_link_id id) _ _ tt tt
 
 -- ---- links
 
-pub bytes_in_clean : (g : given.Given) → Clean (bytes_in g)
+bytes_in_clean : (g : given.Given) → Clean (bytes_in g)
 bytes_in_clean given.Nothing = tt
 bytes_in_clean _ = tt
 
-pub presence_clean : (g : given.Given) → Clean (presence g)
+presence_clean : (g : given.Given) → Clean (presence g)
 presence_clean given.Nothing = tt
 presence_clean _ = tt
+
+pub presence_of_clean : (o : Option given.Given) → Clean (presence_of o)
+presence_of_clean None = tt
+presence_of_clean (Some g) = presence_clean g
+
+pub offered_bytes_clean : (link : List Seg) (o : Option given.Given) → Clean (offered_bytes link o)
+offered_bytes_clean link None = tt
+offered_bytes_clean link (Some g) = bytes_in_clean g
+
+numbers_in_clean : (g : given.Given) → Clean (numbers_in g)
+unfolding numbers_in
+numbers_in_clean g = followed_clean _ _ (bytes_in_clean g) (λ bytes. followed_clean _ _ (current_of_clean bytes) (λ numbers. tt))
+
+pub numbers_of_clean : (o : Option given.Given) → Clean (numbers_of o)
+numbers_of_clean None = tt
+numbers_of_clean (Some g) = numbers_in_clean g
 
 pub few_pins_clean : (sci : Option ℕ) (pins : List (List Seg × Pin)) → Clean (few_pins sci pins)
 few_pins_clean sci pins = if_clean (nat_lt 4096 (length pins + length (option_to_list sci))) _ _ tt tt

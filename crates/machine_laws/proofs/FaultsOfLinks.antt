@@ -1,16 +1,17 @@
 -- Where a routing table, a link or what is gathered of a machine is refused by a fault of the register space, the last access
 -- answered with it.
-use Rattle.machine_laws.proofs.CleanLinks.{device_in_clean, id_in_clean, bytes_in_clean, child_named_clean, current_of_clean, entries_of_clean, few_links_clean, few_pins_clean, is_link_id_clean, letter_of_clean, no_index_clean, one_polarity_clean, possible_as_clean, presence_clean, some_left_clean, source_tested_clean, word_of_clean}
+use Rattle.machine_laws.proofs.CleanLinks.{device_in_clean, id_in_clean, offered_bytes_clean, child_named_clean, numbers_of_clean, entries_of_clean, few_links_clean, few_pins_clean, link_id_or_not_clean, letter_of_clean, no_index_clean, one_polarity_clean, possible_as_clean, presence_of_clean, some_left_clean, source_tested_clean, word_of_clean}
 use Rattle.machine_laws.proofs.FaultsOfCalls.{MachineExplains, evaluated_object_explains}
-use Rattle.std.specs.Prelude.{Bool, List, Option, [], false, refl, true, ℕ, ◌∷◌}
-use Rattle.acpi_links.specs.Answered.{buffer_at, stands}
+use Rattle.std.specs.Prelude.{Bool, List, Option, [], false, refl, true, ℕ, ◌∷◌, ◌++◌}
 use Rattle.acpi_links.specs.Devices.{devices, devices_listed, pins_at, pins_of_device}
 use Rattle.acpi_links.specs.Folds.{folded}
 use Rattle.acpi_links.specs.Gatherings.{gathered, links_found, pins_found, sci_shown}
 use Rattle.acpi_links.specs.Links.{link_asked, link_found, link_if}
-use Rattle.acpi_links.specs.Presence.{is_present, presence_at, status_at}
-use Rattle.acpi_links.specs.Resources.{current_at, current_resources, exclusives_in, numbers_at, offer_at, offer_in, possible_at, possible_resources}
-use Rattle.acpi_links.specs.Settings.{resources_set, set_at, setting_handed}
+use Rattle.acpi_links.specs.Presence.{is_present}
+use Rattle.acpi_links.specs.Resources.{current_resources, exclusives_in, offer_in, possible_resources}
+use Rattle.acpi_links.specs.Settings.{resources_set}
+use Rattle.acpi_machine.specs.Buses.{prt}
+use Rattle.acpi_machine.specs.Children.{answer_if_any, child_evaluated, has_child, some_answer, stands}
 use Rattle.acpi_machine.specs.MachineStates.{MachineState}
 use Rattle.acpi_prt.specs.Entries.{list_of}
 use Rattle.acpi_prt.specs.Links.{device_at, id_at, link_at}
@@ -43,7 +44,7 @@ module _ {S : Type 0} {accesses : Accesses S} where
 
   link_at_explains : (p : List Seg) → MachineExplains accesses (link_at accesses p)
   unfolding link_at
-  link_at_explains p = then_explains _ _ (device_at_explains p) (λ device. then_explains _ _ (settle_explains _ (child_named_clean _ _)) (λ hid. then_explains _ _ (id_at_explains hid) (λ name. then_explains _ _ (evaluated_object_explains accesses name _) (λ id. then_explains _ _ (settle_explains _ (is_link_id_clean id)) (λ is. give_explains _)))))
+  link_at_explains p = then_explains _ _ (device_at_explains p) (λ device. then_explains _ _ (settle_explains _ (child_named_clean _ _)) (λ hid. then_explains _ _ (id_at_explains hid) (λ name. then_explains _ _ (evaluated_object_explains accesses name _) (λ id. then_explains _ _ (settle_explains _ (link_id_or_not_clean id)) (λ is. give_explains _)))))
 
   linked_explains : (p : List Seg) (index : ℕ) → MachineExplains accesses (linked accesses p index)
   unfolding linked
@@ -87,7 +88,7 @@ module _ {S : Type 0} {accesses : Accesses S} where
 
   pub routing_table_explains : (device : List Seg) → MachineExplains accesses (routing_table accesses device)
   unfolding routing_table
-  routing_table_explains device = then_explains _ _ (settle_explains _ (child_named_clean _ _)) (λ name. then_explains _ _ (evaluated_object_explains accesses name _) (λ answer. then_explains _ _ (settle_explains _ (entries_of_clean _)) (λ entries. pins_from_explains entries _)))
+  routing_table_explains device = then_explains _ _ (give_explains _) (λ path. then_explains _ _ (evaluated_object_explains accesses path _) (λ answer. then_explains _ _ (settle_explains _ (entries_of_clean _)) (λ entries. pins_from_explains entries _)))
 
   -- ---- devices
 
@@ -95,75 +96,46 @@ module _ {S : Type 0} {accesses : Accesses S} where
   unfolding devices_listed devices
   devices_listed_explains = direct_explains _ (λ s. tt) (λ s. refl)
 
-  pins_at_explains : (device p : List Seg) → MachineExplains accesses (pins_at accesses device p)
+  pins_at_explains : (device : List Seg) → MachineExplains accesses (pins_at accesses device)
   unfolding pins_at
-  pins_at_explains device p = either_branch_explains (stands p) _ _ (routing_table_explains device) (direct_explains _ (λ s. tt) (λ s. refl))
+  pins_at_explains device = either_branch_explains (has_child device prt) _ _ (routing_table_explains device) (direct_explains _ (λ s. tt) (λ s. refl))
 
   pins_of_device_explains : (device : List Seg) → MachineExplains accesses (pins_of_device accesses device)
   unfolding pins_of_device
-  pins_of_device_explains device = then_explains _ _ (settle_explains _ (child_named_clean _ _)) (λ prt. then_explains _ _ (pins_at_explains device prt) (λ pins. give_explains _))
+  pins_of_device_explains device = then_explains _ _ (pins_at_explains device) (λ pins. give_explains _)
 
-  -- ---- resources
+  -- ---- objects of a device
 
-  buffer_at_explains : (p : List Seg) → MachineExplains accesses (buffer_at accesses p)
-  unfolding buffer_at
-  buffer_at_explains p = then_explains _ _ (evaluated_object_explains accesses p _) (λ answer. settle_explains _ (bytes_in_clean _))
+  some_answer_explains : (p : List Seg) (arguments : List Given) → MachineExplains accesses (some_answer accesses p arguments)
+  unfolding some_answer
+  some_answer_explains p arguments = then_explains _ _ (evaluated_object_explains accesses p arguments) (λ answer. give_explains _)
+
+  answer_if_any_explains : (p : List Seg) (arguments : List Given) → MachineExplains accesses (answer_if_any accesses p arguments)
+  unfolding answer_if_any
+  answer_if_any_explains p arguments = either_branch_explains (stands p) _ _ (some_answer_explains p arguments) (direct_explains _ (λ s. tt) (λ s. refl))
+
+  child_explains : (parent : List Seg) (name : Seg) (arguments : List Given) → MachineExplains accesses (child_evaluated accesses parent name arguments)
+  child_explains parent name arguments = answer_if_any_explains (parent ++ name ∷ []) arguments
 
   offer_in_explains : (bytes : List ℕ) → MachineExplains accesses (offer_in bytes)
   unfolding offer_in
   offer_in_explains bytes = direct_explains _ (λ s. possible_as_clean (exclusives_in s.world.profile) bytes) (λ s. refl)
 
-  offer_at_explains : (p : List Seg) → MachineExplains accesses (offer_at accesses p)
-  unfolding offer_at
-  offer_at_explains p = then_explains _ _ (buffer_at_explains p) (λ bytes. offer_in_explains bytes)
-
-  possible_at_explains : (link p : List Seg) → MachineExplains accesses (possible_at accesses link p)
-  unfolding possible_at
-  possible_at_explains link p = either_branch_explains (stands p) _ _ (offer_at_explains p) (direct_explains _ (λ s. tt) (λ s. refl))
-
   pub possible_resources_explains : (link : List Seg) → MachineExplains accesses (possible_resources accesses link)
   unfolding possible_resources
-  possible_resources_explains link = then_explains _ _ (settle_explains _ (child_named_clean _ _)) (λ prs. possible_at_explains link prs)
-
-  numbers_at_explains : (p : List Seg) → MachineExplains accesses (numbers_at accesses p)
-  unfolding numbers_at
-  numbers_at_explains p = then_explains _ _ (buffer_at_explains p) (λ bytes. then_explains _ _ (settle_explains _ (current_of_clean _)) (λ numbers. give_explains _))
-
-  current_at_explains : (p : List Seg) → MachineExplains accesses (current_at accesses p)
-  unfolding current_at
-  current_at_explains p = either_branch_explains (stands p) _ _ (numbers_at_explains p) (direct_explains _ (λ s. tt) (λ s. refl))
+  possible_resources_explains link = then_explains _ _ (child_explains link _ _) (λ answer. then_explains _ _ (settle_explains _ (offered_bytes_clean link answer)) (λ bytes. offer_in_explains bytes))
 
   pub current_resources_explains : (link : List Seg) → MachineExplains accesses (current_resources accesses link)
   unfolding current_resources
-  current_resources_explains link = then_explains _ _ (settle_explains _ (child_named_clean _ _)) (λ crs. current_at_explains crs)
-
-  -- ---- settings
-
-  setting_handed_explains : (p : List Seg) (offer : InterruptOffer) (n : ℕ) → MachineExplains accesses (setting_handed accesses p offer n)
-  unfolding setting_handed
-  setting_handed_explains p offer n = then_explains _ _ (give_explains _) (λ arguments. then_explains _ _ (evaluated_object_explains accesses p arguments) (λ answer. give_explains _))
-
-  set_at_explains : (p : List Seg) (offer : InterruptOffer) (n : ℕ) → MachineExplains accesses (set_at accesses p offer n)
-  unfolding set_at
-  set_at_explains p offer n = either_branch_explains (stands p) _ _ (setting_handed_explains p offer n) (direct_explains _ (λ s. tt) (λ s. refl))
+  current_resources_explains link = then_explains _ _ (child_explains link _ _) (λ answer. settle_explains _ (numbers_of_clean answer))
 
   pub resources_set_explains : (link : List Seg) (offer : InterruptOffer) (n : ℕ) → MachineExplains accesses (resources_set accesses link offer n)
   unfolding resources_set
-  resources_set_explains link offer n = then_explains _ _ (settle_explains _ (child_named_clean _ _)) (λ srs. set_at_explains srs offer n)
-
-  -- ---- presence
-
-  status_at_explains : (p : List Seg) → MachineExplains accesses (status_at accesses p)
-  unfolding status_at
-  status_at_explains p = then_explains _ _ (evaluated_object_explains accesses p _) (λ answer. settle_explains _ (presence_clean _))
-
-  presence_at_explains : (p : List Seg) → MachineExplains accesses (presence_at accesses p)
-  unfolding presence_at
-  presence_at_explains p = either_branch_explains (stands p) _ _ (status_at_explains p) (direct_explains _ (λ s. tt) (λ s. refl))
+  resources_set_explains link offer n = then_explains _ _ (child_explains link _ _) (λ answer. give_explains _)
 
   pub is_present_explains : (link : List Seg) → MachineExplains accesses (is_present accesses link)
   unfolding is_present
-  is_present_explains link = then_explains _ _ (settle_explains _ (child_named_clean _ _)) (λ sta. presence_at_explains sta)
+  is_present_explains link = then_explains _ _ (child_explains link _ _) (λ answer. settle_explains _ (presence_of_clean answer))
 
   -- ---- links
 

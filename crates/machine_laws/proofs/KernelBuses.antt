@@ -20,10 +20,10 @@ use Rattle.aml_namespace.proofs.Paths.{path_itself, same_path}
 use Rattle.aml_laws.specs.Outside.{Stands}
 use Rattle.acpi_machine.specs.declared.buses.PciBus.{PciBus}
 use Rattle.acpi_machine.specs.Buses.{prt, bus_found}
+use Rattle.acpi_machine.specs.Children.{stands}
 use Rattle.acpi_machine.specs.Kinds.{Kind, kind_of, kind_at, with_kind, kinds_walked}
 use Rattle.acpi_machine.specs.Kinds as kind
 use Rattle.acpi_machine.specs.MachineStates.{MachineState}
-use Rattle.acpi_links.specs.Answered.{stands}
 use Rattle.acpi_links.specs.Devices.{is_device, device_path, devices}
 use Rattle.acpi_links.specs.Folds.{folded}
 use Rattle.acpi_links.proofs.Members.{first, behind, first_or_behind, no_member}

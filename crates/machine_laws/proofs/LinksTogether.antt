@@ -1,5 +1,5 @@
 -- Routing tables and link devices of machines side by side.
-use Rattle.std.specs.Prelude.{◌≡◌, ℕ, List, [], ◌∷◌, Bool, true, false, Option, refl}
+use Rattle.std.specs.Prelude.{◌≡◌, ℕ, List, [], ◌∷◌, ◌++◌, Bool, true, false, Option, refl}
 use Rattle.ar_space.specs.Accesses.{Accesses}
 use Rattle.ar_space.specs.Change.{Change}
 use Rattle.aml_path.specs.declared.segment.Seg.{Seg}
@@ -7,17 +7,18 @@ use Rattle.aml_meaning.specs.Given.{Given}
 use Rattle.aml_meaning.specs.Given as given
 use Rattle.acpi_resources.specs.Offers.{possible_as}
 use Rattle.acpi_resources.specs.Records.{InterruptOffer}
+use Rattle.acpi_machine.specs.Buses.{prt}
+use Rattle.acpi_machine.specs.Children.{stands, has_child, some_answer, answer_if_any, child_evaluated}
 use Rattle.acpi_prt.specs.declared.pin.Pin.{Pin}
 use Rattle.acpi_prt.specs.Entries.{list_of}
 use Rattle.acpi_prt.specs.Finding.{id_in}
 use Rattle.acpi_prt.specs.Links.{device_at, id_at, link_at}
 use Rattle.acpi_prt.specs.RoutingTables.{linked, route_of, pin_with, pin_among, pin_of, pins_from, routing_table}
-use Rattle.acpi_links.specs.Answered.{stands, buffer_at}
 use Rattle.acpi_links.specs.Folds.{folded}
 use Rattle.acpi_links.specs.Devices.{devices, devices_listed, pins_at, pins_of_device}
-use Rattle.acpi_links.specs.Presence.{status_at, presence_at, is_present}
-use Rattle.acpi_links.specs.Resources.{exclusives_in, offer_in, offer_at, possible_at, possible_resources, numbers_at, current_at, current_resources}
-use Rattle.acpi_links.specs.Settings.{setting_handed, set_at, resources_set}
+use Rattle.acpi_links.specs.Presence.{is_present}
+use Rattle.acpi_links.specs.Resources.{exclusives_in, offer_in, possible_resources, current_resources}
+use Rattle.acpi_links.specs.Settings.{resources_set}
 use Rattle.acpi_links.specs.Links.{link_found, link_if, link_asked}
 use Rattle.acpi_links.specs.Gatherings.{sci_shown, pins_found, links_found, gathered}
 use Rattle.aml_laws.proofs.Together.{Sides, Shape, Together, plain, give_together, settle_together, stop_together, then_together, choice_together}
@@ -34,51 +35,30 @@ folded_together add h (x ∷ xs) done = then_together (h x) (λ more. folded_tog
 
 -- same: the right one has as many steps
 module _ {S T : Type 0} {accesses : Accesses S} {accesses2 : Accesses T} {side : Sides accesses accesses2} (same : (n : ℕ) → side.more n ≡ n) where
-  -- ---- resources that are set
+  -- ---- objects of a device
 
-  buffer_at_together : (p : List Seg) → Together side machines (buffer_at accesses p) (buffer_at accesses2 p)
-  unfolding buffer_at
-  buffer_at_together p = then_together (evaluated_object_together same p _) (λ answer. settle_together _)
+  some_answer_together : (p : List Seg) (arguments : List Given) → Together side machines (some_answer accesses p arguments) (some_answer accesses2 p arguments)
+  unfolding some_answer
+  some_answer_together p arguments = then_together (evaluated_object_together same p arguments) (λ answer. give_together _)
 
-  numbers_at_together : (p : List Seg) → Together side machines (numbers_at accesses p) (numbers_at accesses2 p)
-  unfolding numbers_at
-  numbers_at_together p = then_together (buffer_at_together p) (λ bytes. then_together (settle_together _) (λ numbers. give_together _))
+  answer_if_any_together : (p : List Seg) (arguments : List Given) → Together side machines (answer_if_any accesses p arguments) (answer_if_any accesses2 p arguments)
+  unfolding answer_if_any
+  answer_if_any_together p arguments = choice_together (stands p) (stands p) (λ s t. refl) (some_answer_together p arguments) (plain (λ s. refl) (λ s. refl) (λ s t. refl))
 
-  current_at_together : (p : List Seg) → Together side machines (current_at accesses p) (current_at accesses2 p)
-  unfolding current_at
-  current_at_together p = choice_together (stands p) (stands p) (λ s t. refl) (numbers_at_together p) (plain (λ s. refl) (λ s. refl) (λ s t. refl))
+  child_together : (parent : List Seg) (name : Seg) (arguments : List Given) → Together side machines (child_evaluated accesses parent name arguments) (child_evaluated accesses2 parent name arguments)
+  child_together parent name arguments = answer_if_any_together (parent ++ name ∷ []) arguments
 
   pub current_resources_together : (link : List Seg) → Together side machines (current_resources accesses link) (current_resources accesses2 link)
   unfolding current_resources
-  current_resources_together link = then_together (settle_together _) (λ crs. current_at_together crs)
-
-  -- ---- settings
-
-  setting_handed_together : (p : List Seg) (offer : InterruptOffer) (n : ℕ) → Together side machines (setting_handed accesses p offer n) (setting_handed accesses2 p offer n)
-  unfolding setting_handed
-  setting_handed_together p offer n = then_together (give_together _) (λ arguments. then_together (evaluated_object_together same p arguments) (λ answer. give_together _))
-
-  set_at_together : (p : List Seg) (offer : InterruptOffer) (n : ℕ) → Together side machines (set_at accesses p offer n) (set_at accesses2 p offer n)
-  unfolding set_at
-  set_at_together p offer n = choice_together (stands p) (stands p) (λ s t. refl) (setting_handed_together p offer n) (plain (λ s. refl) (λ s. refl) (λ s t. refl))
+  current_resources_together link = then_together (child_together link _ _) (λ answer. settle_together _)
 
   pub resources_set_together : (link : List Seg) (offer : InterruptOffer) (n : ℕ) → Together side machines (resources_set accesses link offer n) (resources_set accesses2 link offer n)
   unfolding resources_set
-  resources_set_together link offer n = then_together (settle_together _) (λ srs. set_at_together srs offer n)
-
-  -- ---- presence
-
-  status_at_together : (p : List Seg) → Together side machines (status_at accesses p) (status_at accesses2 p)
-  unfolding status_at
-  status_at_together p = then_together (evaluated_object_together same p _) (λ answer. settle_together _)
-
-  presence_at_together : (p : List Seg) → Together side machines (presence_at accesses p) (presence_at accesses2 p)
-  unfolding presence_at
-  presence_at_together p = choice_together (stands p) (stands p) (λ s t. refl) (status_at_together p) (plain (λ s. refl) (λ s. refl) (λ s t. refl))
+  resources_set_together link offer n = then_together (child_together link _ _) (λ answer. give_together _)
 
   pub is_present_together : (link : List Seg) → Together side machines (is_present accesses link) (is_present accesses2 link)
   unfolding is_present
-  is_present_together link = then_together (settle_together _) (λ sta. presence_at_together sta)
+  is_present_together link = then_together (child_together link _ _) (λ answer. settle_together _)
 
 -- asks: what links are and offer is the same in both profiles, or ends the likeness
 module _ {S T : Type 0} {accesses : Accesses S} {accesses2 : Accesses T} {side : Sides accesses accesses2} (same : (n : ℕ) → side.more n ≡ n) (asks : Asks side) where
@@ -138,7 +118,7 @@ module _ {S T : Type 0} {accesses : Accesses S} {accesses2 : Accesses T} {side :
 
   pub routing_table_together : (device : List Seg) → Together side machines (routing_table accesses device) (routing_table accesses2 device)
   unfolding routing_table
-  routing_table_together device = then_together (settle_together _) (λ name. then_together (evaluated_object_together same name _) (λ answer. then_together (settle_together _) (λ entries. pins_from_together entries _)))
+  routing_table_together device = then_together (give_together _) (λ path. then_together (evaluated_object_together same path _) (λ answer. then_together (settle_together _) (λ entries. pins_from_together entries _)))
 
   -- ---- devices
 
@@ -146,13 +126,13 @@ module _ {S T : Type 0} {accesses : Accesses S} {accesses2 : Accesses T} {side :
   unfolding devices_listed devices
   devices_listed_together = plain (λ s. refl) (λ s. refl) (λ s t. refl)
 
-  pins_at_together : (device p : List Seg) → Together side machines (pins_at accesses device p) (pins_at accesses2 device p)
+  pins_at_together : (device : List Seg) → Together side machines (pins_at accesses device) (pins_at accesses2 device)
   unfolding pins_at
-  pins_at_together device p = choice_together (stands p) (stands p) (λ s t. refl) (routing_table_together device) (plain (λ s. refl) (λ s. refl) (λ s t. refl))
+  pins_at_together device = choice_together (has_child device prt) (has_child device prt) (λ s t. refl) (routing_table_together device) (plain (λ s. refl) (λ s. refl) (λ s t. refl))
 
   pins_of_device_together : (device : List Seg) → Together side machines (pins_of_device accesses device) (pins_of_device accesses2 device)
   unfolding pins_of_device
-  pins_of_device_together device = then_together (settle_together _) (λ prt. then_together (pins_at_together device prt) (λ pins. give_together _))
+  pins_of_device_together device = then_together (pins_at_together device) (λ pins. give_together _)
 
   -- ---- offers
 
@@ -160,17 +140,9 @@ module _ {S T : Type 0} {accesses : Accesses S} {accesses2 : Accesses T} {side :
   unfolding offer_in
   offer_in_together bytes = told_together (λ s. possible_as (exclusives_in s.world.profile) bytes) (λ s. possible_as (exclusives_in s.world.profile) bytes) (λ s t. profile_asked side asks (λ p. possible_as (exclusives_in p) bytes) (λ ends. offer_withheld side.Ends bytes ends.1) s.world.profile)
 
-  offer_at_together : (p : List Seg) → Together side machines (offer_at accesses p) (offer_at accesses2 p)
-  unfolding offer_at
-  offer_at_together p = then_together (buffer_at_together same p) (λ bytes. offer_in_together bytes)
-
-  possible_at_together : (link p : List Seg) → Together side machines (possible_at accesses link p) (possible_at accesses2 link p)
-  unfolding possible_at
-  possible_at_together link p = choice_together (stands p) (stands p) (λ s t. refl) (offer_at_together p) (plain (λ s. refl) (λ s. refl) (λ s t. refl))
-
   pub possible_resources_together : (link : List Seg) → Together side machines (possible_resources accesses link) (possible_resources accesses2 link)
   unfolding possible_resources
-  possible_resources_together link = then_together (settle_together _) (λ prs. possible_at_together link prs)
+  possible_resources_together link = then_together (child_together same link _ _) (λ answer. then_together (settle_together _) (λ bytes. offer_in_together bytes))
 
   -- ---- links
 

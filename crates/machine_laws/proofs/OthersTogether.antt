@@ -2,9 +2,10 @@
 use Rattle.std.specs.Prelude.{◌≡◌, ℕ, List, Bool, true, false, refl}
 use Rattle.ar_space.specs.Accesses.{Accesses}
 use Rattle.aml_path.specs.declared.segment.Seg.{Seg}
-use Rattle.acpi_links.specs.Answered.{stands}
-use Rattle.acpi_configure.specs.Others.{resources_if, present_resources, resources_at, device_resources}
-use Rattle.aml_laws.proofs.Together.{Sides, Together, plain, give_together, settle_together, then_together, choice_together}
+use Rattle.acpi_machine.specs.Children.{has_child}
+use Rattle.acpi_links.specs.ObjectNames.{crs}
+use Rattle.acpi_configure.specs.Others.{resources_if, present_resources, device_resources}
+use Rattle.aml_laws.proofs.Together.{Sides, Together, plain, give_together, then_together, choice_together}
 use Rattle.machine_laws.proofs.MachineShapes.{machines}
 use Rattle.machine_laws.proofs.LinksTogether.{current_resources_together, is_present_together}
 
@@ -19,10 +20,6 @@ module _ {S T : Type 0} {accesses : Accesses S} {accesses2 : Accesses T} {side :
   unfolding present_resources
   present_resources_together device = then_together (is_present_together same device) (λ present. resources_if_together present device)
 
-  resources_at_together : (device crs : List Seg) → Together side machines (resources_at accesses device crs) (resources_at accesses2 device crs)
-  unfolding resources_at
-  resources_at_together device crs = choice_together (stands crs) (stands crs) (λ s t. refl) (present_resources_together device) (plain (λ s. refl) (λ s. refl) (λ s t. refl))
-
   pub device_resources_together : (device : List Seg) → Together side machines (device_resources accesses device) (device_resources accesses2 device)
   unfolding device_resources
-  device_resources_together device = then_together (settle_together _) (λ crs. resources_at_together device crs)
+  device_resources_together device = choice_together (has_child device crs) (has_child device crs) (λ s t. refl) (present_resources_together device) (plain (λ s. refl) (λ s. refl) (λ s t. refl))

@@ -7,8 +7,7 @@ use Rattle.aml_laws.specs.Noted.{WithNotes, noted}
 use Rattle.aml_laws.proofs.Together.{SideBySide, Goes, alike, goes_from}
 use Rattle.aml_laws.proofs.Noting.{noting}
 use Rattle.acpi_machine.specs.MachineStates.{MachineState}
-use Rattle.acpi_links.specs.Gathering.{Gathering}
-use Rattle.acpi_links.specs.Gatherings.{gathered}
+use Rattle.acpi_links.specs.Gatherings.{Gathering, gathered}
 use Rattle.acpi_links.specs.Links.{PresentLink}
 use Rattle.acpi_configure.specs.Configured.{IsReport}
 use Rattle.acpi_configure.specs.Settling.{settled_unless}

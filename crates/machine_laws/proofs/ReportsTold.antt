@@ -8,7 +8,7 @@ use Rattle.recorded_space.specs.declared.exchange.Exchange.{Exchange}
 use Rattle.aml_laws.specs.Noted.{WithNotes, noted, TellsNotes}
 use Rattle.acpi_machine.specs.MachineStates.{MachineState}
 use Rattle.acpi_links.specs.Folds.{folded}
-use Rattle.acpi_links.specs.Gathering.{Gathering}
+use Rattle.acpi_links.specs.Gatherings.{Gathering}
 use Rattle.acpi_links.specs.Links.{PresentLink}
 use Rattle.acpi_links.specs.Resources.{current_resources}
 use Rattle.acpi_links.specs.Settings.{resources_set}

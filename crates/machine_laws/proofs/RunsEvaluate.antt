@@ -1,5 +1,5 @@
 -- What the calls of a run make of a machine evaluations make of its world, and nothing else changes.
-use Rattle.std.specs.Prelude.{ℕ, List, [], ◌∷◌, Bool, true, false, Option, Ok, Err, refl, if◌then◌else◌}
+use Rattle.std.specs.Prelude.{ℕ, List, [], ◌∷◌, ◌++◌, Bool, true, false, Option, Ok, Err, refl, if◌then◌else◌}
 use Rattle.std.proofs.Common.{◌∙◌, subst}
 use Rattle.ar_space.specs.declared.refusal.Refusal.{Refusal}
 use Rattle.ar_space.specs.declared.refusal.Refusal.TheVariants as refusal
@@ -12,24 +12,25 @@ use Rattle.aml_meaning.specs.Given.{Given}
 use Rattle.aml_meaning.specs.Given as given
 use Rattle.aml_laws.specs.Becomes.{same, answer}
 use Rattle.acpi_resources.specs.Records.{InterruptOffer}
+use Rattle.acpi_machine.specs.Buses.{prt}
 use Rattle.acpi_machine.specs.Calls.{on_world, unless_spent, object_answered, evaluated_object}
+use Rattle.acpi_machine.specs.Children.{stands, has_child, some_answer, answer_if_any, child_evaluated}
 use Rattle.acpi_machine.specs.MachineStates.{MachineState, sci_of}
 use Rattle.acpi_prt.specs.declared.pin.Pin.{Pin}
 use Rattle.acpi_prt.specs.Entries.{list_of}
 use Rattle.acpi_prt.specs.Links.{device_at, id_at, link_at}
 use Rattle.acpi_prt.specs.RoutingTables.{linked, route_of, pin_with, pin_among, pin_of, pins_from, routing_table}
-use Rattle.acpi_links.specs.Answered.{stands, buffer_at}
 use Rattle.acpi_links.specs.Folds.{folded}
 use Rattle.acpi_links.specs.Devices.{devices_listed, pins_at, pins_of_device}
-use Rattle.acpi_links.specs.Gathering.{Gathering}
-use Rattle.acpi_links.specs.Gatherings.{sci_shown, pins_found, links_found, gathered}
+use Rattle.acpi_links.specs.Gatherings.{Gathering, sci_shown, pins_found, links_found, gathered}
 use Rattle.acpi_links.specs.Links.{PresentLink, link_found, link_if, link_asked}
-use Rattle.acpi_links.specs.Presence.{status_at, presence_at, is_present}
-use Rattle.acpi_links.specs.Resources.{offer_in, offer_at, possible_at, possible_resources, numbers_at, current_at, current_resources}
-use Rattle.acpi_links.specs.Settings.{setting_handed, set_at, resources_set}
+use Rattle.acpi_links.specs.ObjectNames.{crs}
+use Rattle.acpi_links.specs.Presence.{is_present}
+use Rattle.acpi_links.specs.Resources.{offer_in, possible_resources, current_resources}
+use Rattle.acpi_links.specs.Settings.{resources_set}
 use Rattle.acpi_configure.specs.Configured.{IsReport}
 use Rattle.acpi_configure.specs.Options.{RunOptions}
-use Rattle.acpi_configure.specs.Others.{resources_if, present_resources, resources_at, device_resources, device_asked, other_devices, others_asked}
+use Rattle.acpi_configure.specs.Others.{resources_if, present_resources, device_resources, device_asked, other_devices, others_asked}
 use Rattle.acpi_configure.specs.Settling.{attempted, link_set, links_set, link_read, settled, settled_unless}
 use Rattle.acpi_configure.specs.WithOptions.{Findings, found_by, IsReportWith}
 use Rattle.route_report.specs.declared.report.SetLine.{SetLine}
@@ -99,59 +100,34 @@ module _ {S : Type 0} (accesses : Accesses S) where
   unfolding evaluated_object unless_spent
   object_only p arguments s = if_only s.spent (stop (refusal.Machine Spent)) (object_answered accesses p arguments) (stop_only _ (refusal.Machine Spent)) (answered_only p arguments) s
 
-  buffer_at_only : (p : List Seg) → Only (buffer_at accesses p)
-  unfolding buffer_at
-  buffer_at_only p = then_only _ _ (object_only p []) (λ a. settle_only _)
+  some_answer_only : (p : List Seg) (arguments : List Given) → Only (some_answer accesses p arguments)
+  unfolding some_answer
+  some_answer_only p arguments = then_only _ _ (object_only p arguments) (λ a. give_only _)
+
+  answer_if_any_only : (p : List Seg) (arguments : List Given) → Only (answer_if_any accesses p arguments)
+  unfolding answer_if_any
+  answer_if_any_only p arguments s = if_only (stands p s) (some_answer accesses p arguments) _ (some_answer_only p arguments) nothing s
+
+  child_only : (parent : List Seg) (name : Seg) (arguments : List Given) → Only (child_evaluated accesses parent name arguments)
+  child_only parent name arguments = answer_if_any_only (parent ++ name ∷ []) arguments
 
   -- ---- resources
 
-  numbers_at_only : (p : List Seg) → Only (numbers_at accesses p)
-  unfolding numbers_at
-  numbers_at_only p = then_only _ _ (buffer_at_only p) (λ bytes. then_only _ _ (settle_only _) (λ numbers. give_only _))
-
-  current_at_only : (p : List Seg) → Only (current_at accesses p)
-  unfolding current_at
-  current_at_only p s = if_only (stands p s) (numbers_at accesses p) _ (numbers_at_only p) nothing s
-
   pub current_only : (link : List Seg) → Only (current_resources accesses link)
   unfolding current_resources
-  current_only link = then_only _ _ (settle_only _) current_at_only
-
-  offer_at_only : (p : List Seg) → Only (offer_at accesses p)
-  unfolding offer_at offer_in
-  offer_at_only p = then_only _ _ (buffer_at_only p) (λ bytes. nothing)
-
-  possible_at_only : (link p : List Seg) → Only (possible_at accesses link p)
-  unfolding possible_at
-  possible_at_only link p s = if_only (stands p s) (offer_at accesses p) _ (offer_at_only p) nothing s
+  current_only link = then_only _ _ (child_only link _ _) (λ answer. settle_only _)
 
   pub possible_only : (link : List Seg) → Only (possible_resources accesses link)
-  unfolding possible_resources
-  possible_only link = then_only _ _ (settle_only _) (possible_at_only link)
-
-  setting_handed_only : (p : List Seg) (offer : InterruptOffer) (n : ℕ) → Only (setting_handed accesses p offer n)
-  unfolding setting_handed
-  setting_handed_only p offer n = then_only _ _ (give_only _) (λ arguments. then_only _ _ (object_only p arguments) (λ a. give_only _))
-
-  set_at_only : (p : List Seg) (offer : InterruptOffer) (n : ℕ) → Only (set_at accesses p offer n)
-  unfolding set_at
-  set_at_only p offer n s = if_only (stands p s) (setting_handed accesses p offer n) _ (setting_handed_only p offer n) nothing s
+  unfolding possible_resources offer_in
+  possible_only link = then_only _ _ (child_only link _ _) (λ answer. then_only _ _ (settle_only _) (λ bytes. nothing))
 
   pub setting_only : (link : List Seg) (offer : InterruptOffer) (n : ℕ) → Only (resources_set accesses link offer n)
   unfolding resources_set
-  setting_only link offer n = then_only _ _ (settle_only _) (λ srs. set_at_only srs offer n)
-
-  status_at_only : (p : List Seg) → Only (status_at accesses p)
-  unfolding status_at
-  status_at_only p = then_only _ _ (object_only p []) (λ a. settle_only _)
-
-  presence_at_only : (p : List Seg) → Only (presence_at accesses p)
-  unfolding presence_at
-  presence_at_only p s = if_only (stands p s) (status_at accesses p) _ (status_at_only p) nothing s
+  setting_only link offer n = then_only _ _ (child_only link _ _) (λ answer. give_only _)
 
   presence_only : (link : List Seg) → Only (is_present accesses link)
   unfolding is_present
-  presence_only link = then_only _ _ (settle_only _) presence_at_only
+  presence_only link = then_only _ _ (child_only link _ _) (λ answer. settle_only _)
 
   -- ---- routing tables
 
@@ -201,17 +177,17 @@ module _ {S : Type 0} (accesses : Accesses S) where
 
   pub routing_table_only : (device : List Seg) → Only (routing_table accesses device)
   unfolding routing_table
-  routing_table_only device = then_only _ _ (settle_only _) (λ name. then_only _ _ (object_only name []) (λ answer. then_only _ _ (settle_only _) (λ entries. pins_from_only entries _)))
+  routing_table_only device = then_only _ _ (give_only _) (λ path. then_only _ _ (object_only path []) (λ answer. then_only _ _ (settle_only _) (λ entries. pins_from_only entries _)))
 
   -- ---- what is gathered
 
-  pins_at_only : (device p : List Seg) → Only (pins_at accesses device p)
+  pins_at_only : (device : List Seg) → Only (pins_at accesses device)
   unfolding pins_at
-  pins_at_only device p s = if_only (stands p s) (routing_table accesses device) _ (routing_table_only device) nothing s
+  pins_at_only device s = if_only (has_child device prt s) (routing_table accesses device) _ (routing_table_only device) nothing s
 
   pub pins_of_device_only : (device : List Seg) → Only (pins_of_device accesses device)
   unfolding pins_of_device
-  pins_of_device_only device = then_only _ _ (settle_only _) (λ prt. then_only _ _ (pins_at_only device prt) (λ pins. give_only _))
+  pins_of_device_only device = then_only _ _ (pins_at_only device) (λ pins. give_only _)
 
   pub pins_found_only : (sci : Option ℕ) → Only (pins_found accesses sci)
   unfolding pins_found devices_listed
@@ -249,13 +225,9 @@ module _ {S : Type 0} (accesses : Accesses S) where
   unfolding present_resources
   present_only device = then_only _ _ (presence_only device) (λ present. resources_if_only present device)
 
-  resources_at_only : (device crs : List Seg) → Only (resources_at accesses device crs)
-  unfolding resources_at
-  resources_at_only device crs s = if_only (stands crs s) (present_resources accesses device) _ (present_only device) nothing s
-
   device_only : (device : List Seg) → Only (device_resources accesses device)
   unfolding device_resources
-  device_only device = then_only _ _ (settle_only _) (resources_at_only device)
+  device_only device s = if_only (has_child device crs s) (present_resources accesses device) _ (present_only device) nothing s
 
   device_asked_only : (device : List Seg) → Only (device_asked accesses device)
   unfolding device_asked

@@ -1,5 +1,5 @@
 -- What was found of a machine: where its pins come from, and its links.
-use Rattle.std.specs.Prelude.{◌≡◌, ℕ, List, [], ◌∷◌, ◌++◌, map, codes, Bool, true, false, Option, Ok, Err, Contains, refl, if◌then◌else◌}
+use Rattle.std.specs.Prelude.{◌≡◌, ℕ, List, [], ◌∷◌, ◌++◌, map, Bool, true, false, Option, Ok, Err, Contains, refl, if◌then◌else◌}
 use Rattle.std.specs.List.{items_where_true}
 use Rattle.std.proofs.Common.{inl, inr, ap, sym, subst, ◌∙◌}
 use Rattle.std.proofs.lemmas.Cmp.{tied_itself}
@@ -10,18 +10,15 @@ use Rattle.ar_space.specs.Outcome as outcomes
 use Rattle.ar_space.specs.Change.{Change, give, settle, go_on, ◌>>=◌}
 use Rattle.aml_path.specs.declared.segment.Seg.{Seg}
 use Rattle.aml_path.specs.Paths.{path_cmp}
-use Rattle.aml_path.proofs.Segments.{seg_is}
 use Rattle.aml_namespace.proofs.Paths.{path_total}
 use Rattle.acpi_machine.specs.Buses.{prt}
+use Rattle.acpi_machine.specs.Children.{stands}
 use Rattle.acpi_machine.specs.MachineStates.{MachineState, sci_of}
 use Rattle.acpi_prt.specs.declared.pin.Pin.{Pin}
-use Rattle.acpi_prt.specs.Children.{child_named}
 use Rattle.acpi_prt.specs.RoutingTables.{routing_table}
-use Rattle.acpi_links.specs.Answered.{stands}
 use Rattle.acpi_links.specs.Devices.{devices, devices_listed, with_device, pins_at, pins_of_device}
 use Rattle.acpi_links.specs.Folds.{folded}
-use Rattle.acpi_links.specs.Gathering.{Gathering}
-use Rattle.acpi_links.specs.Gatherings.{gathering, sci_shown, pins_found, links_found, gathered}
+use Rattle.acpi_links.specs.Gatherings.{Gathering, gathering, sci_shown, pins_found, links_found, gathered}
 use Rattle.acpi_links.specs.Links.{PresentLink, links_named}
 use Rattle.acpi_links.specs.Problems.{offering, problem_of}
 use Rattle.acpi_links.specs.Sparing.{all_left, avoiding}
@@ -170,26 +167,15 @@ module _ {S : Type 0} (accesses : Accesses S) where
     pub stood : stands (device ++ prt ∷ []) asked_in ≡ true
     pub afterwards : OnlyEvaluated accesses asked_in after
 
-  table_at : (device : List Seg) → child_named device (codes "_PRT") ≡ Ok (device ++ prt ∷ [])
-  unfolding child_named outcomes.◌>>=◌
-  table_at device = rw (seg_is (codes "_PRT") refl) refl
-
   own_pins : (device : List Seg) (pins : List (List Seg × Pin)) (s t : MachineState S) (pin : List Seg × Pin) → pins_of_device accesses device s ≡ (Ok pins, t) → Contains pins pin → (pin.0 ≡ device) × (stands (device ++ prt ∷ []) s ≡ true)
-  unfolding pins_of_device pins_at give settle ◌>>=◌ go_on
+  unfolding pins_of_device pins_at give ◌>>=◌ go_on
   own_pins device pins s t pin e c =
-      let at : pins_told (device ++ prt ∷ []) ≡ (Ok pins, t) = sym (ap (λ x. go_on x s after_path) (table_at device)) ∙ e in
-      let own = before_ok (pins_at accesses device (device ++ prt ∷ [])) _ pins s t at in
+      let own = before_ok (pins_at accesses device) _ pins s t e in
       let same : with_device device own.0 ≡ pins = same_value _ pins own.1 t own.3 in
       let from = mapped_from (λ (p : Pin). (device, p)) own.0 pin (subst (λ (l : List (List Seg × Pin)). Contains l pin) (sym same) c) in
       (ap (λ (p : List Seg × Pin). p.0) (sym from.2), stood (stands (device ++ prt ∷ []) s) refl own.0 from.0 own.1 own.2 from.1)
     where
-      after_path : List Seg → Change (MachineState S) (List (List Seg × Pin))
-      after_path p = pins_at accesses device p >>= (λ own. give (with_device device own))
-
-      pins_told : List Seg → Outcome (List (List Seg × Pin)) × MachineState S
-      pins_told p = after_path p s
-
-      stood : (b : Bool) → stands (device ++ prt ∷ []) s ≡ b → (own : List Pin) (p : Pin) (u : MachineState S) → pins_at accesses device (device ++ prt ∷ []) s ≡ (Ok own, u) → Contains own p → stands (device ++ prt ∷ []) s ≡ true
+      stood : (b : Bool) → stands (device ++ prt ∷ []) s ≡ b → (own : List Pin) (p : Pin) (u : MachineState S) → pins_at accesses device s ≡ (Ok own, u) → Contains own p → stands (device ++ prt ∷ []) s ≡ true
       stood true is own p u e c = is
       stood false is own p u e c =
           let empty : own ≡ [] = sym (same_value [] own s u (sym (ap (λ (b : Bool). if b then routing_table accesses device s else (Ok [], s)) is) ∙ e)) in

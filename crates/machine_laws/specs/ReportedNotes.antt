@@ -8,7 +8,7 @@ use Rattle.ar_space.specs.Numbers.{space_fault_number}
 use Rattle.recorded_space.specs.declared.exchange.Exchange.{Exchange}
 use Rattle.aml_laws.specs.Noted.{WithNotes, noted, AllAnswered, EndsWith, TellsNotes}
 use Rattle.acpi_machine.specs.MachineStates.{MachineState}
-use Rattle.acpi_links.specs.Gathering.{Gathering}
+use Rattle.acpi_links.specs.Gatherings.{Gathering}
 use Rattle.acpi_links.specs.Links.{PresentLink}
 use Rattle.acpi_configure.specs.Configured.{IsReport}
 use Rattle.acpi_configure.specs.Settling.{link_set, link_read}

@@ -10,10 +10,11 @@ ghost use Rattle.aml_meaning.specs.Predefined.{predefined};
 ghost use Rattle.acpi_machine.specs.Loading.{all_loaded, loaded_tables};
 ghost use Rattle.machine_laws.specs.LoadedInTurn.{LoadedInTurn};
 
-/// The tables of a machine are loaded one after another, the DSDT first and then each SSDT in the order of the list, each
-/// behind its header of 36 bytes and in the world that the one before it left, where the predefined names stand. The
-/// first that is refused ends it. `_OSI` may know sixty-four texts: with more of them no table is loaded, and nothing is
-/// changed. A DSDT that is loaded last, an SSDT that is left out, and a header that is read as AML are refused by this.
+/// The tables of a machine are loaded one after another, the DSDT first and then each SSDT in the order of the list,
+/// each behind its header of 36 bytes and in the world that the one before it left, where the predefined names stand.
+/// The first that is refused ends it. `_OSI` may know sixty-four texts: with more of them no table is loaded, and
+/// nothing is changed. A DSDT that is loaded last, an SSDT that is left out, and a header that is read as AML are
+/// refused by this.
 #[tactic(auto, using(crate::proofs::TablesInTurn::all_in_turn, crate::proofs::TablesInTurn::loaded_behind_the_predefined, crate::proofs::TablesInTurn::not_loaded_with_more_texts))]
 pub fn tables_are_loaded_in_turn<S>()
     ensures in_turn { (accesses : Accesses S) (t : Tables) (steps : ℕ) (w end : State S) (r : Outcome (Unit {0})) →

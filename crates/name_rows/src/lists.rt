@@ -2,9 +2,9 @@
 
 use crate::parts;
 use crate::shown::show_list;
-use crate::words::{path, refuse};
 use aml_path::Path;
 use aml_terms::{Arities, Term, parse_list, parse_table};
+use row_words::{path, refuse};
 use std::alloc::Global;
 use std::mem;
 use test_rows::Exchange;

@@ -3,11 +3,12 @@
 use crate::agreement::agreed;
 use crate::shown::show_segment;
 use crate::values::{object, show_object};
-use crate::words::{name, number, path, refuse, say_done, scope, show_path};
+use crate::words::{name, number, scope};
 use aml_namespace::{Call, Names, Reply};
 use aml_objects::{Entry, NodeId};
 use aml_path::{Path, Seg};
 use ar_space::Refusal;
+use row_words::{path, refuse, say_done, say_path};
 use std::alloc::Global;
 use std::collections::VecDeque;
 use std::mem;
@@ -30,7 +31,7 @@ fn show_entry(asked: &mut Exchange, entry: &Entry) {
 fn show_paths(asked: &mut Exchange, paths: &[Path]) {
     asked.say(if paths.is_empty() { "none" } else { "" });
     for path in paths {
-        show_path(asked, path);
+        say_path(asked, path);
     }
 }
 
@@ -71,7 +72,7 @@ fn show_reply(asked: &mut Exchange, reply: &Reply) {
         }
         Reply::Located(Ok(path)) => {
             asked.say("located");
-            show_path(asked, path);
+            say_path(asked, path);
         }
         Reply::Located(Err(refusal)) => show_refusal(asked, refusal),
         Reply::Children(list) => show_segments(asked, list.as_slice()),
@@ -186,7 +187,7 @@ impl Namespace {
     fn at_number(&self, asked: &mut Exchange) {
         let number = number(asked);
         match self.names.path_of(asked.alloc(), NodeId::numbered(number)) {
-            Ok(Some(path)) => show_path(asked, &path),
+            Ok(Some(path)) => say_path(asked, &path),
             Ok(None) => asked.say("none"),
             Err(refusal) => refuse(asked, refusal),
         }
@@ -207,7 +208,7 @@ impl Namespace {
         let name = name(asked);
         let scope = scope(asked);
         match self.names.locate(asked.alloc(), &scope, &name) {
-            Ok(place) => show_path(asked, &place),
+            Ok(place) => say_path(asked, &place),
             Err(refusal) => refuse(asked, refusal),
         }
     }

@@ -2,9 +2,10 @@
 
 use crate::shown::show_characters;
 use crate::values::{element, say_value, show_element, value};
-use crate::words::{byte, count, object_number, refuse, say_done};
+use crate::words::byte;
 use aml_objects::{Element, Elements, Heap, Octets, Value};
 use ar_space::Refusal;
+use row_words::{count, object_number, refuse, say_done};
 use std::alloc::Global;
 use std::mem;
 use test_rows::Exchange;

@@ -1,8 +1,8 @@
 //! Questions about the parts of terms that were read.
 
 use crate::shown::{show_code, show_name};
-use crate::words::{count, refuse, say_of};
 use aml_terms::{OperandView, Term, TermPart, TermReader};
+use row_words::{count, refuse, say_of};
 use test_rows::Exchange;
 
 /// An item of a list, from 0.

@@ -1,8 +1,9 @@
 //! Questions about segments, paths and names.
 
 use crate::shown::{show_name, show_segment};
-use crate::words::{byte, count, name, path, path_of, refuse, say_path, scope, segment, show_path};
+use crate::words::{byte, name, say_outcome, scope, segment};
 use aml_path::{Path, Seg, is_lead_name_char, is_name_char};
+use row_words::{count, path, path_of, refuse, say_path};
 use std::cmp::Ordering;
 use test_rows::Exchange;
 
@@ -10,14 +11,14 @@ use test_rows::Exchange;
 fn full(asked: &mut Exchange) {
     let text = asked.rest();
     let path = path_of(asked, text);
-    show_path(asked, &path);
+    say_path(asked, &path);
 }
 
 /// The path of one segment.
 fn of_segment(asked: &mut Exchange) {
     let segment = segment(asked);
     let child = Path::root(asked.alloc()).child(asked.alloc(), segment);
-    say_path(asked, child);
+    say_outcome(asked, child);
 }
 
 /// The path one segment below another.
@@ -25,14 +26,14 @@ fn child(asked: &mut Exchange) {
     let above = path(asked);
     let segment = segment(asked);
     let child = above.child(asked.alloc(), segment);
-    say_path(asked, child);
+    say_outcome(asked, child);
 }
 
 /// The path one level up.
 fn parent(asked: &mut Exchange) {
     let below = path(asked);
     match below.parent(asked.alloc()) {
-        Ok(Some(parent)) => show_path(asked, &parent),
+        Ok(Some(parent)) => say_path(asked, &parent),
         Ok(None) => asked.say("none"),
         Err(refusal) => refuse(asked, refusal),
     }
@@ -52,7 +53,7 @@ fn first(asked: &mut Exchange) {
         asked.misunderstand();
     } else {
         let first = whole.prefix(asked.alloc(), depth);
-        say_path(asked, first);
+        say_outcome(asked, first);
     }
 }
 
@@ -65,7 +66,7 @@ fn joined(asked: &mut Exchange) {
         asked.misunderstand();
     } else {
         let joined = whole.below_prefix(asked.alloc(), depth, below.segments());
-        say_path(asked, joined);
+        say_outcome(asked, joined);
     }
 }
 
@@ -108,7 +109,7 @@ fn resolved(asked: &mut Exchange) {
     let name = name(asked);
     let scope = scope(asked);
     let place = name.resolve_in(asked.alloc(), &scope);
-    say_path(asked, place);
+    say_outcome(asked, place);
 }
 
 /// A question about a segment.

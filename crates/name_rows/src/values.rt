@@ -1,9 +1,10 @@
 //! Values, elements of packages, and what stands at names, as text.
 
 use crate::shown::show_name;
-use crate::words::{name, number, object_number, path, refuse, say_of, scope, show_path};
+use crate::words::{name, number, scope};
 use aml_objects::{Element, NamedObject, Reference, Slot, Value};
 use ar_space::Refusal;
+use row_words::{object_number, path, refuse, say_of, say_path};
 use test_rows::Exchange;
 
 /// The slot of a frame, as `0 of frame 3`, and its word before it.
@@ -113,7 +114,7 @@ pub fn show_element(asked: &mut Exchange, element: &Element) {
             asked.say("name ");
             show_name(asked, name);
             asked.say("in");
-            show_path(asked, scope);
+            say_path(asked, scope);
         }
     }
 }
@@ -143,7 +144,7 @@ pub fn show_object(asked: &mut Exchange, object: &NamedObject) {
     match object {
         NamedObject::Data(value) => show_value(asked, *value),
         NamedObject::Mutex(count) => asked.say_number(*count),
-        NamedObject::Alias(path) => show_path(asked, path),
+        NamedObject::Alias(path) => say_path(asked, path),
         _ => {}
     }
 }

@@ -2,83 +2,21 @@
 
 use aml_path::{NameString, Path, Prefix, Seg};
 use ar_space::Refusal;
+use row_words::{path_of, path_or_root, refuse, say_path};
 use std::alloc::Global;
 use test_rows::Exchange;
 
-/// Answers that a call refuses: by the refusal's number, and where it is of AML bytes by the offset of the fault.
-pub fn refuse(asked: &mut Exchange, refusal: Refusal) {
-    let number = refusal.number();
-    match &refusal {
-        Refusal::Term(_, offset) => asked.refuse_at(number, "at", *offset as u64),
-        _ => asked.refuse(number),
-    }
-}
-
-/// Answers what a call that only does something gives.
-pub fn say_done(asked: &mut Exchange, outcome: Result<(), Refusal>) {
-    if let Err(refusal) = outcome {
-        refuse(asked, refusal);
-    }
-}
-
 /// Answers a path, or the refusal.
-pub fn say_path(asked: &mut Exchange, outcome: Result<Path, Refusal>) {
+pub fn say_outcome(asked: &mut Exchange, outcome: Result<Path, Refusal>) {
     match outcome {
-        Ok(path) => show_path(asked, &path),
+        Ok(path) => say_path(asked, &path),
         Err(refusal) => refuse(asked, refusal),
     }
-}
-
-/// Answers a path.
-pub fn show_path(asked: &mut Exchange, path: &Path) {
-    match path.text(asked.alloc()) {
-        Ok(text) => asked.say(text.as_str()),
-        Err(refusal) => refuse(asked, refusal),
-    }
-}
-
-/// Answers a number behind a word.
-pub fn say_of(asked: &mut Exchange, word: &str, number: u64) {
-    asked.say(word);
-    asked.say_number(number);
 }
 
 /// A number in decimal digits.
 pub fn number(asked: &mut Exchange) -> u64 {
     asked.number(u64::MAX)
-}
-
-/// The number of an object in decimal digits.
-pub fn object_number(asked: &mut Exchange) -> u32 {
-    asked.number(0xFFFF_FFFF) as u32
-}
-
-/// A number of things in decimal digits.
-pub fn count(asked: &mut Exchange) -> usize {
-    asked.number(u64::MAX) as usize
-}
-
-/// What a path that was read comes to: the root where it is none.
-fn path_or_root(asked: &mut Exchange, read: Result<Path, Refusal>) -> Path {
-    match read {
-        Ok(path) => path,
-        Err(refusal) => {
-            refuse(asked, refusal);
-            Path::root(asked.alloc())
-        }
-    }
-}
-
-/// The path that a text is.
-pub fn path_of(asked: &mut Exchange, text: &str) -> Path {
-    let read = Path::from_text(asked.alloc(), text.as_bytes());
-    path_or_root(asked, read)
-}
-
-/// The path that the next word is.
-pub fn path(asked: &mut Exchange) -> Path {
-    let text = asked.word();
-    path_of(asked, text)
 }
 
 /// The path of the scope behind a name: the root where none is given.

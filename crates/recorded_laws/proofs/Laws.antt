@@ -8,7 +8,7 @@ use Rattle.ar_tables.specs.declared.tables.Tables.{Tables}
 use Rattle.aml_meaning.specs.State.{State}
 use Rattle.acpi_machine.specs.Calls.{initialized}
 use Rattle.acpi_machine.specs.MachineStates.{MachineState, machine_of}
-use Rattle.acpi_links.specs.Gathering.{Gathering}
+use Rattle.acpi_links.specs.Gatherings.{Gathering}
 use Rattle.acpi_configure.specs.Configured.{Solves}
 use Rattle.acpi_configure.proofs.One.{one_told}
 use Rattle.route_solve.specs.Problems.{RoutingProblem, RoutingAnswer}

@@ -7,7 +7,7 @@ use Rattle.ar_tables.specs.declared.tables.Tables.{Tables}
 use Rattle.aml_meaning.specs.State.{State}
 use Rattle.acpi_machine.specs.Calls.{initialized}
 use Rattle.acpi_machine.specs.MachineStates.{MachineState, machine_of}
-use Rattle.acpi_links.specs.Gathering.{Gathering}
+use Rattle.acpi_links.specs.Gatherings.{Gathering}
 use Rattle.acpi_links.specs.Links.{PresentLink}
 use Rattle.acpi_configure.specs.Configured.{IsReport}
 use Rattle.acpi_configure.specs.Settling.{settled_unless}

@@ -9,8 +9,7 @@ use Rattle.aml_meaning.specs.State.{State}
 use Rattle.aml_meaning.specs.Predefined.{fresh_as}
 use Rattle.acpi_machine.specs.Calls.{initialized}
 use Rattle.acpi_machine.specs.MachineStates.{MachineState, machine_of}
-use Rattle.acpi_links.specs.Gathering.{Gathering}
-use Rattle.acpi_links.specs.Gatherings.{gathered}
+use Rattle.acpi_links.specs.Gatherings.{Gathering, gathered}
 use Rattle.acpi_configure.specs.Configured.{IsReport}
 use Rattle.acpi_configure.specs.ForKernels.{told_if, IsReportFor}
 use Rattle.route_report.specs.Reports.{RoutingReport}

@@ -15,7 +15,7 @@ use Rattle.aml_laws.proofs.CleanOutcomes.{Clean, CleanRefusal}
 use Rattle.aml_laws.proofs.Noting.{noting}
 use Rattle.acpi_machine.specs.Calls.{initialized}
 use Rattle.acpi_machine.specs.MachineStates.{MachineState, machine_of}
-use Rattle.acpi_links.specs.Gathering.{Gathering}
+use Rattle.acpi_links.specs.Gatherings.{Gathering}
 use Rattle.route_report.specs.Reports.{RoutingReport}
 use Rattle.recorded_route.specs.declared.settings.Settings.{Settings}
 use Rattle.recorded_route.specs.Runs.{Description, described, IsConfigured, IsConfiguredIf, IsMachineRun, IsLoadedRun, IsRunOver, IsDescribedRun, IsRun, world_over}

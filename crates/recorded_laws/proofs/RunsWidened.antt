@@ -10,8 +10,7 @@ use Rattle.aml_meaning.specs.Predefined.{fresh_as}
 use Rattle.aml_laws.specs.Widened.{widened, IsLeftOutAt}
 use Rattle.acpi_machine.specs.Calls.{initialized}
 use Rattle.acpi_machine.specs.MachineStates.{MachineState, machine_of}
-use Rattle.acpi_links.specs.Gathering.{Gathering}
-use Rattle.acpi_links.specs.Gatherings.{gathered}
+use Rattle.acpi_links.specs.Gatherings.{Gathering, gathered}
 use Rattle.route_report.specs.Reports.{RoutingReport}
 use Rattle.recorded_route.specs.declared.settings.Settings.{Settings}
 use Rattle.recorded_route.specs.Runs.{Description, options_of, IsConfigured, IsConfiguredIf, IsMachineRun, IsLoadedRun, IsDescribedRun, world_over}

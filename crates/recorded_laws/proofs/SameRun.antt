@@ -18,7 +18,7 @@ use Rattle.machine_text.specs.declared.machine_lines.MachineText.{MachineText}
 use Rattle.acpiroute_words.specs.declared.request.Asking.{Asking}
 use Rattle.acpiroute_words.specs.declared.request.Flags.{Flags}
 use Rattle.acpiroute_words.specs.declared.request.Question.TheVariants.{Route, Eval}
-use Rattle.acpiroute_lib.specs.Ended.{options_of, evaluates, after_loading, asks, started, loaded_over, run_of}
+use Rattle.acpiroute_lib.specs.RunEnds.{options_of, evaluates, after_loading, asks, started, loaded_over, run_of}
 use Rattle.acpiroute_lib.specs.Machines.{Registers, register_accesses, registers_of, initialized_left}
 use Rattle.acpiroute_lib.specs.RouteCommand.{IsRoutedOn, IsRouteAnswer}
 use Rattle.recorded_laws.proofs.SameMachine.{refused_alike, by_path, by_loaded, by_tables, text_machine, text_refused, IsAnsweredOn, eval_on}

@@ -11,8 +11,7 @@ use Rattle.aml_meaning.specs.Predefined.{fresh_as}
 use Rattle.aml_meaning.specs.State.{State}
 use Rattle.acpi_machine.specs.MachineStates.{MachineState, sci_of}
 use Rattle.acpi_links.specs.Folds.{folded}
-use Rattle.acpi_links.specs.Gathering.{Gathering}
-use Rattle.acpi_links.specs.Gatherings.{gathered}
+use Rattle.acpi_links.specs.Gatherings.{Gathering, gathered}
 use Rattle.acpi_links.specs.Links.{PresentLink}
 use Rattle.acpi_links.specs.Sparing.{all_left, avoiding}
 use Rattle.acpi_configure.specs.Options.{RunOptions}

@@ -14,7 +14,7 @@ use Rattle.acpiroute_words.specs.declared.arguments.Argument.{Argument}
 use Rattle.acpiroute_words.specs.declared.request.Asking.{Asking}
 use Rattle.acpiroute_words.specs.declared.request.Question.{Question}
 use Rattle.acpiroute_words.specs.declared.request.Question.TheVariants.{Route, Eval}
-use Rattle.acpiroute_lib.specs.Ended.{options_of, dropped, after_loading, finds, evaluates, asks, started, loaded_over, run_of}
+use Rattle.acpiroute_lib.specs.RunEnds.{options_of, dropped, after_loading, finds, evaluates, asks, started, loaded_over, run_of}
 use Rattle.watched_space.specs.Watching.{Watch, watched}
 use Rattle.aml_laws.proofs.Together.{SideBySide, Goes, Together, alike, goes_from, none_ended, plain, settle_together, then_together, wrapped_together}
 use Rattle.aml_laws.proofs.Levels.{one_profile}

@@ -18,7 +18,7 @@ ghost use Rattle.acpi_links.specs.Links.{PresentLink};
 ghost use Rattle.acpi_configure.specs.Settling.{settled_unless};
 ghost use Rattle.watched_space.specs.Watching.{Watch, watched};
 ghost use Rattle.acpiroute_words.specs.declared.request.Asking.{Asking};
-ghost use Rattle.acpiroute_lib.specs.Ended.{options_of, run_of};
+ghost use Rattle.acpiroute_lib.specs.RunEnds.{options_of, run_of};
 ghost use Rattle.recorded_laws.specs.Unwatched.{machine_below};
 
 /// Keeping the last access changes no run, up to where what it has to find is found: it is refused by the same

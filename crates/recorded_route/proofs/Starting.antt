@@ -8,8 +8,7 @@ use Rattle.ar_space.specs.Change.{Does, give, settle, go_on, ◌>>=◌}
 use Rattle.ar_space.specs.Outcome.{Outcome, NotMemory}
 use Rattle.acpi_machine.specs.Calls.{initialized}
 use Rattle.acpi_machine.specs.MachineStates.{MachineState, sci_of}
-use Rattle.acpi_links.specs.Gathering.{Gathering}
-use Rattle.acpi_links.specs.Gatherings.{gathered}
+use Rattle.acpi_links.specs.Gatherings.{Gathering, gathered}
 use Rattle.acpi_configure.specs.ForKernels.{IsReportFor}
 use Rattle.acpi_configure.specs.Others.{others_asked}
 use Rattle.acpi_configure.specs.WithOptions.{Findings, found_by}

@@ -1,4 +1,5 @@
 pub mod Runs
+pub mod Triggers
 pub mod Pins
 pub mod Evaluations
 pub mod Endings

@@ -46,7 +46,7 @@ fn object_of<S: Space>(
     machine.evaluate_object(alloc, &path, question.arguments)
 }
 
-/// The same over a record, with the access that is missing from it.
+/// Evaluates an object of a machine whose registers are a record, and tells the access that is missing from it.
 fn machine_answer(
     alloc: Global,
     machine: Machine<Recorded>,
@@ -92,7 +92,7 @@ fn answer_over(
     }
 }
 
-/// The same of what is described, or the refusal of the text or of its tables.
+/// Evaluates an object of what is described. Where nothing is, the refusal of the text or of its tables ends it.
 fn evaluation(
     alloc: Global,
     described: Result<Description, Refusal>,
@@ -169,7 +169,8 @@ pub fn evaluate_recorded(
     ending(alloc, description, settings, question, entries)
 }
 
-/// The same of tables as they stand in memory.
+/// Evaluates an object of a machine whose tables stand in memory, as `evaluate_recorded` does of that of a machine
+/// text.
 pub fn evaluate_tables_recorded(
     alloc: Global,
     tables: &TablesInMemory<'_>,

@@ -8,11 +8,13 @@ mod evaluation;
 mod pins;
 mod run;
 mod settings;
+mod triggering;
 
 pub use description::{TablePart, TablesInMemory};
 pub use ending::{Ending, WantedAccess};
 pub use evaluation::{Question, evaluate_recorded, evaluate_tables_recorded};
-pub use pins::{Pin, RoutedInterrupt, Triggering, pins_of, sci_of};
+pub use pins::{Pin, RoutedInterrupt, pins_of, sci_of};
 pub use recorded_space::{Access, Exchange};
 pub use run::{configure_recorded, configure_tables_recorded};
 pub use settings::Settings;
+pub use triggering::Triggering;

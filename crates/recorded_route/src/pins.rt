@@ -2,31 +2,20 @@
 //! is set to it, and the bus that the pin is on.
 ghost use Rattle.std.specs.Prelude.{◌≡◌, IfOk, Some, option_map};
 ghost use Rattle.std.specs.List.{filter_map};
-ghost use Rattle.acpi_links.specs.Links.{is_low};
 ghost use Rattle.route_report.specs.Readable.{triggers_told, buses_told};
 ghost use Rattle.route_report.specs.Reports.{after_state};
-ghost use Rattle.recorded_route.specs.Pins.{plainly, is_level, triggering_in, is_link};
-ghost use Rattle.recorded_route.specs.Pins.{is_wired, is_sci, triggering_where};
-ghost use Rattle.recorded_route.specs.Pins.{level_of, is_done, took_setting, is_only, is_read_back, is_link_set};
+ghost use Rattle.recorded_route.specs.Pins.{is_done, took_setting, is_only, is_read_back, is_link_set};
 ghost use Rattle.recorded_route.specs.Pins.{is_route_set, bus_in, bus_of, routed, routed_sci};
 ghost use Rattle.recorded_route.specs.Pins.{pin_with, pin_of, pins_of};
 
+use crate::triggering::{Source, Triggering, level_of, plainly, triggering_where};
 use acpi_machine::PciBus;
 use aml_path::Path;
 use route_report::{
-    After, AfterLine, BusLine, BusState, InterruptSource, LinkLine, OptionLines, PinLine, PinName,
-    PinRoute, Polarity, Report, SetLine, SetOutcome, Trigger, TriggerLine,
+    After, AfterLine, BusLine, BusState, OptionLines, PinLine, PinName, PinRoute, Report, SetLine,
+    SetOutcome, TriggerLine,
 };
 use std::alloc::{AllocError, Global};
-
-/// How an interrupt is triggered.
-#[derive(Clone, Copy, Debug, PartialEq, Eq)]
-pub struct Triggering {
-    /// By a level, and not by an edge.
-    pub is_level: bool,
-    /// Active low, and not active high.
-    pub is_low: bool,
-}
 
 /// An interrupt, and how it is triggered.
 #[derive(Clone, Copy, Debug, PartialEq, Eq)]
@@ -54,109 +43,6 @@ pub struct Pin {
     pub pin: PinName,
 }
 
-/// Level and low, as those of PCI are.
-fn plainly() -> Triggering
-    ensures { result ≡ plainly }
-{
-    Triggering {
-        is_level: true,
-        is_low: true,
-    }
-}
-
-fn is_level(trigger: Trigger) -> bool
-    ensures { result ≡ is_level trigger }
-{
-    match trigger {
-        Trigger::Level => true,
-        Trigger::Edge => false,
-    }
-}
-
-fn is_low(polarity: Polarity) -> bool
-    ensures { result ≡ is_low polarity }
-{
-    match polarity {
-        Polarity::Low => true,
-        Polarity::High => false,
-    }
-}
-
-fn triggering_in(line: &TriggerLine) -> Triggering
-    ensures { result ≡ triggering_in line.now }
-{
-    Triggering {
-        is_level: is_level(line.trigger),
-        is_low: is_low(line.polarity),
-    }
-}
-
-fn is_link(source: &InterruptSource, link: &Path) -> bool
-    ensures { result ≡ is_link link.now source.now }
-{
-    match source {
-        InterruptSource::Link(path) => path == link,
-        InterruptSource::Wired(_) => false,
-        InterruptSource::Sci(_) => false,
-    }
-}
-
-fn is_wired(source: &InterruptSource, interrupt: u32) -> bool
-    ensures { result ≡ is_wired interrupt source.now }
-{
-    match source {
-        InterruptSource::Link(_) => false,
-        InterruptSource::Wired(n) => *n == interrupt,
-        InterruptSource::Sci(_) => false,
-    }
-}
-
-fn is_sci(source: &InterruptSource, interrupt: u32) -> bool
-    ensures { result ≡ is_sci interrupt source.now }
-{
-    match source {
-        InterruptSource::Link(_) => false,
-        InterruptSource::Wired(_) => false,
-        InterruptSource::Sci(n) => *n == interrupt,
-    }
-}
-
-/// How the interrupt of a link is triggered.
-fn triggering_of_link(lines: &[TriggerLine], link: &Path, plain: Triggering) -> Triggering
-    ensures { result ≡ triggering_where plain (is_link link.now) lines.now }
-{
-    for line in lines {
-        if is_link(&line.source, link) {
-            return triggering_in(line);
-        }
-    }
-    plain
-}
-
-/// How an interrupt that pins are wired to is triggered.
-fn triggering_of_wired(lines: &[TriggerLine], interrupt: u32) -> Triggering
-    ensures { result ≡ triggering_where plainly (is_wired interrupt) lines.now }
-{
-    for line in lines {
-        if is_wired(&line.source, interrupt) {
-            return triggering_in(line);
-        }
-    }
-    plainly()
-}
-
-/// How the System Control Interrupt is triggered.
-fn triggering_of_sci(lines: &[TriggerLine], interrupt: u32) -> Triggering
-    ensures { result ≡ triggering_where plainly (is_sci interrupt) lines.now }
-{
-    for line in lines {
-        if is_sci(&line.source, interrupt) {
-            return triggering_in(line);
-        }
-    }
-    plainly()
-}
-
 fn bus_in(state: BusState) -> Option<PciBus>
     ensures { result ≡ bus_in state }
 {
@@ -176,21 +62,6 @@ fn bus_of(lines: &[BusLine], device: &Path) -> Option<PciBus>
         }
     }
     None
-}
-
-/// How the interrupt of a link is triggered by its line `link`: links offer levels alone.
-fn level_of(lines: &[LinkLine], link: &Path) -> Triggering
-    ensures { result ≡ level_of link.now lines.now }
-{
-    for line in lines {
-        if line.path == *link {
-            return Triggering {
-                is_level: true,
-                is_low: is_low(line.polarity),
-            };
-        }
-    }
-    plainly()
 }
 
 fn is_done(outcome: SetOutcome) -> bool
@@ -269,11 +140,15 @@ fn routed(report: &Report, route: &PinRoute) -> Option<RoutedInterrupt>
     match route {
         PinRoute::Link(n, path) => Some(RoutedInterrupt {
             interrupt: *n,
-            triggering: triggering_of_link(triggers, path, level_of(&report.links, path)),
+            triggering: triggering_where(
+                triggers,
+                Source::Link(path),
+                level_of(&report.links, path),
+            ),
         }),
         PinRoute::Wired(n) => Some(RoutedInterrupt {
             interrupt: *n,
-            triggering: triggering_of_wired(triggers, *n),
+            triggering: triggering_where(triggers, Source::Wired(*n), plainly()),
         }),
         PinRoute::Absent(_) => None,
     }
@@ -366,7 +241,7 @@ pub fn sci_of(report: &Report) -> Option<RoutedInterrupt>
         None => None,
         Some(interrupt) => Some(RoutedInterrupt {
             interrupt,
-            triggering: triggering_of_sci(triggers, interrupt),
+            triggering: triggering_where(triggers, Source::Sci(interrupt), plainly()),
         }),
     }
 }

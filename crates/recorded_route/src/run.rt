@@ -78,7 +78,7 @@ fn run_over(
     }
 }
 
-/// The same of what is described, or the refusal of the text or of its tables.
+/// Runs what is described over a record. Where nothing is, the refusal of the text or of its tables ends the run.
 fn run(
     alloc: Global,
     described: Result<Description, Refusal>,
@@ -154,7 +154,7 @@ pub fn configure_recorded(
     ending(alloc, description, settings, avoid, entries)
 }
 
-/// The same of tables as they stand in memory: no machine text is read.
+/// Configures a machine whose tables stand in memory, as `configure_recorded` does that of a machine text.
 pub fn configure_tables_recorded(
     alloc: Global,
     tables: &TablesInMemory<'_>,

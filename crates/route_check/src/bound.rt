@@ -21,29 +21,13 @@ pub(crate) fn has_interrupt(claim: &Claim) -> bool
     !claim.set_interrupts().is_empty()
 }
 
-/// Whether an interrupt is in the set.
-fn is_in_set(interrupts: &[u32], ascend: bool, n: u32) -> bool
-    requires { IsTrue ascend → Ascends nat_cmp (λ m. m) interrupts.now }
-    ensures { IsTrue result ↔ Contains interrupts.now n }
-{
-    has_number(interrupts, ascend, n)
-}
-
-/// Whether a link is in the set.
-fn is_set_link(set: &[Path], ascend: bool, path: &Path) -> bool
-    requires { IsTrue ascend → Ascends path_cmp (λ p. p) set.now }
-    ensures { IsTrue result ↔ Contains set.now path.now }
-{
-    has_path(set, ascend, path)
-}
-
 /// Whether all interrupts that are offered and that aren't avoided are in the set.
 fn all_inside(avoided: &Avoided<'_>, offers: &[u32], interrupts: &[u32], ascend: bool) -> bool
     requires { IsTrue ascend → Ascends nat_cmp (λ m. m) interrupts.now }
     ensures { IsTrue result ↔ All (Contains interrupts.now) (without avoided.now offers.now) }
 {
     for n in offers {
-        if !is_in_set(interrupts, ascend, *n) && !avoided.has(*n) {
+        if !has_number(interrupts, ascend, *n) && !avoided.has(*n) {
             return false;
         }
     }
@@ -67,7 +51,7 @@ fn is_inside(link: &Link, set: &Set<'_>) -> bool
     ensures { IsTrue result ↔ (Contains set.now.links.now link.now.path →
         All (Contains set.now.interrupts.now) (without set.now.avoided link.now.offers)) }
 {
-    !is_set_link(set.links, set.links_ascend, link.path())
+    !has_path(set.links, set.links_ascend, link.path())
         || all_inside(
             &set.avoided,
             link.offers(),

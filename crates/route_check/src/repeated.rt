@@ -8,7 +8,6 @@ use crate::claim::Claim;
 use crate::keys::{Named, Numbered};
 use crate::search::{is_among_numbers, is_among_paths};
 use crate::steps::{number_steps, path_steps};
-use aml_path::Path;
 use std::cmp::Ordering;
 
 fn are_paths_apart<T: Named>(xs: &[T]) -> bool
@@ -53,20 +52,6 @@ fn are_numbers_distinct<T: Numbered>(xs: &[T]) -> bool
     }
 }
 
-/// Whether no link of the set stands twice.
-fn is_set_distinct(paths: &[Path]) -> bool
-    ensures { IsTrue result ↔ IsDistinct paths.now }
-{
-    are_paths_distinct(paths)
-}
-
-/// Whether no interrupt of the set stands twice.
-fn are_interrupts_distinct(interrupts: &[u32]) -> bool
-    ensures { IsTrue result ↔ IsDistinct interrupts.now }
-{
-    are_numbers_distinct(interrupts)
-}
-
 /// Whether no link and no interrupt is named twice where it may stand once.
 pub(crate) fn none_repeated(claim: &Claim) -> bool
     ensures { IsTrue result ↔ NoneRepeated claim.now }
@@ -80,8 +65,8 @@ pub(crate) fn none_repeated(claim: &Claim) -> bool
     if !are_numbers_distinct(claim.wired()) {
         return false;
     }
-    if !is_set_distinct(claim.set_links()) {
+    if !are_paths_distinct(claim.set_links()) {
         return false;
     }
-    are_interrupts_distinct(claim.set_interrupts())
+    are_numbers_distinct(claim.set_interrupts())
 }

@@ -6,19 +6,12 @@ use itoa::Buffer;
 
 /// The number below 2^32 that a word writes in decimal, without leading zeros.
 #[tactic(auto, using(crate::proofs::Decimals::some_number, crate::proofs::Decimals::no_number))]
-pub(crate) fn number(word: &[u8]) -> Option<u32>
+pub(crate) fn decimal_of(word: &[u8]) -> Option<u32>
     ensures { result ≡ number word.now }
 {
-    written(word)
-}
-
-/// A number in decimal, without leading zeros.
-fn written(word: &[u8]) -> Option<u32>
-    ensures { MatchOption result ((n : ℕ) → n < 2 ^ 32 → word.now ≢ decimal n) (λ n. word.now ≡ decimal n) }
-{
-    match short(word) {
+    match of_up_to_three_digits(word) {
         Some(n) => Some(n),
-        None => parsed(word),
+        None => of_any_length(word),
     }
 }
 
@@ -35,7 +28,7 @@ fn digit(c: u8) -> Option<u32>
 
 /// A number of one to three digits, as most are in a report: it is read digit by digit, with no text made to compare
 /// it with.
-fn short(word: &[u8]) -> Option<u32>
+fn of_up_to_three_digits(word: &[u8]) -> Option<u32>
     ensures { IfSome result (λ n. word.now ≡ decimal n) }
 {
     if word.is_empty() || word.len() > 3 {
@@ -57,7 +50,7 @@ fn short(word: &[u8]) -> Option<u32>
 }
 
 /// The same of any length, by a text that is made to compare it with.
-fn parsed(word: &[u8]) -> Option<u32>
+fn of_any_length(word: &[u8]) -> Option<u32>
     ensures { MatchOption result ((n : ℕ) → n < 2 ^ 32 → word.now ≢ decimal n) (λ n. word.now ≡ decimal n) }
 {
     let text = match std::str::from_utf8(word) {

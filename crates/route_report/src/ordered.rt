@@ -2,7 +2,6 @@
 ghost use Rattle.std.specs.Prelude.{◌≡◌, ◌==◌, Ok};
 ghost use Rattle.std.specs.List.{dedup};
 ghost use Rattle.std.specs.FinMap.{IsAntisymmetric};
-ghost use Rattle.std.specs.Ordering.{nat_cmp};
 ghost use Rattle.aml_path.specs.Paths.{path_cmp};
 ghost use Rattle.ar_space.specs.Outcome.{Answers, seen};
 ghost use Rattle.route_report.specs.Ordered.{in_order, barred, link_order, wired_order, give_order, bound_in_order};
@@ -73,12 +72,6 @@ fn paths_in_order(mut paths: Vec<Path>) -> Vec<Path>
     in_order(paths)
 }
 
-fn numbers_in_order(numbers: Vec<u32>) -> Vec<u32>
-    ensures { result.items ≡ in_order nat_cmp numbers.items }
-{
-    in_order(numbers)
-}
-
 /// A list of numbers without those that stand right behind an equal one.
 fn without_repeats(mut numbers: Vec<u32>) -> Vec<u32>
     ensures { result.items ≡ dedup ◌==◌ numbers.items }
@@ -92,7 +85,7 @@ pub(crate) fn barred(mut avoid: Vec<u32>, mut spared: Vec<u32>) -> Result<Vec<u3
     ensures { Answers (seen (λ v. v.items) result) (Ok (barred avoid.items spared.items)) }
 {
     avoid.append(&mut spared)?;
-    Ok(without_repeats(numbers_in_order(avoid)))
+    Ok(without_repeats(in_order(avoid)))
 }
 
 /// Both lists of a bound.
@@ -102,7 +95,7 @@ pub(crate) fn bound_in_order(bound: Option<Bound>) -> Option<Bound>
     match bound {
         Some(bound) => Some(Bound {
             links: paths_in_order(bound.links),
-            interrupts: numbers_in_order(bound.interrupts),
+            interrupts: in_order(bound.interrupts),
         }),
         None => None,
     }

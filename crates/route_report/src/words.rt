@@ -104,7 +104,7 @@ pub(crate) fn number_here(n: usize, word: &[u8]) -> Result<u32, Refusal>
     ensures answer { Answers result (number_here n word.now) }
     ensures memory { NotMemory result }
 {
-    match numerals::number(word) {
+    match numerals::decimal_of(word) {
         Some(number) => Ok(number),
         None => Err(bad_line(n)),
     }

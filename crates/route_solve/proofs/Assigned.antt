@@ -8,17 +8,16 @@ use Rattle.std.proofs.Math.ListN as list_n
 use Rattle.route_model.specs.Routing.{wired_to}
 use Rattle.route_model.specs.Placement.{Offers, IsPlacement}
 use Rattle.route_solve.specs.Room.{room_of}
-use Rattle.route_solve.specs.Certificate.{IsCertificate, IsSpread}
+use Rattle.route_solve.specs.Certificate.{IsCertificate, IsWithinLeast}
 use Rattle.route_solve.specs.Capacities.{at, capacity_at}
-use Rattle.route_solve.specs.Named.{named, AreSources}
-use Rattle.route_solve.specs.Numbers.{number_at, IsNumbered}
+use Rattle.route_solve.specs.Named.{named}
+use Rattle.route_numbers.specs.Numbers.{has, number_at, AreSources, IsNumbered}
 use Rattle.route_solve.proofs.Parts.{none_taken}
 use Rattle.route_solve.specs.First.{IsLeastAt}
 use Rattle.route_solve.proofs.Names.{placement_named, cert_named}
 use Rattle.route_model.proofs.Filtered.{any_contains, contains_any}
-use Rattle.route_solve.specs.Marks.{has}
 use Rattle.route_solve.specs.Rows.{AreRows, HasRows}
-use Rattle.route_solve.proofs.Numbered.{offers_named, offers_unnamed, one_place}
+use Rattle.route_numbers.proofs.Numbered.{offers_named, offers_unnamed, one_place}
 use Rattle.route_solve.proofs.Unnamed.{least_named, places_ascend}
 
 module _ (offers : List (List ℕ)) (wired : List (ℕ × ℕ)) (numbers : List ℕ) (places : List (List ℕ)) (sources : List ℕ) (up : IsStrictlyIncreasing numbers) (num : IsNumbered offers numbers places) (src : AreSources numbers wired sources) where
@@ -28,8 +27,8 @@ module _ (offers : List (List ℕ)) (wired : List (ℕ × ℕ)) (numbers : List 
   pub placed_by_number : (limit : ℕ) (p : List (Option ℕ)) → IsPlacement places (capacity_at limit sources) p → IsPlacement offers (room_of limit wired []) (named numbers p)
   placed_by_number limit p placed = subst (λ (os : List (List ℕ)). IsPlacement os (room_of limit wired []) (named numbers p)) num.named (placement_named numbers up places num.below (capacity_at limit sources) (room_of limit wired []) (same_room limit) p placed)
 
-  pub spread_by_number : (floor limit : ℕ) (p : List (Option ℕ)) (reached : List Bool) → IsPlacement places (capacity_at limit sources) p → floor ≤ limit → (limit ≡ floor) ⊎ ((floor < limit) × IsCertificate places (capacity_at (limit - 1) sources) reached) → IsSpread offers wired floor limit (named numbers p) reached
-  spread_by_number floor limit p reached placed above shown = record { placed = placed_by_number limit p placed; above = above; shown = go shown }
+  pub within_least_by_number : (floor limit : ℕ) (p : List (Option ℕ)) (reached : List Bool) → IsPlacement places (capacity_at limit sources) p → floor ≤ limit → (limit ≡ floor) ⊎ ((floor < limit) × IsCertificate places (capacity_at (limit - 1) sources) reached) → IsWithinLeast offers wired floor limit (named numbers p) reached
+  within_least_by_number floor limit p reached placed above shown = record { placed = placed_by_number limit p placed; above = above; shown = go shown }
     where
       go : (limit ≡ floor) ⊎ ((floor < limit) × IsCertificate places (capacity_at (limit - 1) sources) reached) → (limit ≡ floor) ⊎ ((level : ℕ) × (limit ≡ level + 1) × (floor ≤ level) × IsCertificate offers (room_of level wired []) reached)
       go (inl e) = inl e

@@ -3,7 +3,6 @@ use Rattle.std.specs.Prelude.{◌⊎◌, ◌==◌, ◌&&◌, ◌||◌, Contains,
 use Rattle.std.specs.List.{list_any, range_with_len}
 use Rattle.std.specs.List.Sorted.{IsStrictlyIncreasing}
 use Rattle.std.proofs.lemmas.List.Elements.{Contains-append_left, Contains-append_right}
-use Rattle.std.proofs.lemmas.List.{get_or_past}
 use Rattle.std.proofs.lemmas.List.FromFn.{length-range_with_len, get_or-range_with_len}
 use Rattle.std.proofs.lemmas.Bool.{false≢true, cases_lt}
 use Rattle.route_model.specs.Placement.{is_reached, Offers}
@@ -60,13 +59,6 @@ offered_step offers marks n l h k = rw (add-one, drop-cons offers l [], drop-con
 pub either_true : (b : Bool) → (b || true) ≡ true
 either_true true = refl
 either_true false = refl
-
-pub offers_within : (offers : List (List ℕ)) (k n : ℕ) → Offers offers k n → k < length offers
-offers_within offers k n o = go (cases_lt k (length offers))
-  where
-    go : (k < length offers) ⊎ (length offers ≤ k) → k < length offers
-    go (inl b) = b
-    go (inr past) = absurd (let c : Contains [] n = subst (λ (xs : List ℕ). Contains xs n) (get_or_past offers k [] past) o in let b = c.1 in omega arith)
 
 -- what one more link offers is added
 pub offered_more : (offers : List (List ℕ)) (i : ℕ) (old new more : List ℕ) → new ≡ old ++ more → get_or offers i [] ≡ more → ((k n : ℕ) → k < i → Offers offers k n → Contains old n) → (k n : ℕ) → k < i + 1 → Offers offers k n → Contains new n

@@ -8,7 +8,7 @@ use Rattle.route_model.specs.Placement.{is_at, place_of, is_reached, Offers, tak
 use Rattle.route_model.proofs.Counting.{one_if}
 use Rattle.route_solve.specs.First.{Completes, IsFirstOpen, IsLeastAt}
 use Rattle.route_solve.specs.Capacities.{at, IsCounted}
-use Rattle.route_solve.specs.Ready.{AreReady, IsSettled}
+use Rattle.route_solve.specs.Ready.{AreReady, IsAugmented}
 use Rattle.route_solve.proofs.Counts.{one_at}
 use Rattle.route_solve.proofs.Exchange.{moved_directly, taken-set, place_same, place_other, place_cases, none_is_some}
 use Rattle.route_solve.proofs.Firsts.{least_from}
@@ -22,7 +22,7 @@ module _ (offers : List (List ℕ)) (room : ℕ → ℕ) (p : List (Option ℕ))
     within = λ n. let e = taken-set p l None n b in let w = placed.within n in omega arith;
   }
 
-  module _ (x : ℕ) (b : l < length p) (placed : IsPlacement offers room p) (whole : IsWhole p) (held : place_of p l ≡ Some x) (ready : List Bool) (known : (k n : ℕ) → Offers offers k n → n < length ready) (r : AreReady offers room (set p l None) (l + 1) ready) (q : List (Option ℕ)) (same : length q ≡ length p) (o : Option ℕ) (first : MatchOption o ((i : ℕ) → Offers offers l i → is_reached ready i ≡ false) (λ k. (j : ℕ) → j < k → is_reached ready (at (get_or offers l []) j) ≡ false)) (settled : MatchOption o ⊤ (λ k. IsSettled (l + 1) (set p l None) l q)) where
+  module _ (x : ℕ) (b : l < length p) (placed : IsPlacement offers room p) (whole : IsWhole p) (held : place_of p l ≡ Some x) (ready : List Bool) (known : (k n : ℕ) → Offers offers k n → n < length ready) (r : AreReady offers room (set p l None) (l + 1) ready) (q : List (Option ℕ)) (same : length q ≡ length p) (o : Option ℕ) (first : MatchOption o ((i : ℕ) → Offers offers l i → is_reached ready i ≡ false) (λ k. (j : ℕ) → j < k → is_reached ready (at (get_or offers l []) j) ≡ false)) (augmented : MatchOption o ⊤ (λ k. IsAugmented (l + 1) (set p l None) l q)) where
     -- what it had is ready once it is free
     had_ready : is_reached ready x ≡ true
     had_ready =
@@ -32,10 +32,10 @@ module _ (offers : List (List ℕ)) (room : ℕ → ℕ) (p : List (Option ℕ))
         let w = placed.within x in
         r.rooms x (known l x (placed.offered l x held)) (omega arith)
 
-    is_settled : IsSettled (l + 1) (set p l None) l q
-    is_settled = go o first settled
+    is_augmented : IsAugmented (l + 1) (set p l None) l q
+    is_augmented = go o first augmented
       where
-        go : (o : Option ℕ) → MatchOption o ((i : ℕ) → Offers offers l i → is_reached ready i ≡ false) (λ k. (j : ℕ) → j < k → is_reached ready (at (get_or offers l []) j) ≡ false) → MatchOption o ⊤ (λ k. IsSettled (l + 1) (set p l None) l q) → IsSettled (l + 1) (set p l None) l q
+        go : (o : Option ℕ) → MatchOption o ((i : ℕ) → Offers offers l i → is_reached ready i ≡ false) (λ k. (j : ℕ) → j < k → is_reached ready (at (get_or offers l []) j) ≡ false) → MatchOption o ⊤ (λ k. IsAugmented (l + 1) (set p l None) l q) → IsAugmented (l + 1) (set p l None) l q
         go None f s = absurd (true≢false (sym had_ready ∙ f x (placed.offered l x held)))
         go (Some k) f s = s
 
@@ -43,15 +43,15 @@ module _ (offers : List (List ℕ)) (room : ℕ → ℕ) (p : List (Option ℕ))
     fixed_whole k bk = go (cases_eq k l)
       where
         go : (k ≡ l) ⊎ (k ≡ l → ⊥) → IsSome (place_of q k)
-        go (inl e) = ap (λ m. is_some (place_of q m)) e ∙ is_settled.here
-        go (inr ne) = is_settled.whole k (ap is_some (place_other offers room p p l k None ne) ∙ whole k (let e = same in omega arith))
+        go (inl e) = ap (λ m. is_some (place_of q m)) e ∙ is_augmented.here
+        go (inr ne) = is_augmented.whole k (ap is_some (place_other offers room p p l k None ne) ∙ whole k (let e = same in omega arith))
 
     pub fixed_front : take l q ≡ take l p
     fixed_front =
         let a = length-take-le l p (omega arith) in
         let c = length-take-le l q (let e = same in omega arith) in
         ext_get_or None (take l q) (take l p) (omega arith)
-        (λ i bi. get_or-take l q i None (omega arith) ∙ ((is_settled.kept i (omega arith) (λ e. absurd (omega arith)) ∙ place_other offers room p p l i None (λ e. absurd (omega arith))) ∙ sym (get_or-take l p i None (omega arith))))
+        (λ i bi. get_or-take l q i None (omega arith) ∙ ((is_augmented.kept i (omega arith) (λ e. absurd (omega arith)) ∙ place_other offers room p p l i None (λ e. absurd (omega arith))) ∙ sym (get_or-take l p i None (omega arith))))
 
     freed_front : take l (set p l None) ≡ take l p
     freed_front =

@@ -5,7 +5,7 @@ use Rattle.std.proofs.lemmas.Bool.{cases_eq, cases_lt, true≢false}
 use Rattle.route_model.specs.Placement.{is_at, place_of, taken, Offers, IsPlacement}
 use Rattle.route_model.proofs.Counting.{one_if}
 use Rattle.route_solve.specs.declared.ways.Way.{Way}
-use Rattle.route_solve.specs.Ready.{way_at, ready_at, IsWay, IsPassing, AreWays, IsSettled}
+use Rattle.route_solve.specs.Ready.{way_at, ready_at, IsWay, IsPassing, AreWays, IsAugmented}
 use Rattle.route_solve.proofs.Exchange.{taken-set, moved_directly, offered-set, none_is_some, place_same, place_other, place_cases}
 use Rattle.route_solve.proofs.Parts.{placed_within}
 
@@ -151,8 +151,8 @@ module _ (offers : List (List ℕ)) (room : ℕ → ℕ) (low : ℕ) (p : List (
           go (inl g) = ap (place_of (set q k (Some (ready_at ways pos)))) (sym g.0) ∙ (place_same offers room q q k (Some (ready_at ways pos)) h.within ∙ ap (λ m. Some (ready_at ways m)) g.1)
           go (inr g) = place_other offers room q q k link (Some (ready_at ways pos)) (λ e. g.0 (sym e)) ∙ g.3
 
-      pub last_settled : IsSettled low p link (set q k (Some (ready_at ways pos)))
-      last_settled = record {
+      pub last_augmented : IsAugmented low p link (set q k (Some (ready_at ways pos)))
+      last_augmented = record {
         here = ap is_some last_given;
         whole = λ m s. place_cases offers room q (λ o. IsSome o) q k (Some (ready_at ways pos)) m h.within (λ _. refl) (λ ne. h.whole m s ne);
         kept = λ m lt ne. place_other offers room q q k m (Some (ready_at ways pos)) (not_lower m lt ne) ∙ h.kept m lt ne;
@@ -160,8 +160,8 @@ module _ (offers : List (List ℕ)) (room : ℕ → ℕ) (low : ℕ) (p : List (
       }
 
 -- a link takes an interrupt
-pub settled_directly : (offers : List (List ℕ)) (room : ℕ → ℕ) (low : ℕ) (p : List (Option ℕ)) (link i : ℕ) → link < length p → IsSettled low p link (set p link (Some i))
-settled_directly offers room low p link i b = record {
+pub augmented_directly : (offers : List (List ℕ)) (room : ℕ → ℕ) (low : ℕ) (p : List (Option ℕ)) (link i : ℕ) → link < length p → IsAugmented low p link (set p link (Some i))
+augmented_directly offers room low p link i b = record {
   here = ap is_some (place_same offers room p p link (Some i) b);
   whole = λ m s. place_cases offers room p (λ o. IsSome o) p link (Some i) m b (λ _. refl) (λ _. s);
   kept = λ m lt ne. place_other offers room p p link m (Some i) ne;
@@ -169,12 +169,12 @@ settled_directly offers room low p link i b = record {
 }
 
 -- one link more has an interrupt, and those after it have none
-pub settled_whole : (low : ℕ) (p : List (Option ℕ)) (link : ℕ) (q : List (Option ℕ)) → IsSettled low p link q → ((k : ℕ) → k < link → IsSome (place_of p k)) → (k : ℕ) → k < link + 1 → IsSome (place_of q k)
-settled_whole low p link q s whole k b = go (cases_lt k link)
+pub augmented_whole : (low : ℕ) (p : List (Option ℕ)) (link : ℕ) (q : List (Option ℕ)) → IsAugmented low p link q → ((k : ℕ) → k < link → IsSome (place_of p k)) → (k : ℕ) → k < link + 1 → IsSome (place_of q k)
+augmented_whole low p link q s whole k b = go (cases_lt k link)
   where
     go : (k < link) ⊎ (link ≤ k) → IsSome (place_of q k)
     go (inl before) = s.whole k (whole k before)
     go (inr past) = let e : link ≡ k = omega arith in subst (λ m. IsSome (place_of q m)) e s.here
 
-pub settled_unplaced : (low : ℕ) (p : List (Option ℕ)) (link : ℕ) (q : List (Option ℕ)) → IsSettled low p link q → ((k : ℕ) → link ≤ k → place_of p k ≡ None) → (k : ℕ) → link + 1 ≤ k → place_of q k ≡ None
-settled_unplaced low p link q s none k le = s.others k (none k (omega arith)) (λ e. absurd (omega arith))
+pub augmented_unplaced : (low : ℕ) (p : List (Option ℕ)) (link : ℕ) (q : List (Option ℕ)) → IsAugmented low p link q → ((k : ℕ) → link ≤ k → place_of p k ≡ None) → (k : ℕ) → link + 1 ≤ k → place_of q k ≡ None
+augmented_unplaced low p link q s none k le = s.others k (none k (omega arith)) (λ e. absurd (omega arith))

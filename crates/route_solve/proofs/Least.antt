@@ -9,7 +9,7 @@ use Rattle.route_model.proofs.Hall.{no_place}
 use Rattle.route_model.proofs.Loads.{load-le, busiest-le}
 use Rattle.route_model.proofs.Assignments.{given_taken, placement_at, placement_whole, placement_from, assignment_from, length_assignment, assignment_at}
 use Rattle.route_solve.specs.Room.{room_of}
-use Rattle.route_solve.specs.Certificate.{IsCertificate, IsSpread}
+use Rattle.route_solve.specs.Certificate.{IsCertificate, IsWithinLeast}
 use Rattle.route_solve.specs.First.{Completes, IsLeastAt}
 use Rattle.route_solve.specs.Floor.{IsFloor}
 use Rattle.route_solve.proofs.Parts.{placement_take, taken-append}
@@ -35,8 +35,8 @@ module _ (offers : List (List ℕ)) (wired : List (ℕ × ℕ)) where
           ap is_some (get_or-take m (placement_of b) k None (omega arith)) ∙ placement_whole b k (omega arith) in
           absurd (no_place (take m offers) (room_of level wired []) cert.placed reached cert.last cert.stuck (take m (placement_of b), front, whole) cert.is_placed.same_length)
 
-  pub limit-le : (floor limit : ℕ) (p : List (Option ℕ)) (reached : List Bool) → IsFloor wired floor → IsSpread offers wired floor limit p reached → (b : List ℕ) → IsAssignment offers b → limit ≤ busiest wired b
-  limit-le floor limit p reached is_floor spread b assigned = go spread.shown is_floor
+  pub limit-le : (floor limit : ℕ) (p : List (Option ℕ)) (reached : List Bool) → IsFloor wired floor → IsWithinLeast offers wired floor limit p reached → (b : List ℕ) → IsAssignment offers b → limit ≤ busiest wired b
+  limit-le floor limit p reached is_floor within_least b assigned = go within_least.shown is_floor
     where
       go : (limit ≡ floor) ⊎ ((level : ℕ) × (limit ≡ level + 1) × (floor ≤ level) × IsCertificate offers (room_of level wired []) reached) → IsFloor wired floor → limit ≤ busiest wired b
       go (inl e) (inl none) = omega arith
@@ -86,12 +86,12 @@ module _ (offers : List (List ℕ)) (wired : List (ℕ × ℕ)) where
       not_after = not_after_from (length a) 0 (omega arith) refl
 
   -- the theorem, over lists
-  pub first_least : (floor limit : ℕ) (p : List (Option ℕ)) (a : List ℕ) (old : List (Option ℕ)) (reached : List Bool) → IsFloor wired floor → ((i : ℕ) → wired_to wired i ≤ floor) → IsSpread offers wired floor limit old reached → placement_of a ≡ p → IsPlacement offers (room_of limit wired []) p → ((l : ℕ) → l < length offers → IsLeastAt offers (room_of limit wired []) p l) → IsFirstLeast offers wired a × (busiest wired a ≡ limit)
-  first_least floor limit p a old reached is_floor above spread same placed' least' =
+  pub first_least : (floor limit : ℕ) (p : List (Option ℕ)) (a : List ℕ) (old : List (Option ℕ)) (reached : List Bool) → IsFloor wired floor → ((i : ℕ) → wired_to wired i ≤ floor) → IsWithinLeast offers wired floor limit old reached → placement_of a ≡ p → IsPlacement offers (room_of limit wired []) p → ((l : ℕ) → l < length offers → IsLeastAt offers (room_of limit wired []) p l) → IsFirstLeast offers wired a × (busiest wired a ≡ limit)
+  first_least floor limit p a old reached is_floor above within_least same placed' least' =
       let placed = subst (IsPlacement offers (room_of limit wired [])) (sym same) placed' in
       let assigned = assignment_from offers (room_of limit wired []) a placed in
-      let upper = busiest-le-limit limit a placed (λ i. let f = above i in let g = spread.above in omega arith) in
-      let lower = limit-le floor limit old reached is_floor spread in
+      let upper = busiest-le-limit limit a placed (λ i. let f = above i in let g = within_least.above in omega arith) in
+      let lower = limit-le floor limit old reached is_floor within_least in
       let at_a = lower a assigned in
       let long = length_assignment offers a assigned in
       let least : (l : ℕ) → l < length a → IsLeastAt offers (room_of limit wired []) (placement_of a) l = λ l b. rw same (least' l (omega arith)) in (

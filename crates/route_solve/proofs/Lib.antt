@@ -9,7 +9,6 @@ pub mod Showing
 pub mod Ascending
 pub mod PathOrder
 pub mod Unique
-pub mod Numbered
 pub mod Bits
 pub mod RowsOf
 pub mod Reaching

@@ -6,10 +6,11 @@ use Rattle.std.proofs.lemmas.Bool.{cases_lt, false≢true}
 use Rattle.std.proofs.lemmas.List.{get_or_past}
 use Rattle.route_model.specs.Placement.{is_reached}
 use Rattle.route_model.proofs.Counting.{one_if}
-use Rattle.route_solve.specs.Marks.{has, is_offered_by}
-use Rattle.route_solve.specs.Numbers.{number_at, HasOffered}
+use Rattle.route_solve.specs.Marks.{is_offered_by}
+use Rattle.route_numbers.specs.Numbers.{has, number_at, HasOffered}
 use Rattle.route_solve.specs.Rows.{bit_of, HasBit, HasRows}
-use Rattle.route_solve.proofs.Filtered.{any_contains, contains_any, offered_from, offered_to, offers_within}
+use Rattle.route_numbers.proofs.Numbered.{offers_within}
+use Rattle.route_solve.proofs.Filtered.{any_contains, contains_any, offered_from, offered_to}
 use Rattle.route_solve.proofs.LeftBits.{no_bit_past}
 
 pub marked_within : (marks : List Bool) (l : ℕ) → is_reached marks l ≡ true → l < length marks

@@ -8,10 +8,9 @@ use Rattle.std.proofs.Math.ListN as list_n
 use Rattle.route_model.specs.Placement.{is_at, place_of, Offers, taken, IsPlacement, IsWhole, CanPlace, CanPlaceBut, IsStuck}
 use Rattle.route_model.proofs.Hall.{counted_somewhere, zero_or_more, is_at_true, count_pointwise}
 use Rattle.route_solve.specs.Certificate.{IsCertificate}
-use Rattle.route_solve.specs.Numbers.{number_at}
-use Rattle.route_solve.proofs.Filtered.{offers_within}
+use Rattle.route_numbers.specs.Numbers.{number_at}
 use Rattle.route_solve.specs.Named.{name_of, named}
-use Rattle.route_solve.proofs.Numbered.{offers_named, offers_unnamed, one_place}
+use Rattle.route_numbers.proofs.Numbered.{offers_named, offers_unnamed, offers_within, one_place}
 
 pub length-named : (numbers : List ℕ) (p : List (Option ℕ)) → length (named numbers p) ≡ length p
 length-named numbers p = length-map p (name_of numbers)

@@ -5,11 +5,11 @@ use Rattle.route_model.specs.Links.{offers_of}
 use Rattle.route_model.proofs.Offers.{offers_length}
 use Rattle.route_solve.specs.Fits.{IsSolvable}
 use Rattle.route_solve.specs.Graphs.{AreEdges, IsNumbering}
-use Rattle.route_solve.specs.Numbers.{lists_of}
+use Rattle.route_numbers.specs.Numbers.{lists_of}
 use Rattle.route_solve.specs.Problems.{RoutingProblem}
 use Rattle.route_solve.specs.Rows.{AreRows}
 use Rattle.route_solve.proofs.Assigned.{places_up, places_some, rows_by_place}
-use Rattle.route_solve.proofs.Numbered.{lists_length}
+use Rattle.route_numbers.proofs.Numbered.{lists_length}
 
 pub represented : (p : RoutingProblem) (numbers : List ℕ) (offers : List (Vec ℕ)) (rows sources : List ℕ) → IsSolvable p → IsNumbering p numbers offers rows sources → AreEdges offers rows (length sources)
 represented p numbers offers rows sources fits n =

@@ -10,11 +10,9 @@ use Rattle.route_model.specs.Placement.{Offers}
 use Rattle.route_model.proofs.Filtered.{any_contains, contains_any}
 use Rattle.route_model.proofs.Hall.{zero_or_more}
 use Rattle.route_model.proofs.Counting.{one_if}
-use Rattle.route_solve.specs.Marks.{has}
-use Rattle.route_solve.specs.Numbers.{number_at, IsNumbered}
+use Rattle.route_numbers.specs.Numbers.{has, number_at, IsNumbered}
 use Rattle.route_solve.specs.Rows.{bit_of, HasBit, IsRow, AreRows, HasRows}
-use Rattle.route_solve.proofs.Filtered.{offers_within}
-use Rattle.route_solve.proofs.Numbered.{offers_named, offers_unnamed, one_place}
+use Rattle.route_numbers.proofs.Numbered.{offers_named, offers_unnamed, offers_within, one_place}
 
 pub has_rows : (offers : List (List ℕ)) (numbers : List ℕ) (places : List (List ℕ)) (words : List ℕ) → IsStrictlyIncreasing numbers → IsNumbered offers numbers places → AreRows places (length numbers) words → HasRows offers numbers words
 has_rows offers numbers places words up named rows = record { long = rows.long; bits = λ l i bl bi. go l i bl bi (has (get_or offers l []) (number_at numbers i)) refl }

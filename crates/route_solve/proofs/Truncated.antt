@@ -8,7 +8,7 @@ use Rattle.route_model.specs.Placement.{is_at, place_of, Offers, taken}
 use Rattle.route_solve.specs.Capacities.{at}
 use Rattle.route_solve.specs.Levels.{IsTrail, AreClosed, AreDone}
 use Rattle.route_solve.proofs.Parts.{none_taken, place-take}
-use Rattle.route_solve.proofs.Filtered.{offers_within}
+use Rattle.route_numbers.proofs.Numbered.{offers_within}
 
 module _ (offers : List (List ℕ)) (room : ℕ → ℕ) (p : List (Option ℕ)) (m : ℕ) (long : length p ≡ length offers) (within : m ≤ length offers) (rest : (k : ℕ) → m ≤ k → place_of p k ≡ None) where
   pub offers_to : (l n : ℕ) → l < m → Offers offers l n → Offers (take m offers) l n

@@ -11,9 +11,9 @@ use Rattle.route_model.specs.Placement.{is_at, place_of, Offers, taken, IsPlacem
 use Rattle.route_model.proofs.Hall.{counted_somewhere, zero_or_more, is_at_true, count_pointwise}
 use Rattle.route_solve.specs.First.{Completes, IsLeastAt}
 use Rattle.route_solve.specs.Named.{name_of, named}
-use Rattle.route_solve.specs.Numbers.{number_at}
+use Rattle.route_numbers.specs.Numbers.{number_at}
 use Rattle.route_solve.proofs.Names.{length-named, place_named, unnamed, at_is}
-use Rattle.route_solve.proofs.Numbered.{offers_unnamed, one_place}
+use Rattle.route_numbers.proofs.Numbered.{offers_unnamed, one_place}
 
 -- the place of a number
 abbrev place_in : List ℕ → ℕ → ℕ

@@ -15,7 +15,7 @@ pub record IsCertificate (offers : List (List ℕ)) (room : ℕ → ℕ) (reache
   pub beyond : (k : ℕ) → last < k → is_reached reached k ≡ false
 
 -- The links can be placed within a limit, and if it is above the floor, not within the one below.
-pub record IsSpread (offers : List (List ℕ)) (wired : List (ℕ × ℕ)) (floor limit : ℕ) (p : List (Option ℕ)) (reached : List Bool) : Type 0 where
+pub record IsWithinLeast (offers : List (List ℕ)) (wired : List (ℕ × ℕ)) (floor limit : ℕ) (p : List (Option ℕ)) (reached : List Bool) : Type 0 where
   pub placed : IsPlacement offers (room_of limit wired []) p
   pub above : floor ≤ limit
   pub shown : (limit ≡ floor) ⊎ ((level : ℕ) × (limit ≡ level + 1) × (floor ≤ level) × IsCertificate offers (room_of level wired []) reached)

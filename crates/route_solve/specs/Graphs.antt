@@ -11,12 +11,11 @@ use Rattle.route_solve.specs.declared.graph.Graph.{Graph}
 use Rattle.route_solve.specs.declared.hall.HallSearch.{HallSearch}
 use Rattle.route_solve.specs.declared.matching.Matching.{Matching}
 use Rattle.route_solve.specs.declared.search.Search.{Search}
-use Rattle.route_solve.specs.Certificate.{IsCertificate, IsSpread}
+use Rattle.route_solve.specs.Certificate.{IsCertificate, IsWithinLeast}
 use Rattle.route_solve.specs.Floor.{IsFloor}
 use Rattle.route_solve.specs.Capacities.{at, capacity_at, IsCounted}
 use Rattle.route_solve.specs.Levels.{IsTrail, IsQueue, IsKept, IsLonger, AreClosed, AreDone, IsFound}
-use Rattle.route_solve.specs.Named.{AreSources}
-use Rattle.route_solve.specs.Numbers.{lists_of, HasOffered, IsNumbered}
+use Rattle.route_numbers.specs.Numbers.{lists_of, AreSources, HasOffered, IsNumbered}
 use Rattle.route_solve.specs.Problems.{RoutingProblem}
 use Rattle.route_solve.specs.Ready.{AreReady, IsFurther, IsSearch}
 use Rattle.route_solve.specs.Rows.{AreRows, HasRows}
@@ -200,4 +199,4 @@ pub record IsLeastWithin (p : RoutingProblem) (floor limit : ℕ) (reached : Lis
   pub small : limit ≤ 4352
   pub marks : length reached ≡ length p.links
   pub placement : List (Option ℕ)
-  pub spread : IsSpread (offers_of p.links) p.wired floor limit placement reached
+  pub within_least : IsWithinLeast (offers_of p.links) p.wired floor limit placement reached

@@ -7,7 +7,6 @@ pub mod First
 pub mod Floor
 pub mod Marks
 pub mod Shown
-pub mod Numbers
 pub mod Rows
 pub mod Capacities
 pub mod Levels

@@ -3,6 +3,7 @@ use Rattle.std.specs.Prelude.{◌≡◌, ◌<◌, ◌+◌, ◌==◌, ◌&&◌, �
 use Rattle.std.specs.List.{list_any}
 use Rattle.route_model.specs.Routing.{wired_to}
 use Rattle.route_model.specs.Placement.{Offers}
+use Rattle.route_numbers.specs.Numbers.{has}
 
 -- the places of the marks
 abbrev pub places_from : ℕ → List Bool → List ℕ
@@ -14,10 +15,6 @@ abbrev pub is_offered_by : List (List ℕ) → List Bool → ℕ → Bool
 is_offered_by [] bs n = false
 is_offered_by (o ∷ os) [] n = false
 is_offered_by (o ∷ os) (b ∷ bs) n = (b && list_any (λ m. m == n) o) || is_offered_by os bs n
-
--- whether a list has a number
-abbrev pub has : List ℕ → ℕ → Bool
-has xs n = list_any (λ m. m == n) xs
 
 -- every number that is offered or has wired sources
 pub record HasAll (offers : List (List ℕ)) (wired : List (ℕ × ℕ)) (numbers : List ℕ) : Type 0 where

@@ -62,7 +62,7 @@ pub record AreReady (offers : List (List ℕ)) (room : ℕ → ℕ) (p : List (O
   pub held : (j i x : ℕ) → low ≤ j → Offers offers j i → is_reached ready i ≡ true → place_of p j ≡ Some x → is_reached ready x ≡ true
 
 -- A link that had no interrupt has one, the others with interrupts still have some, and those with none have none.
-pub record IsSettled (low : ℕ) (p : List (Option ℕ)) (link : ℕ) (q : List (Option ℕ)) : Type 0 where
+pub record IsAugmented (low : ℕ) (p : List (Option ℕ)) (link : ℕ) (q : List (Option ℕ)) : Type 0 where
   pub here : IsSome (place_of q link)
   pub whole : (m : ℕ) → IsSome (place_of p m) → IsSome (place_of q m)
   pub kept : (m : ℕ) → m < low → m ≢ link → place_of q m ≡ place_of p m

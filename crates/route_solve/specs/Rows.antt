@@ -2,7 +2,7 @@
 use Rattle.std.specs.Prelude.{◌≡◌, ◌↔◌, ◌<◌, ◌+◌, ◌*◌, ◌/◌, ◌%◌, ℕ, List, [], cond, length, slice_index_or}
 use Rattle.std.specs.Int.{bit_at}
 use Rattle.route_model.specs.Placement.{Offers}
-use Rattle.route_solve.specs.Marks.{has}
+use Rattle.route_numbers.specs.Numbers.{has}
 
 -- bit i of a row is bit i modulo 64 of word i / 64, lowest bit first
 abbrev pub HasBit : List ℕ → ℕ → Type 0

@@ -3,9 +3,9 @@ ghost use Rattle.std.specs.Prelude.{◌≡◌, ◌<◌, ℕ, IfOk, true};
 ghost use Rattle.std.specs.List.{range_with_len};
 ghost use Rattle.std.specs.List.Sorted.{IsStrictlyIncreasing};
 ghost use Rattle.route_model.specs.Routing.{wired_to};
-ghost use Rattle.route_solve.specs.Marks.{has};
+ghost use Rattle.route_numbers.specs.Numbers.{has};
 
-use crate::numbers::put_in_order;
+use route_numbers::put_in_order;
 use std::alloc::{AllocError, Global};
 
 /// The numbers below n.

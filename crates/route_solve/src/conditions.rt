@@ -7,17 +7,7 @@ ghost use Rattle.route_solve.specs.Fits.{Fits, IsOffer};
 
 use crate::problem::Problem;
 use route_model::Link;
-
-pub(crate) fn ascends(numbers: &[u32]) -> bool
-    ensures { IsTrue result ↔ IsStrictlyIncreasing numbers.now }
-{
-    for i in 1..numbers.len() {
-        if numbers[i] <= numbers[i - 1] {
-            return false;
-        }
-    }
-    true
-}
+use route_numbers::ascends;
 
 fn links_ascend(links: &[Link]) -> bool
     ensures { IsTrue result ↔ IsStrictlySortedBy path_cmp (paths_of links.now) }

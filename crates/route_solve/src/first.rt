@@ -7,8 +7,8 @@ ghost use Rattle.route_solve.specs.Graphs.{capacity, edges, interrupts_in, IsCom
 ghost use Rattle.route_solve.specs.Capacities.{IsCounted};
 
 use crate::graph::{Graph, has_room};
-use crate::matching::{Matching, raise};
-use crate::moves::settle;
+use crate::matching::{Matching, count_one};
+use crate::moves::place_ready;
 use crate::search::Search;
 
 /// The first of a link's interrupts in which the links before it have left room.
@@ -84,7 +84,7 @@ fn fix_by_search(graph: &Graph<'_>, matching: &mut Matching, search: &mut Search
         low: link + 1,
         ..*graph
     };
-    settle(&here, matching, search, link);
+    place_ready(&here, matching, search, link);
 }
 
 /// Gives a link the first interrupt with which those after it can be placed.
@@ -123,6 +123,6 @@ pub(crate) fn fix_all(
     kept.fill(0);
     for link in 0..matching.choice.len() {
         fix(graph, matching, kept, search, link);
-        raise(kept, matching.held(link));
+        count_one(kept, matching.held(link));
     }
 }

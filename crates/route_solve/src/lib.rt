@@ -40,7 +40,6 @@ pub mod laws;
 mod left;
 mod matching;
 mod moves;
-mod numbers;
 mod problem;
 mod rows;
 mod search;

@@ -15,7 +15,7 @@ pub(crate) struct Matching {
 }
 
 /// One link more has an interrupt.
-pub(crate) fn raise(counts: &mut [usize], i: usize)
+pub(crate) fn count_one(counts: &mut [usize], i: usize)
     requires known { i < length counts.old }
     requires few { at counts.old i ≤ 256 }
     ensures { counts.new ≡ slice_set counts.old i (at counts.old i + 1) }

@@ -6,7 +6,7 @@ ghost use Rattle.route_model.specs.Placement.{is_reached, place_of, Offers};
 ghost use Rattle.route_solve.specs.Graphs.{capacity, edges, interrupts_in, IsBlocked, IsGraph, IsMatching, IsSized};
 ghost use Rattle.route_solve.specs.Graphs.{IsUnplaced};
 ghost use Rattle.route_solve.specs.Capacities.{at};
-ghost use Rattle.route_solve.specs.Ready.{ready_at, AreReady, AreWays, IsSettled};
+ghost use Rattle.route_solve.specs.Ready.{ready_at, AreReady, AreWays, IsAugmented};
 
 use crate::graph::{Graph, has_room};
 use crate::matching::Matching;
@@ -24,7 +24,7 @@ fn augment(graph: &Graph<'_>, matching: &mut Matching, ways: &[Way], link: usize
     requires start { start < length ways.now }
     requires offered { Offers (edges graph.now) link (ready_at ways.now start) }
     ensures matching { IsMatching graph.now matching.new }
-    ensures settled { IsSettled graph.now.low matching.old.choice.items link matching.new.choice.items }
+    ensures augmented { IsAugmented graph.now.low matching.old.choice.items link matching.new.choice.items }
     ensures given { place_of matching.new.choice.items link ≡ Some (ready_at ways.now start) }
 {
     let mut to_place = link;
@@ -71,7 +71,7 @@ fn way_of(ways: &[Way], i: usize) -> usize
 
 /// Gives a link that has no interrupt the first of its offers that is ready, and gives the place of that among its
 /// offers.
-pub(crate) fn settle(
+pub(crate) fn place_ready(
     graph: &Graph<'_>,
     matching: &mut Matching,
     search: &mut Search,
@@ -88,7 +88,7 @@ pub(crate) fn settle(
     ensures given { MatchOption result (matching.new.choice.items ≡ matching.old.choice.items)
         (λ k. (k < length (slice_index_or (edges graph.now) link [])) ×
         (place_of matching.new.choice.items link ≡ Some (at (slice_index_or (edges graph.now) link []) k))) }
-    ensures settled { MatchOption result ⊤ (λ k. IsSettled graph.now.low matching.old.choice.items link
+    ensures augmented { MatchOption result ⊤ (λ k. IsAugmented graph.now.low matching.old.choice.items link
         matching.new.choice.items) }
     ensures first { MatchOption result ((i : ℕ) → Offers (edges graph.now) link i →
         is_reached search.new.visited.items i ≡ false) (λ k. (j : ℕ) → j < k →
@@ -130,7 +130,7 @@ pub(crate) fn place(
     requires link { IsUnplaced matching.old link }
     ensures matching { IsMatching graph.now matching.new }
     ensures sized { IsSized (interrupts_in graph.now) search.new }
-    ensures settled { OnTrue result (IsSettled graph.now.low matching.old.choice.items link matching.new.choice.items) }
+    ensures augmented { OnTrue result (IsAugmented graph.now.low matching.old.choice.items link matching.new.choice.items) }
     ensures unchanged { OnFalse result (matching.new.choice.items ≡ matching.old.choice.items) }
     ensures blocked { OnFalse result (IsBlocked graph.now matching.new link) }
 {
@@ -141,7 +141,7 @@ pub(crate) fn place(
         }
         None => {}
     }
-    match settle(graph, matching, search, link) {
+    match place_ready(graph, matching, search, link) {
         Some(_) => true,
         None => false,
     }

@@ -1,13 +1,9 @@
 //! For each offered interrupt a row of 256 bits: bit l is set where link l offers it.
 ghost use Rattle.std.specs.Prelude.{◌≡◌, ◌≤◌, ◌<◌, ◌*◌, ◌+◌, ◌⊎◌, ℕ, Contains, IfOk, length, slice_index_or};
-ghost use Rattle.std.specs.List.Sorted.{IsStrictlyIncreasing};
-ghost use Rattle.route_model.specs.Links.{offers_of};
-ghost use Rattle.route_solve.specs.Numbers.{lists_of, HasOffered};
-ghost use Rattle.route_solve.specs.Rows.{bit_of, AreRows, HasRows};
+ghost use Rattle.route_numbers.specs.Numbers.{lists_of};
+ghost use Rattle.route_solve.specs.Rows.{bit_of, AreRows};
 ghost use Rattle.route_model.specs.Placement.{Offers};
 
-use crate::numbers::all_places_offered;
-use route_model::Link;
 use std::alloc::{AllocError, Global};
 
 /// Sets a bit of an interrupt's row.

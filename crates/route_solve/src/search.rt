@@ -87,7 +87,7 @@ impl Search {
             if !has_left(&self.left) {
                 return;
             }
-            self.spread(graph, matching, pos);
+            self.visit_from(graph, matching, pos);
             pos += 1;
         }
     }

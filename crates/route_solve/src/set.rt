@@ -10,16 +10,16 @@ ghost use Rattle.route_model.specs.Placement.{is_reached};
 ghost use Rattle.route_solve.specs.Fits.{IsSolvable};
 ghost use Rattle.route_solve.specs.Graphs.{HasNumbers, IsGreatestWired, IsLeastWithin};
 ghost use Rattle.route_solve.specs.Marks.{is_offered_by, HasAll};
-ghost use Rattle.route_solve.specs.Numbers.{HasOffered};
+ghost use Rattle.route_numbers.specs.Numbers.{HasOffered};
 ghost use Rattle.route_solve.specs.Rows.{bit_of, HasBit, HasRows};
 ghost use Rattle.route_model.specs.Bound.{IsLowerBound};
 ghost use Rattle.route_solve.specs.Shown.{Shown};
 
 use crate::assign::Offered;
 use crate::left::next_left;
-use crate::numbers::place_from;
 use crate::rows::set_bit;
 use crate::sources::wired_sources;
+use route_numbers::place_from;
 
 fn is_marked(marks: &[bool], link: usize) -> bool
     ensures { result ≡ is_reached marks.now link }

@@ -9,7 +9,7 @@ ghost use Rattle.route_model.specs.Placement.{Offers};
 ghost use Rattle.route_solve.specs.Fits.{Fits, IsSolvable};
 ghost use Rattle.route_solve.specs.Graphs.{AreSized, IsGreatestWired, IsNumbering};
 ghost use Rattle.route_solve.specs.Marks.{HasAll};
-ghost use Rattle.route_solve.specs.Numbers.{is_offered};
+ghost use Rattle.route_numbers.specs.Numbers.{is_offered};
 ghost use Rattle.route_solve.specs.Rows.{IsRow};
 ghost use Rattle.route_model.specs.Bound.{IsLowerBound};
 ghost use Rattle.route_solve.specs.Shown.{Shown};
@@ -19,11 +19,11 @@ use crate::assign::{Buffers, Offered, assign};
 use crate::buffers::{all_interrupts, all_places};
 use crate::graph::Graph;
 use crate::matching::Matching;
-use crate::numbers::{all_offered, all_places_offered, place_among};
 use crate::problem::Problem;
 use crate::rows::{all_rows, row_at};
 use crate::set::show;
 use crate::sources::all_sources;
+use route_numbers::{all_offered, all_places_offered, place_among};
 use std::alloc::{AllocError, Global};
 
 /// The greatest number of sources that are wired to one interrupt.

@@ -3,11 +3,10 @@ ghost use Rattle.std.specs.Prelude.{◌≡◌, ◌≤◌, ◌<◌, ◌+◌, ℕ,
 ghost use Rattle.std.specs.Prelude.{slice_set};
 ghost use Rattle.std.specs.List.Sorted.{IsStrictlyIncreasing};
 ghost use Rattle.route_model.specs.Routing.{wired_to};
-ghost use Rattle.route_solve.specs.Numbers.{number_at};
+ghost use Rattle.route_numbers.specs.Numbers.{AreSources};
 ghost use Rattle.route_solve.specs.Capacities.{at};
-ghost use Rattle.route_solve.specs.Named.{AreSources};
 
-use crate::numbers::place_among;
+use route_numbers::place_among;
 use std::alloc::{AllocError, Global};
 
 /// The place of an interrupt among the wired ones, found by halves.

@@ -50,7 +50,7 @@ impl Search {
     }
 
     /// Visits the interrupt of a link, which can go to that of a way.
-    fn pass(&mut self, graph: &Graph<'_>, matching: &Matching, pos: usize, link: usize)
+    fn visit_link(&mut self, graph: &Graph<'_>, matching: &Matching, pos: usize, link: usize)
         requires graph { IsGraph graph.now }
         requires matching { IsMatching graph.now matching.now }
         requires search { Searches graph.now matching.now self.old }
@@ -77,7 +77,7 @@ impl Search {
     }
 
     /// Visits the interrupts of the links of a word that can go to that of a way.
-    fn spread_word(
+    fn visit_word(
         &mut self,
         graph: &Graph<'_>,
         matching: &Matching,
@@ -97,13 +97,13 @@ impl Search {
             place_of matching.now.choice.items l ≡ Some x → is_reached self.new.visited.items x ≡ true }
     {
         while let Some(link) = next_left(&self.left, graph.rows, interrupt, w) {
-            self.pass(graph, matching, pos, link);
+            self.visit_link(graph, matching, pos, link);
             clear_left(&mut self.left, link);
         }
     }
 
     /// Visits the interrupts of all links that can go to that of a way.
-    pub(crate) fn spread(&mut self, graph: &Graph<'_>, matching: &Matching, pos: usize)
+    pub(crate) fn visit_from(&mut self, graph: &Graph<'_>, matching: &Matching, pos: usize)
         requires graph { IsGraph graph.now }
         requires matching { IsMatching graph.now matching.now }
         requires search { Searches graph.now matching.now self.old }
@@ -114,7 +114,7 @@ impl Search {
     {
         let interrupt = self.ways[pos].interrupt;
         for w in 0..4 {
-            self.spread_word(graph, matching, pos, interrupt, w);
+            self.visit_word(graph, matching, pos, interrupt, w);
         }
     }
 }

@@ -86,7 +86,7 @@ module _ (interrupts interrupts' ranks ranks' : List ℕ) (i high : ℕ) (listed
       there x b (inr ne) (inr nf) = ap (at interrupts') (rank_other x ne nf) ∙ (at_other (at ranks x) (λ z. nf (sym (listed.there x b) ∙ ap (at interrupts) z)) (λ z. ne (one_rank interrupts ranks listed x i (let l = listed.long in omega arith) bi z)) ∙ listed.there x b)
 
   -- an interrupt that is lower by one is raised
-  module _ (loads : List ℕ) (before after : List Bool) (top : ℕ) (behind : high ≤ at ranks i) (arranged : IsArranged loads before interrupts ranks high top) (low : height_at loads before i + 1 ≡ top) (lifted : height_at loads after i ≡ top) (same : (x : ℕ) → x ≢ i → height_at loads after x ≡ height_at loads before x) where
+  module _ (loads : List ℕ) (before after : List Bool) (top : ℕ) (behind : high ≤ at ranks i) (arranged : IsArranged loads before interrupts ranks high top) (low : height_at loads before i + 1 ≡ top) (raised : height_at loads after i ≡ top) (same : (x : ℕ) → x ≢ i → height_at loads after x ≡ height_at loads before x) where
     -- the first of the lower ones is lower by one too
     first_low : height_at loads before (at interrupts high) + 1 ≡ top
     first_low =

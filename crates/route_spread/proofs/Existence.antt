@@ -11,9 +11,9 @@ use Rattle.route_model.specs.Routing.{given, load, IsAssignment}
 use Rattle.route_model.specs.Placement.{Offers}
 use Rattle.route_model.proofs.Assignments.{length_assignment, assignment_at}
 use Rattle.route_spread.specs.Marks.{AreLevelled, IsShifted}
-use Rattle.route_spread.specs.Numbers.{number_at}
+use Rattle.route_numbers.specs.Numbers.{number_at}
 use Rattle.route_spread.specs.Sharing.{excess, busier, HasOffered, IsLeastShared, NotBusier}
-use Rattle.route_spread.specs.Sharings.{IsSharing}
+use Rattle.route_spread.specs.Assignments.{IsSharing}
 use Rattle.route_spread.proofs.Busiest.{flat, in_flat}
 use Rattle.route_spread.proofs.Sorted.{step, ends, alike, first_sorted}
 use Rattle.route_spread.proofs.Shared.{levelled_shared, moved_sharing}

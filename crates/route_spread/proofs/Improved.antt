@@ -2,9 +2,9 @@
 use Rattle.std.proofs.Common.{ℕ, List, arith, ap, subst, ◌∙◌}
 use Rattle.std.specs.Global.{Vec}
 use Rattle.route_spread.specs.declared.sharing.Sharing.{Sharing}
-use Rattle.route_spread.specs.Numbers.{lists_of}
+use Rattle.route_numbers.specs.Numbers.{lists_of}
 use Rattle.route_spread.specs.Marks.{ArePlaced}
-use Rattle.route_spread.specs.Markings.{WereMoved}
+use Rattle.route_spread.specs.InMemory.{WereMoved}
 use Rattle.route_spread.specs.Improving.{HasSameOffers, IsImproved, WereLevelled}
 use Rattle.route_spread.proofs.Moves.{less_still}
 

@@ -2,7 +2,6 @@ pub mod Picked
 pub mod Levels
 pub mod Sorted
 pub mod Busiest
-pub mod Numbered
 pub mod Found
 pub mod Arranged
 pub mod Ranks

@@ -10,11 +10,11 @@ use Rattle.route_model.specs.Placement.{Offers}
 use Rattle.route_model.proofs.Counting.{one_if, count_cons}
 use Rattle.route_model.proofs.Hall.{counted_somewhere, zero_or_more}
 use Rattle.route_model.proofs.Assignments.{assignment_at, all_zip_from}
-use Rattle.route_spread.specs.Numbers.{number_at, IsNumbered}
+use Rattle.route_numbers.specs.Numbers.{number_at, IsNumbered}
 use Rattle.route_spread.specs.Marks.{at, is_raised, height_at, ArePlaced, AreKept, AreLevelled, HasLess, IsSameOrLess, IsShifted}
 use Rattle.route_spread.specs.Sharing.{excess, height, HasOffered, IsLeastShared}
-use Rattle.route_spread.specs.Sharings.{IsSharing}
-use Rattle.route_spread.proofs.Numbered.{offers_named, offers_unnamed, one_place}
+use Rattle.route_spread.specs.Assignments.{IsSharing}
+use Rattle.route_numbers.proofs.Numbered.{offers_named, offers_unnamed, one_place}
 use Rattle.route_spread.proofs.Levels.{levelled_least}
 
 -- no number stands at two places

@@ -68,14 +68,14 @@ highest_open choice loads raised turn = go (highest_below choice loads raised tu
     go (inr (l, h)) = inr (l, record { within = h.within; waits = h.waits; top = h.top })
 
 -- some interrupts are raised to the height of a link
-record IsLifted (loads : List ℕ) (before : List Bool) (from : List ℕ) (link top : ℕ) (os : List ℕ) (after : List Bool) (from' : List ℕ) : Type 0 where
+record AllRaised (loads : List ℕ) (before : List Bool) (from : List ℕ) (link top : ℕ) (os : List ℕ) (after : List Bool) (from' : List ℕ) : Type 0 where
   only : AreRaised loads before after from from' link top (λ x. Contains os x)
-  lifted : (x : ℕ) → Contains os x → top ≤ height_at loads after x
+  raised_up : (x : ℕ) → Contains os x → top ≤ height_at loads after x
   raised_long : length after ≡ length before
   from_long : length from' ≡ length from
 
-abbrev Lifts : (loads : List ℕ) (before : List Bool) (from : List ℕ) (link top : ℕ) (os : List ℕ) → Type 0
-Lifts loads before from link top os = (after : List Bool) × (from' : List ℕ) × IsLifted loads before from link top os after from'
+abbrev Raises : (loads : List ℕ) (before : List Bool) (from : List ℕ) (link top : ℕ) (os : List ℕ) → Type 0
+Raises loads before from link top os = (after : List Bool) × (from' : List ℕ) × AllRaised loads before from link top os after from'
 
 contains_cons : (o : ℕ) (os : List ℕ) (x : ℕ) → Contains (o ∷ os) x → (o ≡ x) ⊎ Contains os x
 contains_cons o os x c = go c.0 c.1 c.2
@@ -111,26 +111,26 @@ abbrev Far : (loads : List ℕ) (top : ℕ) (os : List ℕ) → Type 0
 Far loads top os = (x : ℕ) × Contains os x × (at loads x + 2 ≤ top)
 
 abbrev Rest : (loads : List ℕ) (link top : ℕ) (os : List ℕ) → Type 0
-Rest loads link top os = (mid : List Bool) (from' : List ℕ) → ((x : ℕ) → Contains os x → (x < length mid) × (x < length from')) → Far loads top os ⊎ Lifts loads mid from' link top os
+Rest loads link top os = (mid : List Bool) (from' : List ℕ) → ((x : ℕ) → Contains os x → (x < length mid) × (x < length from')) → Far loads top os ⊎ Raises loads mid from' link top os
 
 -- one interrupt is raised, then the rest
-lift_cons : (loads : List ℕ) (link top o : ℕ) (os : List ℕ) (before : List Bool) (from : List ℕ) → ((x : ℕ) → Contains (o ∷ os) x → (x < length before) × (x < length from)) → Rest loads link top os → Far loads top (o ∷ os) ⊎ Lifts loads before from link top (o ∷ os)
-lift_cons loads link top o os before from known rest = go (cases_lt (at loads o + 1) top) (cases_lt (at loads o) top) (is_raised before o) refl
+raise_cons : (loads : List ℕ) (link top o : ℕ) (os : List ℕ) (before : List Bool) (from : List ℕ) → ((x : ℕ) → Contains (o ∷ os) x → (x < length before) × (x < length from)) → Rest loads link top os → Far loads top (o ∷ os) ⊎ Raises loads before from link top (o ∷ os)
+raise_cons loads link top o os before from known rest = go (cases_lt (at loads o + 1) top) (cases_lt (at loads o) top) (is_raised before o) refl
   where
     here : Contains (o ∷ os) o
     here = (0, omega arith, refl)
 
-    then : (mid : List Bool) (from' : List ℕ) → AreRaised loads before mid from from' link top (λ x. x ≡ o) → top ≤ height_at loads mid o → length mid ≡ length before → length from' ≡ length from → Far loads top (o ∷ os) ⊎ Lifts loads before from link top (o ∷ os)
+    then : (mid : List Bool) (from' : List ℕ) → AreRaised loads before mid from from' link top (λ x. x ≡ o) → top ≤ height_at loads mid o → length mid ≡ length before → length from' ≡ length from → Far loads top (o ∷ os) ⊎ Raises loads before from link top (o ∷ os)
     then mid from' one high lm lf = more (rest mid from' (λ x c. let k = known x (contains_more o os x c) in let a = k.0 in let b = k.1 in (omega arith, omega arith)))
       where
-        more : Far loads top os ⊎ Lifts loads mid from' link top os → Far loads top (o ∷ os) ⊎ Lifts loads before from link top (o ∷ os)
+        more : Far loads top os ⊎ Raises loads mid from' link top os → Far loads top (o ∷ os) ⊎ Raises loads before from link top (o ∷ os)
         more (inl f) = inl (f.0, contains_more o os f.0 f.1, f.2)
         more (inr l) = inr (
           l.0,
           l.1,
           record {
             only = composed loads before mid l.0 from from' l.1 link top o os one l.2.only;
-            lifted = λ x c. each x (contains_cons o os x c);
+            raised_up = λ x c. each x (contains_cons o os x c);
             raised_long = l.2.raised_long ∙ lm;
             from_long = l.2.from_long ∙ lf;
           },
@@ -138,13 +138,13 @@ lift_cons loads link top o os before from known rest = go (cases_lt (at loads o 
           where
             each : (x : ℕ) → (o ≡ x) ⊎ Contains os x → top ≤ height_at loads l.0 x
             each x (inl e) = let u = no_lower loads mid l.0 from' l.1 link top (λ y. Contains os y) l.2.only o in let f : height_at loads l.0 x ≡ height_at loads l.0 o = ap (height_at loads l.0) (sym e) in omega arith
-            each x (inr c) = l.2.lifted x c
+            each x (inr c) = l.2.raised_up x c
 
     same_one : AreRaised loads before before from from link top (λ x. x ≡ o)
     same_one = record { kept = λ x h. h; same = λ x h. refl; new = λ x h. inl h }
 
-    raise : (at loads o < top) → (top ≤ at loads o + 1) → is_raised before o ≡ false → AreRaised loads before (set before o true) from (set from o link) link top (λ x. x ≡ o)
-    raise less near low = record { kept = λ x h. kept x h (cases_eq x o); same = λ x h. same x h (cases_eq x o); new = λ x h. new x h (cases_eq x o) }
+    raise_one : (at loads o < top) → (top ≤ at loads o + 1) → is_raised before o ≡ false → AreRaised loads before (set before o true) from (set from o link) link top (λ x. x ≡ o)
+    raise_one less near low = record { kept = λ x h. kept x h (cases_eq x o); same = λ x h. same x h (cases_eq x o); new = λ x h. new x h (cases_eq x o) }
       where
         kept : (x : ℕ) → is_raised before x ≡ true → (x ≡ o) ⊎ (x ≢ o) → is_raised (set before o true) x ≡ true
         kept x h (inl e) = ap (is_raised (set before o true)) e ∙ get_or-set_same before o true false (known o here).0
@@ -165,7 +165,7 @@ lift_cons loads link top o os before from known rest = go (cases_lt (at loads o 
         )
         new x h (inr ne) = inl (sym (get_or-set_other before o x true false ne) ∙ h)
 
-    go : (at loads o + 1 < top) ⊎ (top ≤ at loads o + 1) → (at loads o < top) ⊎ (top ≤ at loads o) → (b : Bool) → is_raised before o ≡ b → Far loads top (o ∷ os) ⊎ Lifts loads before from link top (o ∷ os)
+    go : (at loads o + 1 < top) ⊎ (top ≤ at loads o + 1) → (at loads o < top) ⊎ (top ≤ at loads o) → (b : Bool) → is_raised before o ≡ b → Far loads top (o ∷ os) ⊎ Raises loads before from link top (o ∷ os)
     go (inl far) h b e = inl (o, here, omega arith)
     go (inr near) (inr high) b e = then before from same_one (cond_more (at loads o) (is_raised before o)) refl refl
       where
@@ -173,21 +173,21 @@ lift_cons loads link top o os before from known rest = go (cases_lt (at loads o 
         cond_more n true = omega arith
         cond_more n false = omega arith
     go (inr near) (inl less) true e = then before from same_one (let h = ap (λ b. at loads o + cond b 1 0) e in omega arith) refl refl
-    go (inr near) (inl less) false e = then (set before o true) (set from o link) (raise less near e) (let h = ap (λ b. at loads o + cond b 1 0) (get_or-set_same before o true false (known o here).0) in omega arith) (length-set before o true) (length-set from o link)
+    go (inr near) (inl less) false e = then (set before o true) (set from o link) (raise_one less near e) (let h = ap (λ b. at loads o + cond b 1 0) (get_or-set_same before o true false (known o here).0) in omega arith) (length-set before o true) (length-set from o link)
 
 -- what a link offers is raised to its height, or lower by two at least
-lift_all : (loads : List ℕ) (link top : ℕ) (os : List ℕ) (before : List Bool) (from : List ℕ) → ((x : ℕ) → Contains os x → (x < length before) × (x < length from)) → Far loads top os ⊎ Lifts loads before from link top os
-lift_all loads link top [] before from known = inr (
+raise_all : (loads : List ℕ) (link top : ℕ) (os : List ℕ) (before : List Bool) (from : List ℕ) → ((x : ℕ) → Contains os x → (x < length before) × (x < length from)) → Far loads top os ⊎ Raises loads before from link top os
+raise_all loads link top [] before from known = inr (
   before,
   from,
   record {
     only = record { kept = λ x h. h; same = λ x h. refl; new = λ x h. inl h };
-    lifted = λ x c. absurd (let b = c.1 in omega arith);
+    raised_up = λ x c. absurd (let b = c.1 in omega arith);
     raised_long = refl;
     from_long = refl;
   },
 )
-lift_all loads link top (o ∷ os) before from known = lift_cons loads link top o os before from known (λ mid from' k. lift_all loads link top os mid from' k)
+raise_all loads link top (o ∷ os) before from known = raise_cons loads link top o os before from known (λ mid from' k. raise_all loads link top os mid from' k)
 
 -- a marking comes to an end: no link offers an interrupt that is lower, or there is a way
 record IsFound (places : List (List ℕ)) (choice loads : List ℕ) (raised : List Bool) (from turn : List ℕ) (link target : ℕ) : Type 0 where
@@ -211,11 +211,11 @@ module _ (places : List (List ℕ)) (choice loads : List ℕ) (below : (l x : �
     where
       go : ((k : ℕ) → k < length choice → at turn k ≢ length turn) ⊎ ((l : ℕ) × IsHighest choice loads raised turn l) → Marked places choice loads
       go (inl none) = inl (raised, levelled_all places choice loads raised from turn t marking none)
-      go (inr h) = lifted (lift_all loads h.0 (height_at loads raised (at choice h.0)) (get_or places h.0 []) raised from (λ x c. let b = below h.0 x c in (omega arith, omega arith)))
+      go (inr h) = raised_up (raise_all loads h.0 (height_at loads raised (at choice h.0)) (get_or places h.0 []) raised from (λ x c. let b = below h.0 x c in (omega arith, omega arith)))
         where
-          lifted : Far loads (height_at loads raised (at choice h.0)) (get_or places h.0 []) ⊎ Lifts loads raised from h.0 (height_at loads raised (at choice h.0)) (get_or places h.0 []) → Marked places choice loads
-          lifted (inl far) = inr (raised, from, turn, h.0, far.0, record { way = record { within = h.1.within; offered = far.1; lower = far.2 }; chained = marking.chained; raised_long = lr })
-          lifted (inr more) = next more.0 more.1 (set turn h.0 t) (length-set turn h.0 t ∙ lt) (more.2.raised_long ∙ lr) (more.2.from_long ∙ lf) (marking_more places choice loads raised more.0 from more.1 turn t h.0 lt soon marking h.1 more.2.only more.2.lifted)
+          raised_up : Far loads (height_at loads raised (at choice h.0)) (get_or places h.0 []) ⊎ Raises loads raised from h.0 (height_at loads raised (at choice h.0)) (get_or places h.0 []) → Marked places choice loads
+          raised_up (inl far) = inr (raised, from, turn, h.0, far.0, record { way = record { within = h.1.within; offered = far.1; lower = far.2 }; chained = marking.chained; raised_long = lr })
+          raised_up (inr more) = next more.0 more.1 (set turn h.0 t) (length-set turn h.0 t ∙ lt) (more.2.raised_long ∙ lr) (more.2.from_long ∙ lf) (marking_more places choice loads raised more.0 from more.1 turn t h.0 lt soon marking h.1 more.2.only more.2.raised_up)
 
   mark : (d t : ℕ) (raised : List Bool) (from turn : List ℕ) → t + d ≡ length choice → length turn ≡ length choice → length raised ≡ length loads → length from ≡ length loads → IsMarking places choice loads raised from turn t → Marked places choice loads
   mark zero t raised from turn e lt lr lf marking = inl (raised, levelled_all places choice loads raised from turn t marking (none_waits places choice loads raised from turn t lt marking (omega arith)))

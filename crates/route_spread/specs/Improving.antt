@@ -2,10 +2,10 @@
 use Rattle.std.specs.Prelude.{◌≡◌, ℕ, List, length}
 use Rattle.route_spread.specs.declared.assignment.Assignment.{Assignment}
 use Rattle.route_spread.specs.declared.sharing.Sharing.{Sharing}
-use Rattle.route_spread.specs.Numbers.{lists_of}
+use Rattle.route_numbers.specs.Numbers.{lists_of}
 use Rattle.route_spread.specs.Marks.{AreKept, ArePlaced, IsSameOrLess}
-use Rattle.route_spread.specs.Markings.{CanBeMarked, HasRoomFor, HaveLevelled}
-use Rattle.route_spread.specs.Sharings.{IsSharing}
+use Rattle.route_spread.specs.InMemory.{CanBeMarked, HasRoomFor, HaveLevelled}
+use Rattle.route_spread.specs.Assignments.{IsSharing}
 
 -- room for a search, and loads that it can count with
 pub record CanBeImproved (s : Sharing) : Type 0 where

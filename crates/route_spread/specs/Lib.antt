@@ -1,6 +1,5 @@
 pub mod Sharing
-pub mod Numbers
 pub mod Marks
-pub mod Sharings
-pub mod Markings
+pub mod Assignments
+pub mod InMemory
 pub mod Improving

@@ -1,6 +1,6 @@
 //! Links on interrupts, each known by its place, and how links move along a way.
 ghost use Rattle.std.specs.Prelude.{◌≡◌, length};
-ghost use Rattle.route_spread.specs.Markings.{CanBeMarked, HasRoomFor, HaveWay, WereMoved};
+ghost use Rattle.route_spread.specs.InMemory.{CanBeMarked, HasRoomFor, HaveWay, WereMoved};
 
 use crate::holders::Holders;
 use crate::marking::{Marks, Way};

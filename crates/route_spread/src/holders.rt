@@ -25,7 +25,7 @@ impl Holders {
     }
 
     /// Notes the links of each interrupt.
-    pub(crate) fn gather(&mut self, choice: &[usize])
+    pub(crate) fn note(&mut self, choice: &[usize])
         requires known { (k : ℕ) → k < length choice.now → at choice.now k < length self.old.first.items }
         requires next { length self.old.next.items ≡ length choice.now }
         ensures holders { AreHolders choice.now self.new.first.items self.new.next.items }

@@ -3,9 +3,9 @@
 ghost use Rattle.std.specs.Prelude.{◌≡◌, ◌≤◌, ◌<◌, ◌+◌, ◌^◌, ◌↔◌, ℕ, Contains, IsTrue, IfOk, MatchOption, length};
 ghost use Rattle.std.specs.Prelude.{false};
 ghost use Rattle.route_spread.specs.Marks.{at, height_at, is_raised};
-ghost use Rattle.route_spread.specs.Markings.{AreArrangedAt, AreArrangedFor, AreLater, AreLiftedOrFar, CanBeMarked};
-ghost use Rattle.route_spread.specs.Markings.{HasRoomFor};
-ghost use Rattle.route_spread.specs.Markings.{HaveLevelled, HaveMarked, HaveRaised, HaveWay, IsCounted, KnowsHolders};
+ghost use Rattle.route_spread.specs.InMemory.{AreArrangedAt, AreArrangedFor, AreLater, AreRaisedOrFar, CanBeMarked};
+ghost use Rattle.route_spread.specs.InMemory.{HasRoomFor};
+ghost use Rattle.route_spread.specs.InMemory.{HaveLevelled, HaveMarked, HaveRaised, HaveWay, IsCounted, KnowsHolders};
 
 use crate::assignment::Assignment;
 use crate::order::Order;
@@ -59,13 +59,13 @@ impl Marks {
     }
 
     /// Raises an interrupt that is lower than a link which offers it, and notes the link.
-    fn lift(&mut self, loads: &[u128], link: usize, top: u128, i: usize)
+    fn raise(&mut self, loads: &[u128], link: usize, top: u128, i: usize)
         requires within { i < length loads.now }
         requires room { HasRoomFor (length loads.now) self.old }
         requires arranged { AreArrangedAt loads.now self.old top }
         requires near { top ≤ at loads.now i + 1 }
         ensures room { HasRoomFor (length loads.now) self.new }
-        ensures lifted { top ≤ height_at loads.now self.new.raised.items i }
+        ensures raised { top ≤ height_at loads.now self.new.raised.items i }
         ensures only { HaveRaised loads.now self.old self.new link top (λ x. x ≡ i) }
         ensures arranged { AreArrangedAt loads.now self.new top }
         ensures later { AreLater self.old self.new }
@@ -79,7 +79,7 @@ impl Marks {
     }
 
     /// Raises what a link offers to its height, up to an interrupt that is lower by two at least.
-    fn lift_all(
+    fn raise_all(
         &mut self,
         loads: &[u128],
         offers: &[usize],
@@ -91,7 +91,7 @@ impl Marks {
         requires arranged { AreArrangedAt loads.now self.old top }
         requires small { (x : ℕ) → at loads.now x ≤ 2 ^ 100 }
         ensures room { HasRoomFor (length loads.now) self.new }
-        ensures found { AreLiftedOrFar loads.now offers.now self.new top result }
+        ensures found { AreRaisedOrFar loads.now offers.now self.new top result }
         ensures only { HaveRaised loads.now self.old self.new link top (λ x. Contains offers.now x) }
         ensures arranged { AreArrangedAt loads.now self.new top }
         ensures later { AreLater self.old self.new }
@@ -100,7 +100,7 @@ impl Marks {
             if is_far(loads, *i, top) {
                 return Some(*i);
             }
-            self.lift(loads, link, top, *i);
+            self.raise(loads, link, top, *i);
         }
         None
     }
@@ -142,7 +142,7 @@ impl Marks {
         let mut link = assignment.holders.first[interrupt];
         while link < assignment.choice.len() {
             let offers: &[usize] = &assignment.offers[link];
-            match self.lift_all(loads, offers, link, top) {
+            match self.raise_all(loads, offers, link, top) {
                 Some(target) => return Some(Way { link, target }),
                 None => {}
             }

@@ -2,7 +2,7 @@
 ghost use Rattle.std.specs.Prelude.{◌≡◌, ◌≤◌, ◌<◌, ◌+◌, ℕ, List, IfOk, length};
 ghost use Rattle.std.specs.Ordering.{nat_cmp};
 ghost use Rattle.route_spread.specs.Marks.{at, AreByLoads, IsListed};
-ghost use Rattle.route_spread.specs.Markings.{WasPromoted};
+ghost use Rattle.route_spread.specs.InMemory.{WasPromoted};
 
 use std::alloc::{AllocError, Global};
 use std::cmp::Ordering;

@@ -5,17 +5,17 @@ ghost use Rattle.std.specs.List.Sorted.{IsStrictlyIncreasing};
 ghost use Rattle.route_model.specs.Links.{offers_of};
 ghost use Rattle.route_model.specs.Routing.{given, wired_to, IsAssignment};
 ghost use Rattle.route_spread.specs.Marks.{at};
-ghost use Rattle.route_spread.specs.Numbers.{number_at};
+ghost use Rattle.route_numbers.specs.Numbers.{number_at};
 ghost use Rattle.route_spread.specs.Sharing.{IsLeastShared};
-ghost use Rattle.route_spread.specs.Markings.{HaveLevelled, WereMoved};
+ghost use Rattle.route_spread.specs.InMemory.{HaveLevelled, WereMoved};
 ghost use Rattle.route_spread.specs.Improving.{CanBeImproved, HasSameOffers, IsImproved, IsSharingOf, WereLevelled};
 
 use crate::assignment::Assignment;
 use crate::holders::Holders;
 use crate::marking::Marks;
-use crate::numbers::{all_numbers, all_offered, all_places, all_places_offered};
 use crate::sources::{add_links, add_wired};
 use route_model::Link;
+use route_numbers::{all_numbers, all_offered, all_places_chosen, all_places_offered};
 use std::alloc::{AllocError, Global};
 
 /// Links on interrupts that they offer, and all the memory that moving them takes.
@@ -62,7 +62,7 @@ impl Sharing {
     {
         let numbers = all_offered(alloc, links)?;
         let offers = all_places_offered(alloc, &numbers, links)?;
-        let choice = all_places(alloc, &numbers, choice)?;
+        let choice = all_places_chosen(alloc, &numbers, choice)?;
         let loads = all_loads(alloc, &numbers, wired, &choice)?;
         let holders = Holders::new(alloc, numbers.len(), choice.len())?;
         let marks = Marks::new(alloc, numbers.len())?;
@@ -87,7 +87,7 @@ impl Sharing {
         ensures yes { OnTrue result (WereMoved self.old.assignment self.new.assignment) }
         ensures no { OnFalse result (WereLevelled self.old self.new) }
     {
-        self.assignment.holders.gather(&self.assignment.choice);
+        self.assignment.holders.note(&self.assignment.choice);
         match self.marks.mark(&self.assignment) {
             Some(way) => {
                 self.assignment.shift(&self.marks, way);

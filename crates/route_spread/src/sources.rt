@@ -3,9 +3,9 @@ ghost use Rattle.std.specs.Prelude.{◌≡◌, ◌≤◌, ◌<◌, ◌+◌, ◌^
 ghost use Rattle.std.specs.List.Sorted.{IsStrictlyIncreasing};
 ghost use Rattle.route_model.specs.Routing.{given};
 ghost use Rattle.route_spread.specs.Marks.{at};
-ghost use Rattle.route_spread.specs.Numbers.{AreSources};
+ghost use Rattle.route_numbers.specs.Numbers.{AreSources};
 
-use crate::numbers::place_among;
+use route_numbers::place_among;
 use std::alloc::{AllocError, Global};
 
 /// Adds sources to those of the interrupt at a place.

@@ -4,7 +4,7 @@ ghost use Rattle.std.specs.Prelude.{◌≡◌, ◌<◌, length};
 
 use crate::fixing::fix_all;
 use crate::loads::wired_sources;
-use crate::placing::settle;
+use crate::placing::place_link;
 use crate::rooms::Rooms;
 use route_model::Link;
 use route_solve::{Answer, Problem};
@@ -32,7 +32,7 @@ fn give_first(links: &[Link], choice: &mut [Option<u32>], link: usize)
 ///
 /// The limit is raised where a link can't be placed. All that it offers was full within the old limit, so its first
 /// interrupt has room within the new one.
-fn spread(
+fn place_all(
     wired: &[(u32, u32)],
     links: &[Link],
     choice: &mut [Option<u32>],
@@ -51,7 +51,7 @@ fn spread(
             wired,
             fixed: &[],
         };
-        if !settle(
+        if !place_link(
             &rooms,
             &links[..=link],
             &mut choice[..=link],
@@ -146,7 +146,7 @@ pub fn solve(alloc: Global, problem: &Problem) -> Result<Answer, AllocError> {
     let mut reached: Vec<bool> = vec![in alloc; false; n]?;
     let mut stuck: Vec<bool> = vec![in alloc; false; n]?;
     let floor = greatest_wired(wired);
-    let limit = spread(
+    let limit = place_all(
         wired,
         links,
         choice.as_mut_slice(),

@@ -2,7 +2,7 @@
 ghost use Rattle.std.specs.Prelude.{◌≡◌, ◌≤◌, ◌<◌, IfSome, length};
 
 use crate::loads::wired_sources;
-use crate::placing::settle;
+use crate::placing::place_link;
 use crate::rooms::{Rooms, count};
 use route_model::Link;
 
@@ -45,7 +45,7 @@ fn shift(
             wired,
             fixed,
         };
-        if settle(
+        if place_link(
             &rooms,
             &links[link + 1..],
             rest,

@@ -59,7 +59,7 @@ fn place(
 
 /// Finds an interrupt for the one link that has none, for which others may be moved. Where there is none, `reached`
 /// marks links that offer full interrupts alone, and all links that have one of these.
-pub(crate) fn settle(
+pub(crate) fn place_link(
     rooms: &Rooms<'_>,
     links: &[Link],
     choice: &mut [Option<u32>],

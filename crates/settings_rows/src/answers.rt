@@ -1,10 +1,10 @@
 //! Answers to the questions of a row.
-use crate::accesses::say_accesses;
 use crate::machine::{TracedMachine, initialize, machine_of};
 use crate::row::Row;
 use acpi_configure::configure;
 use ar_space::{Place, Refusal};
 use route_report::{Report, print};
+use row_words::say_accesses;
 use test_rows::Exchange;
 
 /// Adds bytes to the machine text.

@@ -3,7 +3,6 @@
 //! how they are written.
 #![tactic(auto)]
 
-mod accesses;
 mod answers;
 mod machine;
 mod row;

@@ -1,8 +1,9 @@
 //! Questions of resource descriptors: what a link device may be set to, and what it is set to.
 
-use crate::answers::{given, refuse, say_numbers};
+use crate::answers::{given, say_numbers};
 use crate::row::Row;
 use acpi_resources::{Form, InterruptNumbers, Offer, Polarity, current, possible, setting};
+use row_words::refuse;
 use test_rows::Exchange;
 
 /// An interrupt's number.

@@ -1,11 +1,12 @@
 //! Questions of the machine text: how it is written, and what it says.
 
-use crate::answers::{add, count, extend, extend_times, hexadecimal, refuse, say_done};
+use crate::answers::{extend_times, hexadecimal};
 use crate::distinct::Distinct;
 use crate::row::Row;
 use crate::tables::number_of_tables;
 use ar_space::Place;
 use machine_text::{MachineText, OsiTexts, read_machine};
+use row_words::{add, count, extend, refuse, say_done};
 use std::mem;
 use test_rows::Exchange;
 

@@ -8,7 +8,6 @@ mod descriptors;
 mod distinct;
 mod faults;
 mod machine_lines;
-mod places;
 mod questions;
 mod registers;
 mod row;

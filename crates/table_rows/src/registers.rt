@@ -1,25 +1,10 @@
 //! Questions of the register space, of an access's width, and of path texts.
 
-use crate::answers::{hexadecimal, refuse, say_byte, say_done};
+use crate::answers::hexadecimal;
 use crate::faults::path_text;
-use crate::places::{place, say_place, width};
 use ar_space::{Refusal, Space, SpaceFault, Sparse};
+use row_words::{place, put, refuse, say_byte, say_place, width};
 use test_rows::Exchange;
-
-/// `put PLACE: BYTES`: puts bytes from a place on.
-pub fn put(asked: &mut Exchange, space: &mut Sparse) {
-    let mut next = Some(place(asked));
-    let bytes = asked.bytes();
-    for byte in bytes.iter() {
-        match next {
-            Some(at) => {
-                say_done(asked, space.put(at, *byte));
-                next = at.offset_by(1);
-            }
-            None => asked.misunderstand(),
-        }
-    }
-}
 
 /// The byte at a place.
 pub fn byte(asked: &mut Exchange, space: &Sparse) {

@@ -1,7 +1,8 @@
 //! Structures in the memory of a machine: what stands at which address, and the image of it all.
 
-use crate::answers::{add, extend, extend_times, hexadecimal, say_done};
+use crate::answers::{extend_times, hexadecimal};
 use ar_tables::Image;
+use row_words::{add, extend, say_done};
 use test_rows::Exchange;
 
 /// The bytes of a structure, and where it stands.

@@ -1,12 +1,13 @@
 //! Questions of the tables that are found in memory.
 
-use crate::answers::{add, count, given, hexadecimal, number_of, say_byte, say_done};
+use crate::answers::{given, hexadecimal, number_of};
 use crate::distinct::Distinct;
 use crate::row::Row;
 use crate::structures::{Structure, image_of};
 use ar_tables::{
     Image, IntegerWidth, MadtEntry, Ssdts, Table, Tables, find_tables, madt_entries, sci_source,
 };
+use row_words::{add, count, say_byte, say_done};
 use test_rows::Exchange;
 
 /// `image-put ADDRESS: BYTE`: puts a byte into a plain image.

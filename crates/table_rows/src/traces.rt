@@ -1,9 +1,8 @@
 //! Questions of a register space that keeps the list of its accesses.
 
-use crate::answers::count;
-use crate::places::say_place;
-use crate::registers::{byte, load, put, store};
+use crate::registers::{byte, load, store};
 use ar_space::{Place, Space, Sparse, Width};
+use row_words::{count, put, say_place};
 use space_trace::{Access, Traced};
 use std::mem;
 use test_rows::Exchange;

@@ -2,8 +2,9 @@
 
 ghost use Rattle.std.specs.Prelude.{◌≤◌};
 
-use crate::places::{update_rule, width};
+use crate::places::update_rule;
 use aml_fields::{bytes_for, copy_bits, copy_from_unit, get_bits, merge, units};
+use row_words::width;
 use test_rows::Exchange;
 
 /// A number of bits, or of a bit, in decimal digits.

@@ -1,9 +1,10 @@
 //! Every field of up to 70 bits at each of the first 70 bits of a region, against a plain list of bits.
 
-use crate::places::{update_rule, width};
+use crate::places::update_rule;
 use aml_fields::{AddressSpace, Region, read_field, write_field};
 use aml_objects::{FieldSource, FieldUnit, UpdateRule};
 use ar_space::{Place, Refusal, Sparse};
+use row_words::width;
 use std::alloc::Global;
 use test_rows::Exchange;
 

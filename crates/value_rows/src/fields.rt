@@ -1,34 +1,17 @@
 //! Questions of the register space, and of fields of operation regions in it.
 
-use crate::answers::say_done;
-use crate::places::{address_space, place, update_rule, width};
+use crate::places::{address_space, update_rule};
 use crate::row::Row;
 use aml_fields::{Region, read_field, write_field};
 use aml_objects::{FieldSource, FieldUnit};
 use ar_space::Sparse;
+use row_words::{place, say_byte, say_done, width};
 use test_rows::Exchange;
-
-/// `put PLACE: BYTES`: puts bytes from a place on.
-pub fn put(asked: &mut Exchange, space: &mut Sparse) {
-    let mut next = Some(place(asked));
-    let bytes = asked.bytes();
-    for byte in bytes.iter() {
-        match next {
-            Some(at) => {
-                say_done(asked, space.put(at, *byte));
-                next = at.offset_by(1);
-            }
-            None => asked.misunderstand(),
-        }
-    }
-}
 
 /// `byte PLACE`: the byte at a place.
 pub fn byte(asked: &mut Exchange, space: &Sparse) {
-    match space.byte(place(asked)) {
-        Some(byte) => asked.say_bytes(&[byte]),
-        None => asked.say("none"),
-    }
+    let at = place(asked);
+    say_byte(asked, space.byte(at));
 }
 
 /// `region OFFSET LENGTH SPACE`: the operation region that fields lie in.

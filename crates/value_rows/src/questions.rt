@@ -3,6 +3,7 @@
 use crate::row::Row;
 use crate::{bits, conversions, every_field, fields, strings};
 use aml_convert::Comparison;
+use row_words::put;
 use test_rows::Exchange;
 
 /// Questions of values compared and joined, and of operators.
@@ -49,7 +50,7 @@ fn of_bits(asked: &mut Exchange, target: &mut Vec<u8>, word: &str) {
 pub fn answer(row: &mut Row, asked: &mut Exchange) {
     let word = asked.word();
     match word {
-        "put" => fields::put(asked, &mut row.space),
+        "put" => put(asked, &mut row.space),
         "byte" => fields::byte(asked, &row.space),
         "region" => row.region = fields::region(asked),
         "field" => row.field = fields::field(asked),

@@ -1,7 +1,7 @@
 use Rattle.std.proofs.Common.{◌≡◌, length, map, ap, sym, subst, ◌∙◌}
 use Rattle.std.specs.Prelude.{Contains, Ok}
 use Rattle.std.specs.List.{AllZip}
-use Rattle.acpi_links.specs.Gathering.{Gathering}
+use Rattle.acpi_links.specs.Gatherings.{Gathering}
 use Rattle.acpi_configure.specs.Chosen.{IsChosen}
 use Rattle.acpi_configure.specs.Options.{RunOptions}
 use Rattle.acpi_configure.specs.Others.{barred_if}

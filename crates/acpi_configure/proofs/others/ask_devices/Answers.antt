@@ -1,9 +1,10 @@
 use Rattle.std.proofs.Common.{◌++◌, ◌∷◌, [], arith, refl}
 use Rattle.ar_space.proofs.Changes.{does_same, does_seen_err, same_ok}
-use Rattle.acpi_machine.proofs.Stopping.{stops_first, stops_here, stops_in, goes_on}
+use Rattle.acpi_machine.proofs.Stopping.{stops_here, stops_in, goes_on}
 use Rattle.acpi_links.proofs.Folding.{same_turn, same_added, fold_end}
 use Rattle.acpi_configure.specs.Others.{device_asked}
 use Rattle.acpi_configure.specs.Stops.{StopsInDevice}
+use Rattle.acpi_configure.proofs.Asked.{not_asked}
 use Rattle.acpi_configure.proofs.others.ask_devices.Goals as goal
 
 pub loop-device-preserved : goal.loop-device-preserved
@@ -26,8 +27,8 @@ returns-in_err-line-clause-evaluated g c =
 
 pub returns-in_err-push-clause-evaluated : goal.returns-in_err-push-clause-evaluated
 returns-in_err-push-clause-evaluated g c =
-    stops_here (device_asked g.S.Space.accesses) (StopsInDevice g.S.Space.accesses) (λ device u. stops_first refl) _
+    stops_here (device_asked g.S.Space.accesses) (StopsInDevice g.S.Space.accesses) (not_asked g.S.Space.accesses) _
     (goes_on (device_asked g.S.Space.accesses) (StopsInDevice g.S.Space.accesses) c.args.devices.now c.loop-device.device-index _ c.loop-device.invariant.1 (omega arith) c.device-item.is c.in_ok-line.ensures.value)
 
 pub returns-clause-evaluated : goal.returns-clause-evaluated
-returns-clause-evaluated g c = stops_here (device_asked g.S.Space.accesses) (StopsInDevice g.S.Space.accesses) (λ device u. stops_first refl) _ c.loop-device.invariant.1
+returns-clause-evaluated g c = stops_here (device_asked g.S.Space.accesses) (StopsInDevice g.S.Space.accesses) (not_asked g.S.Space.accesses) _ c.loop-device.invariant.1

@@ -7,8 +7,8 @@ pub returns-in_err-answer-clause-evaluated : goal.returns-in_err-answer-clause-e
 returns-in_err-answer-clause-evaluated g c =
     link_made g.S.Space.accesses c.args.path.now _ _ _ _ c.in_ok-device.ensures c.in_ok-hid.ensures c.in_ok-id.ensures c.in_err-answer.ensures.evaluated (ap (map given_of) c.new.ensures.items)
 
-pub returns-in_err-is_link_id-clause-evaluated : goal.returns-in_err-is_link_id-clause-evaluated
-returns-in_err-is_link_id-clause-evaluated g c =
+pub returns-in_err-link_id_or_not-clause-evaluated : goal.returns-in_err-link_id_or_not-clause-evaluated
+returns-in_err-link_id_or_not-clause-evaluated g c =
     link_made g.S.Space.accesses c.args.path.now _ _ _ _ c.in_ok-device.ensures c.in_ok-hid.ensures c.in_ok-id.ensures c.in_ok-answer.ensures.evaluated (ap (map given_of) c.new.ensures.items)
 
 pub returns-clause-evaluated : goal.returns-clause-evaluated

@@ -5,7 +5,7 @@ use Rattle.route_model.proofs.Offers.{offers_length}
 use Rattle.route_solve.specs.Named.{named}
 use Rattle.route_solve.specs.Graphs.{edges}
 use Rattle.route_solve.proofs.Least.{first_least}
-use Rattle.route_solve.proofs.Assigned.{placed_by_number, spread_by_number, least_by_number, sources_below}
+use Rattle.route_solve.proofs.Assigned.{placed_by_number, within_least_by_number, least_by_number, sources_below}
 use Rattle.route_solve.proofs.Represented.{represented}
 use Rattle.route_solve.proofs.assign.assign.Goals as goal
 
@@ -38,7 +38,7 @@ returns-clause-first_least c =
     let placement = named numbers choice in
     (first_least offers p.wired g.limit c.place_all-limit.result placement c.write_out.new.given placement c.place_all-limit.new.buffers.hall.reached.items
     c.requires.floor.reached c.requires.floor.above
-    (spread_by_number offers p.wired numbers (edges g) g.sources.now n.ascending n.numbered n.wired g.limit c.place_all-limit.result choice c.place_all-limit.new.buffers.hall.reached.items c.fix_all.ensures.matching.matching.placed c.place_all-limit.ensures.least.above c.place_all-limit.ensures.least.shown)
+    (within_least_by_number offers p.wired numbers (edges g) g.sources.now n.ascending n.numbered n.wired g.limit c.place_all-limit.result choice c.place_all-limit.new.buffers.hall.reached.items c.fix_all.ensures.matching.matching.placed c.place_all-limit.ensures.least.above c.place_all-limit.ensures.least.shown)
     (c.write_out.ensures ∙ ap (named numbers) c.deref.ensures.value)
     (placed_by_number offers p.wired numbers (edges g) g.sources.now n.ascending n.numbered n.wired c.place_all-limit.result choice c.fix_all.ensures.matching.matching.placed)
     (λ l b. least_by_number offers p.wired numbers (edges g) g.sources.now n.ascending n.numbered n.wired c.place_all-limit.result choice c.fix_all.ensures.matching.matching.placed l (c.fix_all.ensures.least l (let long = offers_length p.links in let e = n.long in omega arith)))).0
@@ -54,7 +54,7 @@ returns-clause-busiest c =
     let placement = named numbers choice in
     (first_least offers p.wired g.limit c.place_all-limit.result placement c.write_out.new.given placement c.place_all-limit.new.buffers.hall.reached.items
     c.requires.floor.reached c.requires.floor.above
-    (spread_by_number offers p.wired numbers (edges g) g.sources.now n.ascending n.numbered n.wired g.limit c.place_all-limit.result choice c.place_all-limit.new.buffers.hall.reached.items c.fix_all.ensures.matching.matching.placed c.place_all-limit.ensures.least.above c.place_all-limit.ensures.least.shown)
+    (within_least_by_number offers p.wired numbers (edges g) g.sources.now n.ascending n.numbered n.wired g.limit c.place_all-limit.result choice c.place_all-limit.new.buffers.hall.reached.items c.fix_all.ensures.matching.matching.placed c.place_all-limit.ensures.least.above c.place_all-limit.ensures.least.shown)
     (c.write_out.ensures ∙ ap (named numbers) c.deref.ensures.value)
     (placed_by_number offers p.wired numbers (edges g) g.sources.now n.ascending n.numbered n.wired c.place_all-limit.result choice c.fix_all.ensures.matching.matching.placed)
     (λ l b. least_by_number offers p.wired numbers (edges g) g.sources.now n.ascending n.numbered n.wired c.place_all-limit.result choice c.fix_all.ensures.matching.matching.placed l (c.fix_all.ensures.least l (let long = offers_length p.links in let e = n.long in omega arith)))).1
@@ -72,5 +72,5 @@ returns-clause-limit c =
       small = let a = c.place_all-limit.ensures.least.small in let b = c.requires.floor.small in omega arith;
       marks = let a = c.place_all-limit.ensures.sized.hall.marks in let b = n.long in omega arith;
       placement = placement;
-      spread = spread_by_number offers p.wired numbers (edges g) g.sources.now n.ascending n.numbered n.wired g.limit c.place_all-limit.result choice c.place_all-limit.new.buffers.hall.reached.items c.fix_all.ensures.matching.matching.placed c.place_all-limit.ensures.least.above c.place_all-limit.ensures.least.shown;
+      within_least = within_least_by_number offers p.wired numbers (edges g) g.sources.now n.ascending n.numbered n.wired g.limit c.place_all-limit.result choice c.place_all-limit.new.buffers.hall.reached.items c.fix_all.ensures.matching.matching.placed c.place_all-limit.ensures.least.above c.place_all-limit.ensures.least.shown;
     }

@@ -3,7 +3,7 @@ use Rattle.std.specs.Global.{Vec}
 use Rattle.std.specs.Prelude.{Contains}
 use Rattle.std.proofs.lemmas.List.Elements.{Contains-get_or}
 use Rattle.route_solve.specs.Graphs.{edges}
-use Rattle.route_solve.proofs.Numbered.{lists_at}
+use Rattle.route_numbers.proofs.Numbered.{lists_at}
 use Rattle.route_solve.proofs.fill.first_offer.Goals as goal
 
 pub bounds-items-0 : goal.bounds-items-0

@@ -6,7 +6,7 @@ use Rattle.std.proofs.lemmas.List.Elements.{Contains-get_or}
 use Rattle.route_solve.specs.First.{IsFirstOpen}
 use Rattle.route_solve.specs.Graphs.{capacity, edges}
 use Rattle.route_solve.specs.Capacities.{at}
-use Rattle.route_solve.proofs.Numbered.{lists_at}
+use Rattle.route_numbers.proofs.Numbered.{lists_at}
 use Rattle.route_solve.proofs.first.first_open.Goals as goal
 
 pub has_room-requires-clause-known : goal.has_room-requires-clause-known

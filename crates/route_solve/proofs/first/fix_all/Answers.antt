@@ -6,8 +6,8 @@ use Rattle.route_solve.proofs.Counts.{counted_next}
 use Rattle.route_solve.proofs.Firsts.{least_kept}
 use Rattle.route_solve.proofs.first.fix_all.Goals as goal
 
-pub raise-requires-clause-known : goal.raise-requires-clause-known
-raise-requires-clause-known c = let b = c.requires.graph.below _ _ (c.fix.ensures.matching.matching.placed.offered _ _ c.held.ensures) in let a = c.loop-link.invariant.kept.long in omega arith
+pub count_one-requires-clause-known : goal.count_one-requires-clause-known
+count_one-requires-clause-known c = let b = c.requires.graph.below _ _ (c.fix.ensures.matching.matching.placed.offered _ _ c.held.ensures) in let a = c.loop-link.invariant.kept.long in omega arith
 
 pub loop-link-preserved : goal.loop-link-preserved
 loop-link-preserved c =
@@ -22,8 +22,8 @@ loop-link-preserved c =
       matching = c.fix.ensures.matching;
       sized = c.fix.ensures.sized;
       kept = record {
-        long = rw c.raise.ensures (length-set kept x (at kept x + 1) ∙ inv.kept.long);
-        counted = rw c.raise.ensures (counted_next kept q link x bound known c.held.ensures (subst (IsCounted kept) (sym c.fix.ensures.kept) inv.kept.counted));
+        long = rw c.count_one.ensures (length-set kept x (at kept x + 1) ∙ inv.kept.long);
+        counted = rw c.count_one.ensures (counted_next kept q link x bound known c.held.ensures (subst (IsCounted kept) (sym c.fix.ensures.kept) inv.kept.counted));
       };
       least = below_more (IsLeastAt (edges c.args.graph.now) (capacity c.args.graph.now) q) link
           (λ k b. least_kept (edges c.args.graph.now) (capacity c.args.graph.now) c.loop-link.matching.choice.items q link k b c.fix.ensures.kept (inv.least k b))

@@ -10,20 +10,20 @@ free-requires-clause-known c =
     let e = c.requires.matching.matching.interrupts in
     omega arith
 
-pub settle-requires-clause-matching : goal.settle-requires-clause-matching
-settle-requires-clause-matching c =
+pub place_ready-requires-clause-matching : goal.place_ready-requires-clause-matching
+place_ready-requires-clause-matching c =
     let g = c.args.graph.now in
     let old = c.requires.matching.matching in
     matched g.offers.now g.sources.now g.limit c.free.new.self (let a = c.free.ensures.same in let b = old.interrupts in omega arith) c.free.ensures.counted (rw c.free.ensures.freed (freed_placed (edges g) (capacity g) c.args.matching.now.choice.items c.args.link c.requires.link old.placed))
 
 pub returns-clause-matching : goal.returns-clause-matching
 returns-clause-matching c = record {
-  matching = c.settle.ensures.matching;
-  whole = fixed_whole (edges c.args.graph.now) (capacity c.args.graph.now) c.args.matching.now.choice.items c.args.link c.held-x.result c.requires.link c.requires.matching.matching.placed c.requires.matching.whole c.held-x.ensures c.settle.new.search.visited.items (λ k n o. let b = c.requires.graph.below k n o in let e = c.settle.ensures.sized.marks in omega arith) (rw (sym c.free.ensures.freed) c.settle.ensures.ready) c.settle.new.matching.choice.items (let a = c.settle.ensures.matching.links in let b = c.requires.matching.matching.links in omega arith) c.settle.result c.settle.ensures.first (rw (sym c.free.ensures.freed) c.settle.ensures.settled);
+  matching = c.place_ready.ensures.matching;
+  whole = fixed_whole (edges c.args.graph.now) (capacity c.args.graph.now) c.args.matching.now.choice.items c.args.link c.held-x.result c.requires.link c.requires.matching.matching.placed c.requires.matching.whole c.held-x.ensures c.place_ready.new.search.visited.items (λ k n o. let b = c.requires.graph.below k n o in let e = c.place_ready.ensures.sized.marks in omega arith) (rw (sym c.free.ensures.freed) c.place_ready.ensures.ready) c.place_ready.new.matching.choice.items (let a = c.place_ready.ensures.matching.links in let b = c.requires.matching.matching.links in omega arith) c.place_ready.result c.place_ready.ensures.first (rw (sym c.free.ensures.freed) c.place_ready.ensures.augmented);
 }
 
 pub returns-clause-kept : goal.returns-clause-kept
-returns-clause-kept c = fixed_front (edges c.args.graph.now) (capacity c.args.graph.now) c.args.matching.now.choice.items c.args.link c.held-x.result c.requires.link c.requires.matching.matching.placed c.requires.matching.whole c.held-x.ensures c.settle.new.search.visited.items (λ k n o. let b = c.requires.graph.below k n o in let e = c.settle.ensures.sized.marks in omega arith) (rw (sym c.free.ensures.freed) c.settle.ensures.ready) c.settle.new.matching.choice.items (let a = c.settle.ensures.matching.links in let b = c.requires.matching.matching.links in omega arith) c.settle.result c.settle.ensures.first (rw (sym c.free.ensures.freed) c.settle.ensures.settled)
+returns-clause-kept c = fixed_front (edges c.args.graph.now) (capacity c.args.graph.now) c.args.matching.now.choice.items c.args.link c.held-x.result c.requires.link c.requires.matching.matching.placed c.requires.matching.whole c.held-x.ensures c.place_ready.new.search.visited.items (λ k n o. let b = c.requires.graph.below k n o in let e = c.place_ready.ensures.sized.marks in omega arith) (rw (sym c.free.ensures.freed) c.place_ready.ensures.ready) c.place_ready.new.matching.choice.items (let a = c.place_ready.ensures.matching.links in let b = c.requires.matching.matching.links in omega arith) c.place_ready.result c.place_ready.ensures.first (rw (sym c.free.ensures.freed) c.place_ready.ensures.augmented)
 
 pub returns-clause-least : goal.returns-clause-least
-returns-clause-least c = fixed_least (edges c.args.graph.now) (capacity c.args.graph.now) c.args.matching.now.choice.items c.args.link c.held-x.result c.requires.link c.requires.matching.matching.placed c.requires.matching.whole c.held-x.ensures c.settle.new.search.visited.items (λ k n o. let b = c.requires.graph.below k n o in let e = c.settle.ensures.sized.marks in omega arith) (rw (sym c.free.ensures.freed) c.settle.ensures.ready) c.settle.new.matching.choice.items (let a = c.settle.ensures.matching.links in let b = c.requires.matching.matching.links in omega arith) c.settle.result c.settle.ensures.first (rw (sym c.free.ensures.freed) c.settle.ensures.settled) (c.requires.graph.ascending c.args.link (let b = c.requires.link in let e = c.requires.matching.matching.links in omega arith)) (rw (sym c.free.ensures.freed) c.settle.ensures.given)
+returns-clause-least c = fixed_least (edges c.args.graph.now) (capacity c.args.graph.now) c.args.matching.now.choice.items c.args.link c.held-x.result c.requires.link c.requires.matching.matching.placed c.requires.matching.whole c.held-x.ensures c.place_ready.new.search.visited.items (λ k n o. let b = c.requires.graph.below k n o in let e = c.place_ready.ensures.sized.marks in omega arith) (rw (sym c.free.ensures.freed) c.place_ready.ensures.ready) c.place_ready.new.matching.choice.items (let a = c.place_ready.ensures.matching.links in let b = c.requires.matching.matching.links in omega arith) c.place_ready.result c.place_ready.ensures.first (rw (sym c.free.ensures.freed) c.place_ready.ensures.augmented) (c.requires.graph.ascending c.args.link (let b = c.requires.link in let e = c.requires.matching.matching.links in omega arith)) (rw (sym c.free.ensures.freed) c.place_ready.ensures.given)

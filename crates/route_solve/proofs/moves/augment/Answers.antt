@@ -4,7 +4,7 @@ use Rattle.route_model.specs.Placement.{taken}
 use Rattle.route_solve.specs.Graphs.{capacity, edges}
 use Rattle.route_solve.specs.Capacities.{at}
 use Rattle.route_solve.specs.Ready.{way_at, ready_at}
-use Rattle.route_solve.proofs.Handing.{handed_none, passing, held_still, handed_on, last_placed, last_given, last_settled}
+use Rattle.route_solve.proofs.Handing.{handed_none, passing, held_still, handed_on, last_placed, last_given, last_augmented}
 use Rattle.route_solve.proofs.Matched.{matched}
 use Rattle.route_solve.proofs.Parts.{placed_within}
 use Rattle.route_solve.proofs.moves.augment.Goals as goal
@@ -100,8 +100,8 @@ returns-clause-matching c =
     omega arith in
     matched c.args.graph.now.offers.now c.args.graph.now.sources.now c.args.graph.now.limit c.give-2.new.self (c.give-2.ensures.same ∙ c.loop-pos.invariant.interrupts) c.give-2.ensures.counted (rw c.give-2.ensures.given (last_placed (edges c.args.graph.now) (capacity c.args.graph.now) c.args.graph.now.low c.args.matching.now.choice.items c.args.ways.now (length c.args.ways.now) c.args.link c.args.start c.requires.link.unplaced c.requires.ways c.loop-pos.matching.choice.items c.loop-pos.to_place c.loop-pos.pos c.loop-pos.invariant.handed free))
 
-pub returns-clause-settled : goal.returns-clause-settled
-returns-clause-settled c =
+pub returns-clause-augmented : goal.returns-clause-augmented
+returns-clause-augmented c =
     let x = ready_at c.args.ways.now c.loop-pos.pos in
     let free : taken c.loop-pos.matching.choice.items x < capacity c.args.graph.now x =
     let yes = OnTrue_at c.loop-pos-test.false c.has_room.ensures.yes in
@@ -110,7 +110,7 @@ returns-clause-settled c =
     let e = c.loop-pos.invariant.interrupts in
     let f = c.loop-pos.invariant.counted x (omega arith) in
     omega arith in
-    rw c.give-2.ensures.given (last_settled (edges c.args.graph.now) (capacity c.args.graph.now) c.args.graph.now.low c.args.matching.now.choice.items c.args.ways.now (length c.args.ways.now) c.args.link c.args.start c.requires.link.unplaced c.requires.ways c.loop-pos.matching.choice.items c.loop-pos.to_place c.loop-pos.pos c.loop-pos.invariant.handed free)
+    rw c.give-2.ensures.given (last_augmented (edges c.args.graph.now) (capacity c.args.graph.now) c.args.graph.now.low c.args.matching.now.choice.items c.args.ways.now (length c.args.ways.now) c.args.link c.args.start c.requires.link.unplaced c.requires.ways c.loop-pos.matching.choice.items c.loop-pos.to_place c.loop-pos.pos c.loop-pos.invariant.handed free)
 
 pub returns-clause-given : goal.returns-clause-given
 returns-clause-given c =

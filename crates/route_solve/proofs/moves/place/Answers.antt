@@ -6,7 +6,7 @@ use Rattle.route_solve.specs.Graphs.{capacity, edges}
 use Rattle.route_solve.specs.Capacities.{at}
 use Rattle.route_solve.proofs.Exchange.{moved_directly}
 use Rattle.route_solve.proofs.Matched.{matched}
-use Rattle.route_solve.proofs.Numbered.{lists_at}
+use Rattle.route_numbers.proofs.Numbered.{lists_at}
 use Rattle.route_solve.proofs.moves.place.Goals as goal
 
 pub first_free-requires-clause-known : goal.first_free-requires-clause-known

@@ -3,11 +3,10 @@ use Rattle.std.specs.Prelude.{◌⊎◌, Contains}
 use Rattle.std.proofs.lemmas.Bool.{cases_eq}
 use Rattle.std.proofs.lemmas.Nat.Bits.{bit_at-zero}
 use Rattle.route_model.specs.Placement.{Offers}
-use Rattle.route_solve.specs.Numbers.{lists_of}
+use Rattle.route_numbers.specs.Numbers.{lists_of}
 use Rattle.route_solve.specs.Rows.{bit_of}
-use Rattle.route_solve.proofs.Numbered.{lists_at}
-use Rattle.route_solve.proofs.Filtered.{offers_within}
-use Rattle.route_solve.proofs.Numbered.{lists_length}
+use Rattle.route_numbers.proofs.Numbered.{lists_at, offers_within}
+use Rattle.route_numbers.proofs.Numbered.{lists_length}
 use Rattle.std.specs.Int.{bit_at}
 use Rattle.route_solve.proofs.rows.add_links.Goals as goal
 

@@ -1,6 +1,6 @@
 use Rattle.std.proofs.Common.{◌≡◌, ◌<◌, ℕ}
 use Rattle.route_model.specs.Placement.{Offers}
-use Rattle.route_solve.specs.Numbers.{lists_of}
+use Rattle.route_numbers.specs.Numbers.{lists_of}
 use Rattle.route_solve.specs.Rows.{bit_of}
 use Rattle.route_solve.proofs.rows.add_links.Given as goal
 

@@ -31,7 +31,7 @@ pub returns-then-limit-floor-clause-bound : goal.returns-then-limit-floor-clause
 returns-then-limit-floor-clause-bound c = inr (rw (c.clear-then-limit-floor.ensures.items, c.truncate.ensures.items, busy c) (wired_case c).1)
 
 crowded_case : (c : goal.After-keep_offered) → Shown (offers_of c.args.offered.now.problem.now.links) c.args.offered.now.problem.now.wired c.args.limit (filter (is_reached c.args.reached.now) (range_with_len 0 (length (offers_of c.args.offered.now.problem.now.links)))) (filter (is_offered_by (offers_of c.args.offered.now.problem.now.links) c.args.reached.now) c.args.interrupts.now.items) × IsLowerBound (offers_of c.args.offered.now.problem.now.links) c.args.offered.now.problem.now.wired c.args.limit (filter (is_reached c.args.reached.now) (range_with_len 0 (length (offers_of c.args.offered.now.problem.now.links)))) (filter (is_offered_by (offers_of c.args.offered.now.problem.now.links) c.args.reached.now) c.args.interrupts.now.items)
-crowded_case c = go c.requires.limit.spread.shown
+crowded_case c = go c.requires.limit.within_least.shown
   where
     offers : List (List ℕ)
     offers = offers_of c.args.offered.now.problem.now.links

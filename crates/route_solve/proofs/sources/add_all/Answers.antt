@@ -6,9 +6,9 @@ use Rattle.std.proofs.lemmas.List.Elements.{Contains-get_or}
 use Rattle.std.proofs.lemmas.List.Sums.{sum_by_more, sum_by_more_le_part}
 use Rattle.std.specs.List.Sorted.{IsStrictlyIncreasing}
 use Rattle.route_model.specs.Routing.{wired_to}
-use Rattle.route_solve.specs.Numbers.{number_at}
+use Rattle.route_numbers.specs.Numbers.{number_at}
 use Rattle.route_solve.specs.Capacities.{at}
-use Rattle.route_solve.proofs.Numbered.{one_place}
+use Rattle.route_numbers.proofs.Numbered.{one_place}
 use Rattle.route_solve.proofs.sources.add_all.Goals as goal
 use Rattle.route_solve.proofs.sources.add_all.Goals.{in-Some, in-None}
 

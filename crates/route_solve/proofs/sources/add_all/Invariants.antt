@@ -1,6 +1,6 @@
 use Rattle.std.proofs.Common.{◌≡◌, ◌<◌, ℕ, length, take}
 use Rattle.route_model.specs.Routing.{wired_to}
-use Rattle.route_solve.specs.Numbers.{number_at}
+use Rattle.route_numbers.specs.Numbers.{number_at}
 use Rattle.route_solve.specs.Capacities.{at}
 use Rattle.route_solve.proofs.sources.add_all.Given as goal
 

@@ -2,7 +2,7 @@ use Rattle.std.proofs.Common.{ℕ, ap}
 use Rattle.std.specs.Global.{Vec}
 use Rattle.std.proofs.lemmas.Bool.{OnTrue_at, OnFalse_at}
 use Rattle.route_model.specs.Links.{offers_of}
-use Rattle.route_spread.specs.Numbers.{lists_of}
+use Rattle.route_numbers.specs.Numbers.{lists_of}
 use Rattle.route_spread.proofs.Shared.{none_moved}
 use Rattle.route_spread.proofs.sharing.is_least_shared.Goals as goal
 

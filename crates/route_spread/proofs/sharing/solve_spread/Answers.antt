@@ -3,7 +3,7 @@ use Rattle.std.specs.Global.{Vec}
 use Rattle.std.proofs.lemmas.Result.{IfOk-weaker}
 use Rattle.route_model.specs.Links.{offers_of}
 use Rattle.route_spread.specs.Marks.{at}
-use Rattle.route_spread.specs.Numbers.{lists_of, number_at}
+use Rattle.route_numbers.specs.Numbers.{lists_of, number_at}
 use Rattle.route_spread.specs.Sharing.{IsLeastShared}
 use Rattle.route_spread.proofs.Shared.{levelled_named, least_stays}
 use Rattle.route_spread.proofs.sharing.solve_spread.Goals as goal

@@ -6,9 +6,9 @@ use Rattle.std.proofs.lemmas.List.Elements.{Contains-get_or}
 use Rattle.std.proofs.lemmas.List.Sums.{sum_by_more}
 use Rattle.std.specs.List.Sorted.{IsStrictlyIncreasing}
 use Rattle.route_model.specs.Routing.{wired_to}
-use Rattle.route_spread.specs.Numbers.{number_at}
+use Rattle.route_numbers.specs.Numbers.{number_at}
 use Rattle.route_spread.specs.Marks.{at}
-use Rattle.route_spread.proofs.Numbered.{one_place}
+use Rattle.route_numbers.proofs.Numbered.{one_place}
 use Rattle.route_spread.proofs.sources.add_wired.Goals as goal
 use Rattle.route_spread.proofs.sources.add_wired.Goals.{in-Some, in-None}
 

@@ -1,6 +1,6 @@
 use Rattle.std.proofs.Common.{◌≡◌, ◌≤◌, ◌<◌, ◌*◌, ◌^◌, ℕ, length, take}
 use Rattle.route_model.specs.Routing.{wired_to}
-use Rattle.route_spread.specs.Numbers.{number_at}
+use Rattle.route_numbers.specs.Numbers.{number_at}
 use Rattle.route_spread.specs.Marks.{at}
 use Rattle.route_spread.proofs.sources.add_wired.Given as goal
 

@@ -10,7 +10,7 @@ use Rattle.route_solve.proofs.search.Search.run.Goals as goal
 pub loop-pos-preserved : goal.loop-pos-preserved
 loop-pos-preserved c =
     let inv = c.loop-pos.invariant in
-    let e = c.spread.ensures in
+    let e = c.visit_from.ensures in
     let t = c.loop-pos-test.true in
     let longer = e.further.longer in
     record {
@@ -20,15 +20,15 @@ loop-pos-preserved c =
       walked = λ k m x b low o h. walked k m x b low o h (cases_lt k c.loop-pos.pos);
     }
   where
-    walked : (k m x : ℕ) → k < c.loop-pos.pos + 1 → c.args.graph.now.low ≤ m → Offers (edges c.args.graph.now) m (ready_at c.spread.new.self.ways.items k) → place_of c.args.matching.now.choice.items m ≡ Some x → (k < c.loop-pos.pos) ⊎ (c.loop-pos.pos ≤ k) → is_reached c.spread.new.self.visited.items x ≡ true
+    walked : (k m x : ℕ) → k < c.loop-pos.pos + 1 → c.args.graph.now.low ≤ m → Offers (edges c.args.graph.now) m (ready_at c.visit_from.new.self.ways.items k) → place_of c.args.matching.now.choice.items m ≡ Some x → (k < c.loop-pos.pos) ⊎ (c.loop-pos.pos ≤ k) → is_reached c.visit_from.new.self.visited.items x ≡ true
     walked k m x b low o h (inl before) =
         let t = c.loop-pos-test.true in
-        c.spread.ensures.further.kept x (c.loop-pos.invariant.walked k m x before low (subst (Offers (edges c.args.graph.now) m) (ap (λ (v : Way). v.interrupt) (c.spread.ensures.further.same k (omega arith))) o) h)
+        c.visit_from.ensures.further.kept x (c.loop-pos.invariant.walked k m x before low (subst (Offers (edges c.args.graph.now) m) (ap (λ (v : Way). v.interrupt) (c.visit_from.ensures.further.same k (omega arith))) o) h)
     walked k m x b low o h (inr past) =
         let here : k ≡ c.loop-pos.pos = omega arith in
         let t = c.loop-pos-test.true in
-        let o' = subst (λ i. Offers (edges c.args.graph.now) m (ready_at c.spread.new.self.ways.items i)) here o in
-        c.spread.ensures.visited m x low (subst (Offers (edges c.args.graph.now) m) (ap (λ (v : Way). v.interrupt) (c.spread.ensures.further.same c.loop-pos.pos t)) o') h
+        let o' = subst (λ i. Offers (edges c.args.graph.now) m (ready_at c.visit_from.new.self.ways.items i)) here o in
+        c.visit_from.ensures.visited m x low (subst (Offers (edges c.args.graph.now) m) (ap (λ (v : Way). v.interrupt) (c.visit_from.ensures.further.same c.loop-pos.pos t)) o') h
 
 pub returns-then-not-has_left-clause-ready : goal.returns-then-not-has_left-clause-ready
 returns-then-not-has_left-clause-ready c =

@@ -4,12 +4,11 @@ use Rattle.std.proofs.lemmas.List.{length-map}
 use Rattle.route_model.specs.Links.{OfferingLink, offers_of}
 use Rattle.route_model.specs.Placement.{Offers}
 use Rattle.route_model.proofs.Offers.{offers_length}
-use Rattle.route_solve.specs.Named.{AreSources}
 use Rattle.route_model.specs.Routing.{wired_to}
-use Rattle.route_solve.specs.Marks.{has, HasAll}
-use Rattle.route_solve.specs.Numbers.{lists_of, number_at, HasOffered, IsNumbered}
+use Rattle.route_solve.specs.Marks.{HasAll}
+use Rattle.route_numbers.specs.Numbers.{has, lists_of, number_at, AreSources, HasOffered, IsNumbered}
 use Rattle.route_solve.specs.Rows.{AreRows}
-use Rattle.route_solve.proofs.Numbered.{lists_length}
+use Rattle.route_numbers.proofs.Numbered.{lists_length}
 use Rattle.route_solve.proofs.RowsOf.{has_rows}
 use Rattle.route_solve.proofs.solver.Solver.new.Goals as goal
 

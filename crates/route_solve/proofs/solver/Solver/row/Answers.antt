@@ -3,7 +3,7 @@ use Rattle.std.proofs.lemmas.List.{get_or_default}
 use Rattle.route_model.specs.Links.{offers_of}
 use Rattle.route_model.proofs.Offers.{offers_length}
 use Rattle.route_model.proofs.Filtered.{any_contains, contains_any}
-use Rattle.route_solve.specs.Numbers.{number_at}
+use Rattle.route_numbers.specs.Numbers.{number_at}
 use Rattle.std.specs.Prelude.{Contains}
 use Rattle.route_solve.proofs.RowsOf.{row_is}
 use Rattle.route_solve.proofs.solver.Solver.row.Goals as goal

@@ -1,7 +1,7 @@
 use Rattle.std.proofs.Common.{◌≡◌, ◌<◌, ◌-◌, ◌∙◌, ℕ, true, false, length, arith, ap, sym, set, get_or-set_other}
 use Rattle.std.specs.Global.{Vec}
 use Rattle.std.proofs.lemmas.List.{length-set}
-use Rattle.route_spread.specs.Numbers.{lists_of}
+use Rattle.route_numbers.specs.Numbers.{lists_of}
 use Rattle.route_spread.specs.Marks.{at, is_raised}
 use Rattle.route_spread.proofs.Found.{found_at, raised_at}
 use Rattle.route_spread.proofs.Moves.{moving_step, nearer, shifted_end, target_low}

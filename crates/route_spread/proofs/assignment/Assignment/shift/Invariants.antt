@@ -1,5 +1,5 @@
 use Rattle.std.proofs.Common.{◌≡◌, length}
-use Rattle.route_spread.specs.Numbers.{lists_of}
+use Rattle.route_numbers.specs.Numbers.{lists_of}
 use Rattle.route_spread.specs.Marks.{at, IsMoving}
 use Rattle.route_spread.proofs.assignment.Assignment.shift.Given as goal
 

@@ -1,5 +1,5 @@
 use Rattle.std.proofs.Common.{arith}
-use Rattle.route_spread.specs.Numbers.{lists_of}
+use Rattle.route_numbers.specs.Numbers.{lists_of}
 use Rattle.route_spread.specs.Marks.{at}
 use Rattle.route_spread.proofs.Turns.{levelled_all, marked_none}
 use Rattle.route_spread.proofs.marking.Marks.mark.Goals as goal

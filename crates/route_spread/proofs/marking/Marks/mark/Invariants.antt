@@ -1,5 +1,5 @@
 use Rattle.std.proofs.Common.{length}
-use Rattle.route_spread.specs.Markings.{HasRoomFor, HaveMarked}
+use Rattle.route_spread.specs.InMemory.{HasRoomFor, HaveMarked}
 use Rattle.route_spread.proofs.marking.Marks.mark.Given as goal
 
 abbrev pub invariant-loop-i : goal.invariant-loop-i

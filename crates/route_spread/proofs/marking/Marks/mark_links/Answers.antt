@@ -1,10 +1,10 @@
 use Rattle.std.proofs.Common.{◌≡◌, ◌≢◌, ◌≤◌, ◌<◌, ◌∙◌, ℕ, List, [], length, arith, ap, sym, subst, get_or}
 use Rattle.std.specs.Prelude.{Contains}
 use Rattle.route_model.specs.Placement.{Offers}
-use Rattle.route_spread.specs.Numbers.{lists_of}
+use Rattle.route_numbers.specs.Numbers.{lists_of}
 use Rattle.route_spread.specs.Marks.{at, height_at, AreRaised, IsArranged}
 use Rattle.route_spread.proofs.Found.{found_at}
-use Rattle.route_spread.proofs.Numbered.{lists_at, lists_length}
+use Rattle.route_numbers.proofs.Numbered.{lists_at, lists_length}
 use Rattle.route_spread.proofs.Arranged.{one_rank}
 use Rattle.route_spread.proofs.Turns.{marked_begins, marked_more, marked_past, between_past, chained_more, way_there, here_still, top_still}
 use Rattle.route_spread.proofs.marking.Marks.mark_links.Goals as goal
@@ -50,8 +50,8 @@ loop-link-init c =
     }
 
 -- what the link of this turn offers
-pub lift_all-requires-clause-known : goal.lift_all-requires-clause-known
-lift_all-requires-clause-known c x h =
+pub raise_all-requires-clause-known : goal.raise_all-requires-clause-known
+raise_all-requires-clause-known c x h =
     let a = c.args.assignment.now in
     let places = lists_of a.offers.items in
     let l = c.loop-link.link in
@@ -70,7 +70,7 @@ returns-in-Some-clause-found c =
     let choice = a.choice.items in
     let loads = a.loads.items in
     let old = c.loop-link.self in
-    let new = c.lift_all.new.self in
+    let new = c.raise_all.new.self in
     let inv = c.loop-link.invariant in
     let l = c.loop-link.link in
     let top = c.height-top.result in
@@ -82,13 +82,13 @@ returns-in-Some-clause-found c =
     let links = assigned.links in
     let offers = lists_length a.offers.items in
     let eo : get_or places l [] ≡ c.deref-offers.result.now = lists_at a.offers.items l c.index.result.now (omega arith) c.index.ensures ∙ sym c.deref-offers.ensures.value in
-    let raised : AreRaised loads old.raised.items new.raised.items old.from.items new.from.items l top (λ x. Contains (get_or places l []) x) = rw eo (rw el at c.lift_all.ensures.only) in
-    let later = c.lift_all.ensures.later in
-    let arranged : IsArranged loads new.raised.items new.order.interrupts.items new.order.ranks.items new.order.high top = rw el at c.lift_all.ensures.arranged in
+    let raised : AreRaised loads old.raised.items new.raised.items old.from.items new.from.items l top (λ x. Contains (get_or places l []) x) = rw eo (rw el at c.raise_all.ensures.only) in
+    let later = c.raise_all.ensures.later in
+    let arranged : IsArranged loads new.raised.items new.order.interrupts.items new.order.ranks.items new.order.high top = rw el at c.raise_all.ensures.arranged in
     let order = inv.room.order in
     let long = inv.room.listed.long in
-    let order' = c.lift_all.ensures.room.order in
-    let long' = c.lift_all.ensures.room.listed.long in
+    let order' = c.raise_all.ensures.room.order in
+    let long' = c.raise_all.ensures.room.listed.long in
     let mine : at choice l ≡ c.index-interrupt.result.now = inv.mine bl in
     let here : at old.order.ranks.items (at choice l) ≡ c.args.i = ap (at old.order.ranks.items) mine ∙ inv.here in
     let high : height_at loads old.raised.items (at choice l) ≡ top = ap (height_at loads old.raised.items) mine ∙ inv.high in
@@ -115,7 +115,7 @@ loop-link-preserved c =
     let choice = a.choice.items in
     let loads = a.loads.items in
     let old = c.loop-link.self in
-    let new = c.lift_all.new.self in
+    let new = c.raise_all.new.self in
     let inv = c.loop-link.invariant in
     let l = c.loop-link.link in
     let top = c.height-top.result in
@@ -127,13 +127,13 @@ loop-link-preserved c =
     let links = assigned.links in
     let offers = lists_length a.offers.items in
     let eo : get_or places l [] ≡ c.deref-offers.result.now = lists_at a.offers.items l c.index.result.now (omega arith) c.index.ensures ∙ sym c.deref-offers.ensures.value in
-    let raised : AreRaised loads old.raised.items new.raised.items old.from.items new.from.items l top (λ x. Contains (get_or places l []) x) = rw eo (rw el at c.lift_all.ensures.only) in
-    let later = c.lift_all.ensures.later in
-    let arranged : IsArranged loads new.raised.items new.order.interrupts.items new.order.ranks.items new.order.high top = rw el at c.lift_all.ensures.arranged in
+    let raised : AreRaised loads old.raised.items new.raised.items old.from.items new.from.items l top (λ x. Contains (get_or places l []) x) = rw eo (rw el at c.raise_all.ensures.only) in
+    let later = c.raise_all.ensures.later in
+    let arranged : IsArranged loads new.raised.items new.order.interrupts.items new.order.ranks.items new.order.high top = rw el at c.raise_all.ensures.arranged in
     let order = inv.room.order in
     let long = inv.room.listed.long in
-    let order' = c.lift_all.ensures.room.order in
-    let long' = c.lift_all.ensures.room.listed.long in
+    let order' = c.raise_all.ensures.room.order in
+    let long' = c.raise_all.ensures.room.listed.long in
     let mine : at choice l ≡ c.index-interrupt.result.now = inv.mine bl in
     let here : at old.order.ranks.items (at choice l) ≡ c.args.i = ap (at old.order.ranks.items) mine ∙ inv.here in
     let high : height_at loads old.raised.items (at choice l) ≡ top = ap (height_at loads old.raised.items) mine ∙ inv.high in
@@ -149,7 +149,7 @@ loop-link-preserved c =
     let more = later.more in
     let passed = inv.passed in
     record {
-      room = rw el at c.lift_all.ensures.room;
+      room = rw el at c.raise_all.ensures.room;
       arranged = arranged;
       passed = omega arith;
       marked = marked_more places choice loads old.raised.items new.raised.items old.from.items new.from.items old.order.interrupts.items new.order.interrupts.items old.order.ranks.items new.order.ranks.items old.order.high new.order.high top c.args.i l known below (omega arith) inv.arranged arranged later inv.passed inv.marked bl here high raised done next (omega arith) none (one_rank old.order.interrupts.items old.order.ranks.items inv.room.listed);

@@ -1,7 +1,7 @@
 use Rattle.std.proofs.Common.{◌≡◌, ◌<◌, ◌-◌, length}
-use Rattle.route_spread.specs.Numbers.{lists_of}
+use Rattle.route_numbers.specs.Numbers.{lists_of}
 use Rattle.route_spread.specs.Marks.{at, height_at, IsMarked}
-use Rattle.route_spread.specs.Markings.{AreArrangedAt, HasRoomFor}
+use Rattle.route_spread.specs.InMemory.{AreArrangedAt, HasRoomFor}
 use Rattle.route_spread.proofs.marking.Marks.mark_links.Given as goal
 
 abbrev pub invariant-loop-link : goal.invariant-loop-link

@@ -1,11 +1,11 @@
 use Rattle.std.proofs.Common.{◌≡◌, ◌^◌, ℕ, length, arith, ap}
 use Rattle.std.specs.Global.{Vec}
-use Rattle.route_spread.specs.Numbers.{lists_of}
+use Rattle.route_numbers.specs.Numbers.{lists_of}
 use Rattle.route_spread.specs.Marks.{at}
 use Rattle.route_spread.proofs.sharing.Sharing.improve.Goals as goal
 
-pub gather-requires-clause-known : goal.gather-requires-clause-known
-gather-requires-clause-known c =
+pub note-requires-clause-known : goal.note-requires-clause-known
+note-requires-clause-known c =
     let assigned = c.requires.marked.assigned in
     rw c.deref.ensures.value (λ k b. let p = assigned.below k (at c.args.self.now.assignment.choice.items k) (assigned.placed k b) in let f = c.requires.marked.first in omega arith)
 
@@ -21,8 +21,8 @@ returns-in-Some-clause-can c =
     let holders = c.shift.ensures.same.1 in
     let first = ap (λ h. length h.first.items) holders in
     let next = ap (λ h. length h.next.items) holders in
-    let gf = c.gather.ensures.first in
-    let gn = c.gather.ensures.next in
+    let gf = c.note.ensures.first in
+    let gn = c.note.ensures.next in
     let rf = c.requires.marked.first in
     let rn = c.requires.marked.next in
     let room = c.in-Some.ensures.room in

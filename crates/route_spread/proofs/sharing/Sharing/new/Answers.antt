@@ -5,19 +5,20 @@ use Rattle.std.proofs.lemmas.List.Elements.{Contains-get_or}
 use Rattle.route_model.specs.Links.{offers_of}
 use Rattle.route_model.specs.Placement.{Offers}
 use Rattle.route_model.proofs.Assignments.{length_assignment, assignment_at}
+use Rattle.route_model.proofs.Filtered.{any_contains}
 use Rattle.route_spread.specs.Marks.{at}
-use Rattle.route_spread.specs.Numbers.{lists_of, number_at, IsNumbered}
+use Rattle.route_numbers.specs.Numbers.{lists_of, number_at, HasOffered, IsNumbered}
 use Rattle.route_spread.proofs.Shared.{placed_all}
 use Rattle.route_spread.proofs.sharing.Sharing.new.Goals as goal
 
 pub all_places_offered-requires-clause-all : goal.all_places_offered-requires-clause-all
-all_places_offered-requires-clause-all c l n o = subst (λ (xs : List ℕ). Contains xs n) (sym c.deref.ensures.value) (c.in_ok-numbers.ensures.all l n o)
+all_places_offered-requires-clause-all c = subst (λ (xs : List ℕ). HasOffered (offers_of c.args.links.now) xs) (sym c.deref.ensures.value) c.in_ok-numbers.ensures.all
 
-pub all_places-requires-clause-all : goal.all_places-requires-clause-all
-all_places-requires-clause-all c n h =
+pub all_places_chosen-requires-clause-all : goal.all_places_chosen-requires-clause-all
+all_places_chosen-requires-clause-all c n h =
     let o = assignment_at (offers_of c.args.links.now) c.args.choice.now h.0 c.requires h.1 in
     let is = get_or_default c.args.choice.now h.0 0 n h.1 ∙ h.2 in
-    subst (λ (xs : List ℕ). Contains xs n) (sym c.deref-2.ensures.value) (c.in_ok-numbers.ensures.all h.0 n (subst (λ (m : ℕ). Offers (offers_of c.args.links.now) h.0 m) is o))
+    subst (λ (xs : List ℕ). Contains xs n) (sym c.deref-2.ensures.value) (any_contains n c.in_ok-numbers.numbers.items (c.in_ok-numbers.ensures.all.all h.0 n (subst (λ (m : ℕ). Offers (offers_of c.args.links.now) h.0 m) is o)))
 
 pub all_loads-requires-clause-known : goal.all_loads-requires-clause-known
 all_loads-requires-clause-known c = rw (c.deref-4.ensures.value, c.deref-3.ensures.value) (λ k b. let w = c.in_ok-choice.ensures.below (at c.in_ok-choice.choice.items k) (Contains-get_or c.in_ok-choice.choice.items k 0 b) in let e = ap length c.deref-2.ensures.value in omega arith)

@@ -1,6 +1,0 @@
-use Rattle.std.proofs.Common.{◌≡◌, drop}
-use Rattle.recorded_route.specs.Pins.{level_of}
-use Rattle.recorded_route.proofs.pins.level_of.Given as goal
-
-abbrev pub invariant-loop-line : goal.invariant-loop-line
-invariant-loop-line l = level_of l.link (drop l.line-index l.lines) ≡ level_of l.link l.lines

@@ -1,6 +1,0 @@
-use Rattle.std.proofs.Common.{◌≡◌, drop}
-use Rattle.recorded_route.specs.Pins.{plainly, is_sci, triggering_where}
-use Rattle.recorded_route.proofs.pins.triggering_of_sci.Given as goal
-
-abbrev pub invariant-loop-line : goal.invariant-loop-line
-invariant-loop-line l = triggering_where plainly (is_sci l.interrupt) (drop l.line-index l.lines) ≡ triggering_where plainly (is_sci l.interrupt) l.lines
