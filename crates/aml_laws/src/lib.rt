@@ -203,6 +203,8 @@ pub use referring::a_size_counts_bytes_and_elements;
 pub use referring::an_index_is_a_target;
 pub use referring::an_index_refers_to_a_part;
 pub use referring::object_types_have_their_numbers;
+pub use referring_targets::a_term_that_refers_names_its_target;
+pub use referring_targets::events_are_found_behind_references;
 pub use region_terms::a_region_is_declared_as_its_term_says;
 pub use region_terms::field_flags_say_the_access_and_the_update_rule;
 pub use region_terms::fields_are_declared_in_what_their_names_find;
