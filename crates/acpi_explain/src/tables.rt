@@ -8,7 +8,7 @@ use crate::halt::is_refused;
 use acpi_machine::load_table;
 use aml_meaning::{EvaluationSettings, World};
 use aml_objects::Octets;
-use ar_space::Space;
+use ar_space::{MAX_TEXTS, Space};
 use ar_tables::{Table, Tables};
 use std::alloc::{AllocError, Global};
 
