@@ -98,6 +98,7 @@ pub mod FormedElsewhere
 pub mod FieldSources
 pub mod FieldsInOrder
 pub mod FieldsLaidOut
+pub mod FieldsLedTo
 pub mod FieldsPreserve
 pub mod FieldsTogether
 pub mod FoundNamesStand

@@ -25,6 +25,7 @@ pub mod Digits
 pub mod Events
 pub mod FieldLists
 pub mod FieldNames
+pub mod FieldsLedTo
 pub mod FieldsPut
 pub mod FieldsReached
 pub mod FramesOpened

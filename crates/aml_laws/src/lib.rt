@@ -237,6 +237,7 @@ pub use targets::a_notify_finds_its_object_first;
 pub use targets::a_reference_is_given_of_what_a_term_names;
 pub use targets::a_wait_finds_its_event_and_then_its_timeout;
 pub use targets::mutexes_are_found_behind_references;
+pub use targets::sizes_and_types_are_told_of_fields;
 pub use targets::sizes_and_types_are_told_of_what_values_lead_to;
 pub use tests::a_match_asks_for_a_package_and_for_data;
 pub use tests::a_match_finds_the_first_element;
