@@ -29,7 +29,7 @@ use Rattle.aml_meaning.specs.declared.object_type.Referent.TheVariants as refere
 use Rattle.aml_meaning.specs.declared.store_target.StoreTarget.{StoreTarget}
 use Rattle.aml_meaning.specs.declared.store_target.StoreTarget.TheVariants as targets
 use Rattle.aml_meaning.specs.Evaluation.{rule}
-use Rattle.aml_meaning.specs.FieldCalls.{called_at, referent_read}
+use Rattle.aml_meaning.specs.FieldCalls.{referent_read}
 use Rattle.aml_meaning.specs.Fields.{field_referent}
 use Rattle.aml_meaning.specs.Meaning.{meaning}
 use Rattle.aml_meaning.specs.Operations.{size_in, type_of_referent, type_number}

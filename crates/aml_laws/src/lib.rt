@@ -98,6 +98,7 @@ pub use conversions::what_has_no_conversion_is_refused;
 pub use copies::a_copy_is_the_same_apart_from_its_source;
 pub use copies::what_is_stored_is_a_copy;
 pub use copies::what_is_within_the_limits_is_copied;
+pub use data_terms::a_package_is_refused_as_its_elements_are;
 pub use data_terms::packages_hold_their_elements_in_order;
 pub use data_terms::strings_and_buffers_hold_what_is_written_out;
 pub use declarations::refused_names_change_nothing;
