@@ -228,6 +228,7 @@ pub mod TargetsActedOn
 pub mod Together
 pub mod TooDeepForSettings
 pub mod TreesCost
+pub mod UncountedTargets
 pub mod UnitsTogether
 pub mod UnreferencedSlots
 pub mod UnreadUnits

@@ -80,6 +80,7 @@ pub mod StoreTerms
 pub mod StoredParts
 pub mod TargetsNamed
 pub mod TestTerms
+pub mod UncountedTargets
 pub mod UnitValues
 pub mod StoredCopies
 pub mod StoredNames

@@ -230,6 +230,7 @@ pub use stored_parts::arguments_and_elements_take_copies;
 pub use stored_parts::what_holds_no_data_takes_no_conversion;
 pub use stores::a_store_converts_to_what_its_name_holds;
 pub use target_terms::a_count_is_put_back_into_its_target;
+pub use target_terms::a_count_of_what_holds_no_value_is_refused;
 pub use target_terms::a_division_puts_both_results_into_its_targets;
 pub use target_terms::a_name_of_a_field_hands_on_what_it_takes;
 pub use target_terms::a_term_puts_what_it_gives_into_its_target;
