@@ -98,6 +98,7 @@ pub mod FormedElsewhere
 pub mod FieldSources
 pub mod FieldsInOrder
 pub mod FieldsLaidOut
+pub mod FieldsLedTo
 pub mod FieldsPreserve
 pub mod FieldsTogether
 pub mod FoundNamesStand
@@ -227,6 +228,7 @@ pub mod TargetsActedOn
 pub mod Together
 pub mod TooDeepForSettings
 pub mod TreesCost
+pub mod UncountedTargets
 pub mod UnitsTogether
 pub mod UnreferencedSlots
 pub mod UnreadUnits

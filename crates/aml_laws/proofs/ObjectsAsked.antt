@@ -90,7 +90,7 @@ module _ {S : Type 0} (accesses : Accesses S) (at : List Seg) (depth : ℕ) (w :
   unfolding referent_of_target go_on ◌>>=◌
   target_asked p t names = rw (target_is accesses at depth (counting op p) 0 w steps p t names refl) refl
 
-  part_asked : (p : Part) (t : StoreTarget) → NamesTarget at w p t → referent_at accesses (meaning accesses) at depth (counting op p) (w, steps) ≡ lift (target_referent t) (w, steps)
+  pub part_asked : (p : Part) (t : StoreTarget) → NamesTarget at w p t → referent_at accesses (meaning accesses) at depth (counting op p) (w, steps) ≡ lift (target_referent t) (w, steps)
   part_asked _ _ nothing = target_asked null targets.Nowhere nothing
   part_asked _ _ debug = target_asked (inner (alone opcodes.Debug)) targets.Nowhere debug
   part_asked _ _ (slot code s names) = rw (slot_is_target code s names) (target_asked (inner (alone code)) (targets.Slot s) (slot code s names))

@@ -25,6 +25,7 @@ pub mod Digits
 pub mod Events
 pub mod FieldLists
 pub mod FieldNames
+pub mod FieldsLedTo
 pub mod FieldsPut
 pub mod FieldsReached
 pub mod FramesOpened
@@ -79,6 +80,7 @@ pub mod StoreTerms
 pub mod StoredParts
 pub mod TargetsNamed
 pub mod TestTerms
+pub mod UncountedTargets
 pub mod UnitValues
 pub mod StoredCopies
 pub mod StoredNames
