@@ -186,6 +186,7 @@ pub use passing::what_is_passed_over_is_counted_one_by_one;
 pub use passing::what_may_be_passed_over_is_told_by_its_number;
 pub use pci_functions::a_name_that_holds_an_integer_tells_it;
 pub use pci_functions::a_pci_address_is_told_by_its_objects;
+pub use pci_functions::a_region_of_pci_config_is_located_by_its_own_scope;
 pub use pci_functions::a_region_of_pci_config_belongs_to_the_nearest_device;
 pub use pci_functions::bridges_above_a_function_are_asked_from_the_outermost_on;
 pub use pci_functions::each_bridge_is_asked_on_the_bus_that_the_one_above_told;

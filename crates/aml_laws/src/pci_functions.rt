@@ -2,8 +2,10 @@
 ghost use Rattle.std.specs.Prelude.{◌≡◌, ◌≤◌, ◌<◌, ◌+◌, ◌*◌, ◌-◌, ◌++◌, ◌∷◌};
 ghost use Rattle.std.specs.Prelude.{[], ℕ, List, length, take, Some, None, Ok, Err};
 ghost use Rattle.ar_space.specs.declared.refusal.Refusal.TheVariants.{Evaluation};
-ghost use Rattle.ar_space.specs.declared.refusal.EvaluationFault.TheVariants.{DeepPci};
+ghost use Rattle.ar_space.specs.declared.refusal.Refusal.{Refusal};
+ghost use Rattle.ar_space.specs.declared.refusal.EvaluationFault.TheVariants.{DeepPci, SpaceKind};
 ghost use Rattle.ar_space.specs.Accesses.{Accesses};
+ghost use Rattle.aml_fields.specs.declared.region.AddressSpace.{AddressSpace};
 ghost use Rattle.aml_fields.specs.declared.region.AddressSpace.TheVariants.{Pci};
 ghost use Rattle.aml_path.specs.declared.segment.Seg.{Seg};
 ghost use Rattle.aml_meaning.specs.declared.pci_functions.Sought.TheVariants.{Parent};
@@ -13,20 +15,23 @@ ghost use Rattle.aml_meaning.specs.FieldCalls.{called_at};
 ghost use Rattle.aml_meaning.specs.Meaning.{meaning};
 ghost use Rattle.aml_objects.specs.declared.entry.Entry.{Entry};
 ghost use Rattle.aml_objects.specs.declared.entry.NamedObject.TheVariants.{Data};
+ghost use Rattle.aml_objects.specs.declared.entry.OperationRegion.{OperationRegion};
 ghost use Rattle.aml_objects.specs.declared.value.Value.TheVariants.{Integer};
 ghost use Rattle.std.specs.FinMap.{get};
 ghost use Rattle.aml_meaning.specs.PciFunctions.{adr, segment_group, base_bus, nearest, pci_function};
 ghost use Rattle.aml_namespace.specs.Namespace.{Map};
 ghost use Rattle.aml_meaning.specs.Run.{Run};
-ghost use Rattle.aml_meaning.specs.Fields.{bus_behind_all, pci_address};
+ghost use Rattle.aml_meaning.specs.Fields.{bus_behind_all, pci_address, located};
 ghost use Rattle.aml_meaning.specs.Bridges.{bridges_to};
 ghost use Rattle.aml_laws.specs.PciScopes.{StandsIn, IsFunctionAt, IsBridgeAt, IsNearestSuch, NoneSuch};
 ghost use Rattle.aml_laws.specs.BusesFound.{BusesFound, TellsNumber, TellAddresses, TellsPart};
 ghost use Rattle.aml_laws.specs.PciScopes.{IsAskedBridge, IsAmong, GrowFrom};
+ghost use Rattle.aml_laws.specs.PciRegions.{RegionStandsIn, located_at};
 
-/// A region of PCI_Config belongs to the nearest Device with an `_ADR`, of the scope that the region stands in and
-/// those above it. Where there is none it is refused (DeepPci). So it is in the core profile where a Device above that
-/// one has an `_ADR` and no `_HID`, and in the wide profile it isn't. Asking changes nothing. A search from the root
+/// A scope belongs to the nearest Device with an `_ADR`, of itself and the scopes above it: that is the PCI function of
+/// a region of PCI_Config there. Where there is none it is refused (DeepPci). So it is in the core profile where a
+/// Device above that one has an `_ADR` and no `_HID`, and in the wide profile it isn't. Asking changes nothing. Of
+/// which scope a region is asked, `a_region_of_pci_config_is_located_by_its_own_scope` says. A search from the root
 /// down, one that takes a name that is no Device, or one that begins above the scope is refused by this.
 #[tactic(auto, using(crate::proofs::PciScopes::a_region_of_pci_config_belongs_to_the_nearest_device))]
 pub fn a_region_of_pci_config_belongs_to_the_nearest_device<S>()
@@ -86,10 +91,11 @@ pub fn each_bridge_is_asked_on_the_bus_that_the_one_above_told<S>()
         bus_behind_all accesses call seg bus bridges (w, steps) ≡ (Ok end, (record w { space = after }, steps)) }
 {}
 
-/// The registers of a region of PCI_Config are those of the function that the region belongs to: in the segment group
-/// that the nearest `_SEG` tells, on the bus that the nearest `_BBN` tells or that the bridges lead to from there, at
-/// the device and the function of its `_ADR`. Nothing else is accessed. Parts that are exchanged, a bus that is counted
-/// from 0 in spite of `_BBN`, and another device's `_ADR` are refused by this.
+/// The PCI address of a scope is that of the function that it belongs to: in the segment group that the nearest `_SEG`
+/// tells, on the bus that the nearest `_BBN` tells or that the bridges lead to from there, at the device and the
+/// function of its `_ADR`. Nothing else is accessed. That a region of PCI_Config has the address of its own scope,
+/// `a_region_of_pci_config_is_located_by_its_own_scope` says. Parts that are exchanged, a bus that is counted from 0 in
+/// spite of `_BBN`, and another device's `_ADR` are refused by this.
 #[tactic(auto, using(crate::proofs::BusesFound::address_told))]
 pub fn a_pci_address_is_told_by_its_objects<S>()
     ensures { (accesses : Accesses S) (seg : ℕ) → seg < 65536 → (call : List Seg → Run S ℕ) (w : State S)
@@ -100,4 +106,24 @@ pub fn a_pci_address_is_told_by_its_objects<S>()
         BusesFound accesses seg bus addresses w.space end after → end < 256 → dev < 32 → func < 8 →
         TellsNumber call w steps (path ++ adr ∷ []) (dev * 65536 + func) →
         pci_address accesses call scope (w, steps) ≡ (Ok (Pci seg end dev func), (record w { space = after }, steps)) }
+{}
+
+/// An operation region of PCI_Config lies in the registers at the PCI address of the very scope that it stands in, at
+/// its offset and as long as it was declared. Where that address is refused, so is the region, and asking leaves what
+/// the address left. A region of another address space than SystemMemory, SystemIO and PCI_Config is refused
+/// (SpaceKind), and nothing changes (ACPI 6.5, 5.5.2.4 and 19.6: OperationRegion). A region that is located by the
+/// scope above its own, PCI_Config under another number than 2, and another refusal of other spaces are refused by
+/// this.
+pub fn a_region_of_pci_config_is_located_by_its_own_scope<S>()
+    ensures there { (accesses : Accesses S) (call : List Seg → Run S ℕ) (w : State S) (steps n : ℕ) (scope : List Seg)
+        (region : OperationRegion) → RegionStandsIn w n scope region → region.space ≡ 2 → (space : AddressSpace)
+        (after : State S × ℕ) → pci_address accesses call scope (w, steps) ≡ (Ok space, after) →
+        located accesses call n (w, steps) ≡ (Ok (located_at space region), after) }
+    ensures refused { (accesses : Accesses S) (call : List Seg → Run S ℕ) (w : State S) (steps n : ℕ)
+        (scope : List Seg) (region : OperationRegion) → RegionStandsIn w n scope region → region.space ≡ 2 →
+        (e : Refusal) (after : State S × ℕ) → pci_address accesses call scope (w, steps) ≡ (Err e, after) →
+        located accesses call n (w, steps) ≡ (Err e, after) }
+    ensures other { (accesses : Accesses S) (call : List Seg → Run S ℕ) (w : State S) (steps n : ℕ)
+        (scope : List Seg) (region : OperationRegion) → RegionStandsIn w n scope region → 2 < region.space →
+        located accesses call n (w, steps) ≡ (Err (Evaluation SpaceKind), (w, steps)) }
 {}
