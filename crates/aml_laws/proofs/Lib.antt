@@ -192,6 +192,7 @@ pub mod OrderedValues
 pub mod OutOfSteps
 pub mod OutsideOfMethods
 pub mod PathsTaken
+pub mod PciAddresses
 pub mod PciRegionsLocated
 pub mod PciScopes
 pub mod Preorders

@@ -60,6 +60,7 @@ pub mod Outside
 pub mod Parts
 pub mod PassedNotes
 pub mod PassedNumbers
+pub mod PciAddresses
 pub mod PciRegions
 pub mod PciScopes
 pub mod Plain

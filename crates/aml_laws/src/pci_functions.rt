@@ -5,6 +5,7 @@ ghost use Rattle.ar_space.specs.declared.refusal.Refusal.TheVariants.{Evaluation
 ghost use Rattle.ar_space.specs.declared.refusal.Refusal.{Refusal};
 ghost use Rattle.ar_space.specs.declared.refusal.EvaluationFault.TheVariants.{DeepPci, SpaceKind};
 ghost use Rattle.ar_space.specs.Accesses.{Accesses};
+ghost use Rattle.ar_space.specs.Outcome.{Outcome};
 ghost use Rattle.aml_fields.specs.declared.region.AddressSpace.{AddressSpace};
 ghost use Rattle.aml_fields.specs.declared.region.AddressSpace.TheVariants.{Pci};
 ghost use Rattle.aml_path.specs.declared.segment.Seg.{Seg};
@@ -22,11 +23,12 @@ ghost use Rattle.aml_meaning.specs.PciFunctions.{adr, segment_group, base_bus, n
 ghost use Rattle.aml_namespace.specs.Namespace.{Map};
 ghost use Rattle.aml_meaning.specs.Run.{Run};
 ghost use Rattle.aml_meaning.specs.Fields.{bus_behind_all, pci_address, located};
-ghost use Rattle.aml_meaning.specs.Bridges.{bridges_to};
+ghost use Rattle.aml_meaning.specs.Bridges.{bridges_to, secondary_bus};
 ghost use Rattle.aml_laws.specs.PciScopes.{StandsIn, IsFunctionAt, IsBridgeAt, IsNearestSuch, NoneSuch};
 ghost use Rattle.aml_laws.specs.BusesFound.{BusesFound, TellsNumber, TellAddresses, TellsPart};
 ghost use Rattle.aml_laws.specs.PciScopes.{IsAskedBridge, IsAmong, GrowFrom};
 ghost use Rattle.aml_laws.specs.PciRegions.{RegionStandsIn, located_at};
+ghost use Rattle.aml_laws.specs.PciAddresses.{BridgeTells, AddressAnswers};
 
 /// A scope belongs to the nearest Device with an `_ADR`, of itself and the scopes above it: that is the PCI function of
 /// a region of PCI_Config there. Where there is none it is refused (DeepPci). So it is in the core profile where a
@@ -126,4 +128,33 @@ pub fn a_region_of_pci_config_is_located_by_its_own_scope<S>()
     ensures other { (accesses : Accesses S) (call : List Seg → Run S ℕ) (w : State S) (steps n : ℕ)
         (scope : List Seg) (region : OperationRegion) → RegionStandsIn w n scope region → 2 < region.space →
         located accesses call n (w, steps) ≡ (Err (Evaluation SpaceKind), (w, steps)) }
+{}
+
+/// A device is asked for the bus behind it by a read of its header type and, where the low seven bits of that are 1 or
+/// 2, of its secondary bus, which is the answer (PCI-to-PCI Bridge Architecture 1.2, 3.2). Of any other type it is
+/// refused (DeepPci), and the second byte isn't read. A fault that a read answers refuses it, and nothing more is read.
+/// An `_ADR` whose device or function is too great for one, and such a segment group or bus, are refused (RegionLimit),
+/// and nothing is read (ACPI 6.5, 6.1.1). A function of another type that is taken for a bridge, and all functions of a
+/// device that are taken for one, are refused by this.
+pub fn what_is_no_bridge_tells_no_bus<S>()
+    ensures { (accesses : Accesses S) (seg bus dev func : ℕ) → func < 65536 → (s : S) (r : Outcome ℕ) (after : S) →
+        BridgeTells accesses seg bus dev func s r after →
+        secondary_bus accesses seg bus (dev * 65536 + func) s ≡ (r, after) }
+{}
+
+/// The objects of a PCI address are asked one after another, each in the world that the one before it left: `_SEG`,
+/// then `_BBN`, then the bridges above the function, from the outermost on, each by its `_ADR` and its registers, and
+/// at last the `_ADR` of the function (ACPI 6.5, 5.5.2.4, 6.1.1, 6.5.5 and 6.5.6). The first that is refused refuses
+/// the address, and nothing behind it is asked. The address is refused, too, where its segment group, bus, device or
+/// function is too great for one (RegionLimit), and where the scope belongs to no function nothing is asked. Objects in
+/// another order, a refused `_BBN` that counts as 0, and all functions of a device that are taken for one, are refused
+/// by this.
+pub fn the_objects_of_a_pci_address_are_asked_in_turn<S>()
+    ensures in_turn { (accesses : Accesses S) (call : List Seg → Run S ℕ) (w : State S) (steps : ℕ)
+        (scope path : List Seg) (r : Outcome AddressSpace) (after : State S × ℕ) →
+        pci_function scope w ≡ (Ok path, w) → AddressAnswers accesses call path (w, steps) r after →
+        pci_address accesses call scope (w, steps) ≡ (r, after) }
+    ensures no_function { (accesses : Accesses S) (call : List Seg → Run S ℕ) (w : State S) (steps : ℕ)
+        (scope : List Seg) (e : Refusal) → pci_function scope w ≡ (Err e, w) →
+        pci_address accesses call scope (w, steps) ≡ (Err e, (w, steps)) }
 {}
