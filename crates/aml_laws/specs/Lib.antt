@@ -1,3 +1,4 @@
+pub mod AddressObjects
 pub mod AllWithin
 pub mod Answered
 pub mod BankDeclarations

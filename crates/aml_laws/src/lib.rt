@@ -192,6 +192,7 @@ pub use pci_functions::bridges_above_a_function_are_asked_from_the_outermost_on;
 pub use pci_functions::each_bridge_is_asked_on_the_bus_that_the_one_above_told;
 pub use pci_functions::segment_groups_and_buses_are_the_nearest;
 pub use pci_functions::the_objects_of_a_pci_address_are_asked_in_turn;
+pub use pci_functions::what_is_asked_for_an_address_answers_an_integer;
 pub use pci_functions::what_is_no_bridge_tells_no_bus;
 pub use predefined_names::predefined_names_stand;
 pub use profile_terms::the_core_profile_refuses_the_terms_of_the_wide_one;

@@ -1,8 +1,9 @@
 //! The PCI functions that operation regions of PCI_Config belong to.
-ghost use Rattle.std.specs.Prelude.{◌≡◌, ◌≤◌, ◌<◌, ◌+◌, ◌*◌, ◌-◌, ◌++◌, ◌∷◌};
+ghost use Rattle.std.specs.Prelude.{◌≡◌, ◌≢◌, ◌≤◌, ◌<◌, ◌+◌, ◌*◌, ◌-◌, ◌%◌, ◌++◌, ◌∷◌};
 ghost use Rattle.std.specs.Prelude.{[], ℕ, List, length, take, Some, None, Ok, Err};
 ghost use Rattle.ar_space.specs.declared.refusal.Refusal.TheVariants.{Evaluation};
 ghost use Rattle.ar_space.specs.declared.refusal.Refusal.{Refusal};
+ghost use Rattle.ar_space.specs.declared.refusal.EvaluationFault.TheVariants.{ArityChanged, CallDepth, DepthSetting};
 ghost use Rattle.ar_space.specs.declared.refusal.EvaluationFault.TheVariants.{DeepPci, SpaceKind};
 ghost use Rattle.ar_space.specs.Accesses.{Accesses};
 ghost use Rattle.ar_space.specs.Outcome.{Outcome};
@@ -15,7 +16,10 @@ ghost use Rattle.aml_meaning.specs.State.{State};
 ghost use Rattle.aml_meaning.specs.FieldCalls.{called_at};
 ghost use Rattle.aml_meaning.specs.Meaning.{meaning};
 ghost use Rattle.aml_objects.specs.declared.entry.Entry.{Entry};
+ghost use Rattle.aml_objects.specs.declared.entry.Method.{Method};
+ghost use Rattle.aml_objects.specs.declared.entry.NamedObject.{NamedObject};
 ghost use Rattle.aml_objects.specs.declared.entry.NamedObject.TheVariants.{Data};
+ghost use Rattle.aml_objects.specs.declared.entry.NamedObject.TheVariants as named;
 ghost use Rattle.aml_objects.specs.declared.entry.OperationRegion.{OperationRegion};
 ghost use Rattle.aml_objects.specs.declared.value.Value.TheVariants.{Integer};
 ghost use Rattle.std.specs.FinMap.{get};
@@ -29,6 +33,7 @@ ghost use Rattle.aml_laws.specs.BusesFound.{BusesFound, TellsNumber, TellAddress
 ghost use Rattle.aml_laws.specs.PciScopes.{IsAskedBridge, IsAmong, GrowFrom};
 ghost use Rattle.aml_laws.specs.PciRegions.{RegionStandsIn, located_at};
 ghost use Rattle.aml_laws.specs.PciAddresses.{BridgeTells, AddressAnswers};
+ghost use Rattle.aml_laws.specs.AddressObjects.{IsAskedAt, TakesNoArguments, ObjectAnswers};
 
 /// A scope belongs to the nearest Device with an `_ADR`, of itself and the scopes above it: that is the PCI function of
 /// a region of PCI_Config there. Where there is none it is refused (DeepPci). So it is in the core profile where a
@@ -157,4 +162,29 @@ pub fn the_objects_of_a_pci_address_are_asked_in_turn<S>()
     ensures no_function { (accesses : Accesses S) (call : List Seg → Run S ℕ) (w : State S) (steps : ℕ)
         (scope : List Seg) (e : Refusal) → pci_function scope w ≡ (Err e, w) →
         pci_address accesses call scope (w, steps) ≡ (Err e, (w, steps)) }
+{}
+
+/// What is asked for an address answers an integer (ACPI 6.5, 6.1.1, 6.5.5 and 6.5.6): a name the one that it holds, a
+/// field the one that its bits make, where they are no more than an integer has, and a control method the one that it
+/// returns. A control method is called without arguments, one call deeper than the term that accesses the field, and so
+/// are the objects of the address of a field that is asked. What an alias leads to answers for it. Another value is
+/// refused (WrongType), even one that converts to an integer, and so is a field of more bits; a name without a value
+/// and a control method that returns none are refused (NoValue). What refuses the control method or the field refuses
+/// it. Inside 32 calls, and inside as many as the world allows, nothing answers (CallDepth, DepthSetting). A control
+/// method that takes arguments isn't called (ArityChanged). Of a name that stands for anything else this says nothing.
+/// A control method that answers 0, a String that is converted, and 32 calls anew inside a call are refused by this.
+pub fn what_is_asked_for_an_address_answers_an_integer<S>()
+    ensures answers { (accesses : Accesses S) (depth : ℕ) → depth < 32 → (w : State S) → depth < w.nesting.calls →
+        (steps : ℕ) (path at : List Seg) (o : NamedObject) → IsAskedAt w path at o → (r : Outcome ℕ)
+        (after : State S × ℕ) → ObjectAnswers accesses depth (w, steps) at o r after →
+        called_at accesses (meaning accesses) depth path (w, steps) ≡ (r, after) }
+    ensures deep { (accesses : Accesses S) (w : State S) (steps : ℕ) (path at : List Seg) (o : NamedObject) →
+        IsAskedAt w path at o → TakesNoArguments o → (depth : ℕ) → 32 ≤ depth →
+        called_at accesses (meaning accesses) depth path (w, steps) ≡ (Err (Evaluation CallDepth), (w, steps)) }
+    ensures setting { (accesses : Accesses S) (w : State S) (steps : ℕ) (path at : List Seg) (o : NamedObject) →
+        IsAskedAt w path at o → TakesNoArguments o → (depth : ℕ) → depth < 32 → w.nesting.calls ≤ depth →
+        called_at accesses (meaning accesses) depth path (w, steps) ≡ (Err (Evaluation DepthSetting), (w, steps)) }
+    ensures arguments { (accesses : Accesses S) (w : State S) (steps : ℕ) (path at : List Seg) (o : NamedObject) →
+        IsAskedAt w path at o → (m : Method) → o ≡ named.Method m → m.flags.byte % 8 ≢ 0 → (depth : ℕ) →
+        called_at accesses (meaning accesses) depth path (w, steps) ≡ (Err (Evaluation ArityChanged), (w, steps)) }
 {}
