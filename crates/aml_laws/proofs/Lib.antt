@@ -7,6 +7,7 @@
 -- the default), `x_together` (x goes the same way over two register spaces until they part),
 -- `x_unnoted` (noting the accesses of x changes nothing), `x_respects`, `x_keeps_kinds`, `x_fits`, `x_stands`;
 -- a lemma that goes through the cases for another ends with `_by_cases`.
+pub mod AddressObjects
 pub mod AnswersTogether
 pub mod ArgumentsAndAnswersPreserve
 pub mod ArgumentsHanded
@@ -193,6 +194,8 @@ pub mod OrderedValues
 pub mod OutOfSteps
 pub mod OutsideOfMethods
 pub mod PathsTaken
+pub mod PciAddresses
+pub mod PciRegionsLocated
 pub mod PciScopes
 pub mod Preorders
 pub mod ProfileKept

@@ -1,3 +1,4 @@
+pub mod AddressObjects
 pub mod AllWithin
 pub mod Answered
 pub mod BankDeclarations
@@ -61,6 +62,8 @@ pub mod Outside
 pub mod Parts
 pub mod PassedNotes
 pub mod PassedNumbers
+pub mod PciAddresses
+pub mod PciRegions
 pub mod PciScopes
 pub mod Plain
 pub mod PredefinedNames
