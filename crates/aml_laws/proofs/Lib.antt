@@ -11,6 +11,7 @@ pub mod AnswersTogether
 pub mod ArgumentsAndAnswersPreserve
 pub mod ArgumentsHanded
 pub mod ArgumentsInTurn
+pub mod ArgumentsReferring
 pub mod AskedBridges
 pub mod BanksDeclared
 pub mod BanksSelected

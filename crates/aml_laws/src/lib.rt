@@ -228,6 +228,7 @@ pub use stored_parts::a_byte_takes_the_first_byte_of_a_value;
 pub use stored_parts::arguments_and_elements_take_copies;
 pub use stored_parts::what_holds_no_data_takes_no_conversion;
 pub use stores::a_store_converts_to_what_its_name_holds;
+pub use stored_parts::an_argument_stands_for_what_it_refers_to;
 pub use target_terms::a_count_is_put_back_into_its_target;
 pub use target_terms::a_division_puts_both_results_into_its_targets;
 pub use target_terms::a_name_of_a_field_hands_on_what_it_takes;
