@@ -148,6 +148,7 @@ pub mod PutIntoTargets
 pub mod ReadingChanges
 pub mod ReadingRefusals
 pub mod StoreTermsDone
+pub mod TablesRead
 pub mod TablesRefused
 pub mod TermRefusals
 pub mod TestsTold
