@@ -200,6 +200,7 @@ pub mod ProfileKept
 pub mod ReadTermsHoldBytes
 pub mod ReadingStepsGiveBytes
 pub mod ReferenceChains
+pub mod ReferencesHandedIn
 pub mod ReferencesToNames
 pub mod ReferencesToSlots
 pub mod ReferencesToTargets
