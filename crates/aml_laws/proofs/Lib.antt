@@ -12,6 +12,7 @@ pub mod AnswersTogether
 pub mod ArgumentsAndAnswersPreserve
 pub mod ArgumentsHanded
 pub mod ArgumentsInTurn
+pub mod ArgumentsReferring
 pub mod AskedBridges
 pub mod BanksDeclared
 pub mod BanksSelected
@@ -149,6 +150,7 @@ pub mod PutIntoTargets
 pub mod ReadingChanges
 pub mod ReadingRefusals
 pub mod StoreTermsDone
+pub mod TablesRead
 pub mod TablesRefused
 pub mod TermRefusals
 pub mod TestsTold
@@ -202,6 +204,7 @@ pub mod ProfileKept
 pub mod ReadTermsHoldBytes
 pub mod ReadingStepsGiveBytes
 pub mod ReferenceChains
+pub mod ReferencesHandedIn
 pub mod ReferencesToNames
 pub mod ReferencesToSlots
 pub mod ReferencesToTargets
