@@ -227,12 +227,15 @@ pub mod TargetsActedOn
 pub mod Together
 pub mod TooDeepForSettings
 pub mod TreesCost
+pub mod UnitsInOrder
+pub mod UnitsPlaced
 pub mod UnitsTogether
 pub mod UnreferencedSlots
 pub mod UnreadUnits
 pub mod ItemsOfLists
 pub mod ItemsTogether
 pub mod JoinedResources
+pub mod KeptUnits
 pub mod Levels
 pub mod LimitsRefused
 pub mod LimitsTaken

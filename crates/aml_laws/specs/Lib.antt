@@ -79,7 +79,9 @@ pub mod StoreTerms
 pub mod StoredParts
 pub mod TargetsNamed
 pub mod TestTerms
+pub mod UnitPlaces
 pub mod UnitValues
+pub mod UnitsInTurn
 pub mod StoredCopies
 pub mod StoredNames
 pub mod Unreferenced

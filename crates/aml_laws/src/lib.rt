@@ -63,6 +63,7 @@ mod target_terms;
 mod targets;
 mod tests;
 mod trees;
+mod units;
 mod updates;
 mod values;
 
@@ -248,6 +249,10 @@ pub use trees::a_target_takes_the_steps_of_its_terms;
 pub use trees::each_tree_costs_a_step;
 pub use trees::plain_targets_cost_nothing;
 pub use trees::trees_that_begin_are_counted;
+pub use units::a_unit_is_accessed_within_its_region_alone;
+pub use units::an_access_is_made_once;
+pub use units::units_are_accessed_lowest_first;
+pub use updates::a_unit_that_keeps_bits_is_read_once;
 pub use updates::ones_and_zeros_read_nothing;
 pub use values::an_integer_is_read_back_from_its_string;
 pub use values::binary_coded_decimal_has_the_decimal_digits;
