@@ -111,6 +111,7 @@ pub mod IndexRegisters
 pub mod IndexTargets
 pub mod IndexedFields
 pub mod BankedFields
+pub mod IntegersAsked
 pub mod IntegersClaimed
 pub mod IntegersInStrings
 pub mod IntegersOfAnswers

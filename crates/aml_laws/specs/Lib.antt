@@ -36,6 +36,7 @@ pub mod Histories
 pub mod IndexRegisters
 pub mod IndexTargets
 pub mod InnerLists
+pub mod IntegerOperands
 pub mod IntegersOfValues
 pub mod JoinedTerms
 pub mod Kinds

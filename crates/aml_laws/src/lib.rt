@@ -168,6 +168,7 @@ pub use object_terms::a_reference_is_given_of_what_is_named;
 pub use object_terms::events_are_signaled_and_waited_for_by_their_terms;
 pub use object_terms::mutexes_are_acquired_and_released_by_their_terms;
 pub use objects::objects_keep_number_and_kind;
+pub use operands::an_operand_that_is_no_integer_refuses_its_term;
 pub use operands::an_operand_that_is_refused_refuses_its_term;
 pub use operands::an_operand_without_a_value_is_refused;
 pub use operands::operands_convert_to_integers;
