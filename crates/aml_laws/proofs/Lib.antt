@@ -142,6 +142,7 @@ pub mod OsiAsked
 pub mod PartsAsked
 pub mod PartsCounted
 pub mod PartsIndexed
+pub mod PartsRefused
 pub mod PartsStored
 pub mod PassableRefusals
 pub mod PutIntoTargets

@@ -205,6 +205,7 @@ pub use referring::a_size_counts_bytes_and_elements;
 pub use referring::an_index_is_a_target;
 pub use referring::an_index_refers_to_a_part;
 pub use referring::object_types_have_their_numbers;
+pub use referring::what_has_no_parts_is_neither_counted_nor_indexed;
 pub use referring_targets::a_term_that_refers_names_its_target;
 pub use referring_targets::events_are_found_behind_references;
 pub use region_terms::a_region_is_declared_as_its_term_says;
