@@ -154,6 +154,7 @@ pub mod TermRefusals
 pub mod TestsTold
 pub mod ValuesJoined
 pub mod ValuesMatched
+pub mod ValuesNotJoined
 pub mod ValuesOfEvents
 pub mod ValuesOfFields
 pub mod ValuesOfObjects

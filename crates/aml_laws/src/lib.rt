@@ -140,6 +140,7 @@ pub use integers::operators_form_integers_of_the_width;
 pub use joined::a_part_is_taken_from_its_index_on;
 pub use joined::a_text_ends_before_the_first_zero;
 pub use joined::joined_values_begin_with_the_first;
+pub use joined::what_cannot_be_joined_is_refused;
 pub use limits::at_most_64_references_are_followed;
 pub use limits::limits_are_refused;
 pub use limits::packages_nest_at_most_64_deep;
