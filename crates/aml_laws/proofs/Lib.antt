@@ -114,6 +114,7 @@ pub mod IndexRegisters
 pub mod IndexTargets
 pub mod IndexedFields
 pub mod BankedFields
+pub mod IntegersAsked
 pub mod IntegersClaimed
 pub mod IntegersInStrings
 pub mod IntegersOfAnswers
@@ -144,6 +145,7 @@ pub mod OsiAsked
 pub mod PartsAsked
 pub mod PartsCounted
 pub mod PartsIndexed
+pub mod PartsRefused
 pub mod PartsStored
 pub mod PassableRefusals
 pub mod PutIntoTargets
@@ -156,6 +158,7 @@ pub mod TermRefusals
 pub mod TestsTold
 pub mod ValuesJoined
 pub mod ValuesMatched
+pub mod ValuesNotJoined
 pub mod ValuesOfEvents
 pub mod ValuesOfFields
 pub mod ValuesOfObjects
@@ -235,12 +238,15 @@ pub mod Together
 pub mod TooDeepForSettings
 pub mod TreesCost
 pub mod UncountedTargets
+pub mod UnitsInOrder
+pub mod UnitsPlaced
 pub mod UnitsTogether
 pub mod UnreferencedSlots
 pub mod UnreadUnits
 pub mod ItemsOfLists
 pub mod ItemsTogether
 pub mod JoinedResources
+pub mod KeptUnits
 pub mod Levels
 pub mod LimitsRefused
 pub mod LimitsTaken

@@ -38,6 +38,7 @@ pub mod Histories
 pub mod IndexRegisters
 pub mod IndexTargets
 pub mod InnerLists
+pub mod IntegerOperands
 pub mod IntegersOfValues
 pub mod JoinedTerms
 pub mod Kinds
@@ -84,7 +85,9 @@ pub mod StoredParts
 pub mod TargetsNamed
 pub mod TestTerms
 pub mod UncountedTargets
+pub mod UnitPlaces
 pub mod UnitValues
+pub mod UnitsInTurn
 pub mod StoredCopies
 pub mod StoredNames
 pub mod Unreferenced

@@ -4,8 +4,9 @@ ghost use Rattle.std.specs.FinMap.{get};
 ghost use Rattle.ar_space.specs.Accesses.{Accesses};
 ghost use Rattle.ar_space.specs.declared.refusal.Refusal.{Refusal};
 ghost use Rattle.ar_space.specs.declared.refusal.Refusal.TheVariants as refusal;
-ghost use Rattle.ar_space.specs.declared.refusal.EvaluationFault.TheVariants.{IndexLimit};
+ghost use Rattle.ar_space.specs.declared.refusal.EvaluationFault.TheVariants.{IndexLimit, NoValue};
 ghost use Rattle.ar_space.specs.declared.refusal.NamespaceFault.TheVariants.{NotFound};
+ghost use Rattle.ar_space.specs.declared.refusal.ValueFault.TheVariants.{WrongType};
 ghost use Rattle.aml_path.specs.declared.segment.Seg.{Seg};
 ghost use Rattle.aml_path.specs.Paths.{Name};
 ghost use Rattle.aml_grammar.specs.Tree.{Tree, Part, name, inner};
@@ -29,7 +30,8 @@ ghost use Rattle.aml_meaning.specs.Meaning.{meaning};
 ghost use Rattle.aml_laws.specs.OperatorTerms.{alone, one_to, two_to, NamesSlot, NamesTarget, StoresTo, SlotHolds, SlotIsEmpty, TargetHolds, GivesValue, Gives, IsRefused};
 ghost use Rattle.aml_laws.specs.IndexTargets.{CountsPart};
 ghost use Rattle.aml_laws.specs.PutIntoTargets.{PutsReference};
-ghost use Rattle.aml_laws.specs.ReferringTerms.{HasParts, HasPart, Indexes, part_read, size_of, object_type, IsNumbered, IsNamedKind, conditional, IsNumberedLast};
+ghost use Rattle.aml_laws.specs.ReferringTerms.{HasParts, HasNoParts, HasPart, Indexes, part_read, size_of, object_type, IsNumbered, IsNamedKind, conditional, IsNumberedLast};
+ghost use Rattle.aml_laws.specs.TestTerms.{TwoValues};
 
 /// Index gives a reference to the element of a package, or to the byte of a string or of a buffer, that its second
 /// operand counts from 0, and stores it to its target; from the end on it is refused. DerefOf of it gives that element,
@@ -84,6 +86,37 @@ pub fn a_size_counts_bytes_and_elements<S>()
         (v r : Value) (i n : ℕ) (f : ℕ → Reference) (after : State S × ℕ) →
         Indexes accesses scope depth x y (w, steps) v i after → HasPart after.0 v i r → HasParts after.0 r n f →
         Gives accesses scope depth (size_of (inner (part_read x y))) (w, suc (suc (suc steps))) n after }
+{}
+
+/// SizeOf of what holds an integer, of a name that stands for no value, as that of a device or of a field, of Debug, and
+/// of a DerefOf of an Index that is an integer, is refused as `WrongType`, and of what holds no value yet as `NoValue`;
+/// nothing changes. An Index of an integer or of a reference is refused as `WrongType`, and stores nothing. An integer
+/// that has the size of its bytes, and an Index of one that gives it, are refused by this.
+pub fn what_has_no_parts_is_neither_counted_nor_indexed<S>()
+    ensures size { (accesses : Accesses S) (scope : List Seg) (depth : ℕ) (p : Part) (w : State S) (steps : ℕ)
+        (t : StoreTarget) (n : ℕ) → NamesTarget scope w p t → TargetHolds w t (value.Integer n) →
+        IsRefused accesses scope depth (size_of p) (w, suc steps) (refusal.Value WrongType) (w, steps) }
+    ensures nothing_yet { (accesses : Accesses S) (scope : List Seg) (depth : ℕ) (p : Part) (w : State S) (steps : ℕ)
+        (s : Slot) → NamesTarget scope w p (targets.Slot s) → SlotIsEmpty w s →
+        IsRefused accesses scope depth (size_of p) (w, suc steps) (refusal.Evaluation NoValue) (w, steps) }
+    ensures no_value { (accesses : Accesses S) (scope : List Seg) (depth : ℕ) (p : Part) (w : State S) (steps : ℕ)
+        (t : StoreTarget) → NamesTarget scope w p t → TargetHolds w t value.Uninitialized →
+        IsRefused accesses scope depth (size_of p) (w, suc steps) (refusal.Evaluation NoValue) (w, steps) }
+    ensures names { (accesses : Accesses S) (scope : List Seg) (depth : ℕ) (p : Part) (w : State S) (steps : ℕ)
+        (path : List Seg) (e : Entry) (k : ℕ) → NamesTarget scope w p (targets.Name path) →
+        get w.names.map path ≡ Some e → IsNamedKind e.object k →
+        IsRefused accesses scope depth (size_of p) (w, suc steps) (refusal.Value WrongType) (w, steps) }
+    ensures debug { (accesses : Accesses S) (scope : List Seg) (depth : ℕ) (w : State S) (steps : ℕ) →
+        IsRefused accesses scope depth (size_of (inner (alone opcodes.Debug))) (w, suc steps)
+        (refusal.Value WrongType) (w, steps) }
+    ensures parts { (accesses : Accesses S) (scope : List Seg) (depth : ℕ) (x y : Tree) (w : State S) (steps : ℕ)
+        (v : Value) (i n : ℕ) (after : State S × ℕ) → Indexes accesses scope depth x y (w, steps) v i after →
+        HasPart after.0 v i (value.Integer n) → IsRefused accesses scope depth (size_of (inner (part_read x y)))
+        (w, suc (suc (suc steps))) (refusal.Value WrongType) after }
+    ensures index { (accesses : Accesses S) (scope : List Seg) (depth : ℕ) (x y : Tree) (w : State S) (steps : ℕ)
+        (v u : Value) (after : State S × ℕ) → TwoValues accesses scope depth x y (w, steps) v u after →
+        HasNoParts v → (p : Part) → IsRefused accesses scope depth (two_to opcodes.Index x y p) (w, suc steps)
+        (refusal.Value WrongType) after }
 {}
 
 /// ObjectType of a local, an argument or a name that holds a value gives the number of the type of this value, of a
