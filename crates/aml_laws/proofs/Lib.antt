@@ -142,7 +142,6 @@ pub mod OperatorLaws
 pub mod OperatorsComputed
 pub mod OsiAsked
 pub mod PartsAsked
-pub mod PartsCounted
 pub mod PartsIndexed
 pub mod PartsStored
 pub mod PassableRefusals
