@@ -143,7 +143,6 @@ pub mod OperatorLaws
 pub mod OperatorsComputed
 pub mod OsiAsked
 pub mod PartsAsked
-pub mod PartsCounted
 pub mod PartsIndexed
 pub mod PartsRefused
 pub mod PartsStored

@@ -28,7 +28,6 @@ pub mod FieldLists
 pub mod FieldNames
 pub mod FieldsLedTo
 pub mod FieldsPut
-pub mod FieldsReached
 pub mod FramesOpened
 pub mod Handed
 pub mod HandedBack
@@ -36,7 +35,6 @@ pub mod HandedIn
 pub mod HandedOut
 pub mod Histories
 pub mod IndexRegisters
-pub mod IndexTargets
 pub mod InnerLists
 pub mod IntegerOperands
 pub mod IntegersOfValues

@@ -62,8 +62,8 @@ pub fn a_division_puts_both_results_into_its_targets<S>()
 /// Increment and Decrement find their target, read what stands there, and put the next integer back, or the one before
 /// it; this is their value. So they do where a RefOf, a DerefOf or an Index names the target. Where no target is found,
 /// what stands there doesn't convert to an integer or can't be read, or the target doesn't take what they counted, they
-/// are refused so. One that stores nothing through a reference, and one that is done where its target refuses, are
-/// refused by this.
+/// are refused so. One that stores nothing through a reference or to a field, one that counts a field from 0, and one
+/// that is done where its target refuses, are refused by this.
 pub fn a_count_is_put_back_into_its_target<S>()
     ensures up { CountsTarget S opcodes.Increment (λ width a n. n ≡ (a + 1) % 2 ^ bits_of width) }
     ensures down { CountsTarget S opcodes.Decrement (λ width a n.
