@@ -7,6 +7,7 @@ pub mod BusesReached
 pub mod CallsPassedOver
 pub mod CallsTogether
 pub mod CleanLinks
+pub mod EntriesTold
 pub mod FaultsOfBuses
 pub mod FaultsOfCalls
 pub mod FaultsOfLinks

@@ -7,4 +7,5 @@ pub mod LoadedInTurn
 pub mod Notes
 pub mod PassedCalls
 pub mod ReportedNotes
+pub mod RoutingEntries
 pub mod Widened

@@ -3,6 +3,7 @@
 
 mod bounds;
 mod depths;
+mod entries;
 mod faults;
 mod initializing;
 mod kernel_lines;
@@ -19,6 +20,9 @@ pub use bounds::{
 pub use depths::{
     a_machine_that_allows_more_depth_calls_as_one_that_allows_less,
     a_machine_that_allows_more_depth_gathers_as_one_that_allows_less,
+};
+pub use entries::{
+    an_entry_of_a_routing_table_tells_of_a_pin, an_entry_that_tells_of_no_pin_is_refused,
 };
 pub use faults::{machine_faults_are_reached_by_accesses, routing_faults_are_reached_by_accesses};
 pub use initializing::{
