@@ -12,7 +12,9 @@ pub mod FaultsOfBuses
 pub mod FaultsOfCalls
 pub mod FaultsOfLinks
 pub mod FaultsOfLoading
+pub mod FlagsTold
 pub mod InitialCalls
+pub mod ItemsTold
 pub mod KernelBuses
 pub mod KernelLinesTold
 pub mod KernelOffers

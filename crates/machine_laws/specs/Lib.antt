@@ -2,6 +2,8 @@ pub mod BoundedAccesses
 pub mod Deepened
 pub mod Evaluated
 pub mod Initializing
+pub mod InterruptFlags
+pub mod InterruptItems
 pub mod KernelLines
 pub mod LoadedInTurn
 pub mod Notes
