@@ -22,6 +22,7 @@ pub mod KernelRuns
 pub mod KernelTriggers
 pub mod LinesWidened
 pub mod LinksTogether
+pub mod LinksTold
 pub mod MachineFaults
 pub mod MachineNotes
 pub mod MachineNoting

@@ -5,6 +5,7 @@ pub mod Initializing
 pub mod InterruptFlags
 pub mod InterruptItems
 pub mod KernelLines
+pub mod LinkObjects
 pub mod LoadedInTurn
 pub mod Notes
 pub mod PassedCalls

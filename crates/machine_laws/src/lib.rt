@@ -8,6 +8,7 @@ mod entries;
 mod faults;
 mod initializing;
 mod kernel_lines;
+mod link_objects;
 mod loading;
 mod notes;
 mod profiles;
@@ -37,6 +38,10 @@ pub use kernel_lines::{
     each_source_has_one_line_trigger, interrupts_are_triggered_as_their_overrides_say,
     links_are_triggered_as_they_offer, the_bus_of_a_routing_table_is_told_by_its_objects,
     the_device_of_each_pin_has_one_line_bus,
+};
+pub use link_objects::{
+    a_link_is_a_device_with_the_id_of_links, a_link_is_present_by_its_status,
+    a_routing_table_is_what_its_device_answers, links_are_asked_by_their_objects,
 };
 pub use loading::tables_are_loaded_in_turn;
 pub use notes::{
