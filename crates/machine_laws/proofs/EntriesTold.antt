@@ -1,6 +1,6 @@
 -- What an entry of a routing table tells, part by part.
 use Rattle.std.specs.Prelude.{◌≡◌, ◌<◌, ◌≤◌, ◌+◌, ◌*◌, ◌/◌, ◌^◌, ◌==◌, ℕ, zero, suc, List, [], ◌∷◌, length, Bool, true, false, nat_lt, Option, Some, None, Ok, Err, refl, if◌then◌else◌}
-use Rattle.std.proofs.Common.{ap, sym, ◌∙◌, arith}
+use Rattle.std.proofs.Common.{ap, ◌∙◌, arith}
 use Rattle.std.proofs.lemmas.Bool.Decides.{nat_tests}
 use Rattle.std.proofs.lemmas.Nat.{div-mul-add}
 use Rattle.ar_space.specs.Accesses.{Accesses}
@@ -16,7 +16,7 @@ use Rattle.acpi_machine.specs.MachineStates.{MachineState}
 use Rattle.acpi_prt.specs.declared.pin.Pin.{Pin}
 use Rattle.acpi_prt.specs.declared.pin.Route.{Route}
 use Rattle.acpi_prt.specs.declared.pin.Route.TheVariants.{Wired, Link}
-use Rattle.acpi_prt.specs.Entries.{list_of, fits_word, word_of, zero_source, source_tested, letter_of, no_index, device_number}
+use Rattle.acpi_prt.specs.Entries.{list_of, word_of, source_tested, letter_of, no_index, device_number}
 use Rattle.acpi_prt.specs.Links.{link_at}
 use Rattle.acpi_prt.specs.RoutingTables.{linked, route_of, pin_with, pin_among, pin_of}
 use Rattle.machine_laws.specs.RoutingEntries.{entry_of, IsAddress, IsWord, word, IsSource, no_link, link, IsNoEntry, no_package, not_four, wrong_address, wrong_pin, wrong_source, wrong_index}

@@ -1,9 +1,9 @@
 -- What is asked of link devices and of devices with a routing table.
-use Rattle.std.specs.Prelude.{◌≡◌, ◌<◌, ◌+◌, ◌*◌, ◌%◌, ◌==◌, ℕ, List, [], ◌∷◌, ◌++◌, codes, Bool, true, false, Option, Some, None, option_map, Ok, Err, refl, if◌then◌else◌}
+use Rattle.std.specs.Prelude.{◌≡◌, ◌+◌, ◌*◌, ◌%◌, ◌==◌, ℕ, List, [], ◌∷◌, ◌++◌, codes, Bool, true, false, Option, Some, None, option_map, Ok, Err, refl, if◌then◌else◌}
 use Rattle.std.specs.Option.{is_some}
 use Rattle.std.specs.FinMap.{get}
 use Rattle.std.specs.Str.{bytes_eq}
-use Rattle.std.proofs.Common.{ap, sym, ◌∙◌, arith}
+use Rattle.std.proofs.Common.{ap, ◌∙◌, arith}
 use Rattle.std.proofs.lemmas.Bool.{eqb-true}
 use Rattle.std.proofs.lemmas.Nat.{mod-mul-add}
 use Rattle.std.proofs.lemmas.Slice.Eq.{bytes_eq-Decides}
@@ -15,7 +15,7 @@ use Rattle.ar_space.specs.declared.refusal.RoutingTableFault.TheVariants.{NotALi
 use Rattle.ar_space.specs.declared.refusal.ValueFault.TheVariants.{WrongType}
 use Rattle.ar_space.specs.Outcome.{Outcome}
 use Rattle.ar_space.specs.Outcome as outcomes
-use Rattle.ar_space.specs.Change.{Change, give, settle, go_on, ◌>>=◌}
+use Rattle.ar_space.specs.Change.{Change, give, settle, ◌>>=◌}
 use Rattle.aml_path.specs.declared.segment.Seg.{Seg}
 use Rattle.aml_path.specs.Text.{text_of}
 use Rattle.aml_path.proofs.Segments.{seg_is}
@@ -39,11 +39,10 @@ use Rattle.acpi_resources.specs.Current.{current_of}
 use Rattle.acpi_resources.specs.Offers.{possible_as}
 use Rattle.acpi_resources.specs.Records.{InterruptOffer}
 use Rattle.acpi_resources.specs.Settings.{setting_of}
-use Rattle.acpi_prt.specs.declared.pin.Pin.{Pin}
 use Rattle.acpi_prt.specs.Children.{child_named}
-use Rattle.acpi_prt.specs.Entries.{list_of, entries_of}
+use Rattle.acpi_prt.specs.Entries.{entries_of}
 use Rattle.acpi_prt.specs.Finding.{target_or, followed, device_or_not, device_in, method_or_not, id_or_not, id_in}
-use Rattle.acpi_prt.specs.Links.{device_at, id_at, is_link_id, link_id_or_not, link_at}
+use Rattle.acpi_prt.specs.Links.{device_at, id_at, link_id_or_not, link_at}
 use Rattle.acpi_prt.specs.RoutingTables.{pins_from, routing_table}
 use Rattle.acpi_links.specs.Answered.{bytes_in, numbers_in, numbers_of}
 use Rattle.acpi_links.specs.ObjectNames.{sta, prs, crs, srs}
@@ -253,6 +252,23 @@ no_entries (given.Package parts) other = absurd (other parts refl)
 no_entries (given.Named p) other = refl
 no_entries given.Reference other = refl
 
+bad_numbers_are : (bytes : List ℕ) (e : Refusal) → current_of bytes ≡ Err e → numbers_of (Some (given.Bytes bytes)) ≡ Err e
+unfolding numbers_in
+bad_numbers_are bytes e is = bound_on (bytes_in (given.Bytes bytes)) bytes _ refl ∙ bound_off (current_of bytes) e _ is
+
+no_bytes : (g : Given) → ((bytes : List ℕ) → g ≡ given.Bytes bytes → ⊥) → bytes_in g ≡ Err (refusal.Value WrongType)
+no_bytes given.Nothing other = refl
+no_bytes (given.Integer n) other = refl
+no_bytes (given.Text text) other = refl
+no_bytes (given.Bytes bytes) other = absurd (other bytes refl)
+no_bytes (given.Package parts) other = refl
+no_bytes (given.Named p) other = refl
+no_bytes given.Reference other = refl
+
+no_numbers_are : (g : Given) → ((bytes : List ℕ) → g ≡ given.Bytes bytes → ⊥) → numbers_of (Some g) ≡ Err (refusal.Value WrongType)
+unfolding numbers_in
+no_numbers_are g other = bound_off (bytes_in g) (refusal.Value WrongType) _ (no_bytes g other)
+
 module _ {S : Type 0} (accesses : Accesses S) where
   device_at_is : (p : List Seg) (x : Outcome (List Seg)) (m : MachineState S) → device_in m.world.names.map p ≡ x → device_at p m ≡ (x, m)
   unfolding device_at
@@ -342,6 +358,13 @@ module _ {S : Type 0} (accesses : Accesses S) where
       → possible_resources accesses link m ≡ (possible_as Taken bytes, after)
   wide_offered link m after bytes is wide = bytes_offered link m after bytes is ∙ ap (λ (f : Profile). (possible_as (exclusives_in f) bytes, after)) wide
 
+  pub wrong_offer_told : (link : List Seg) (m after : MachineState S) (g : Given) → ObjectAnswers accesses (link ++ possible_settings ∷ []) [] m (Ok (Some g)) after → ((bytes : List ℕ) → g ≡ given.Bytes bytes → ⊥)
+      → possible_resources accesses link m ≡ (Err (refusal.Value WrongType), after)
+  unfolding possible_resources
+  wrong_offer_told link m after g is other =
+      answered_on (child_evaluated accesses link prs []) (Some g) _ m after (object_told (link ++ possible_settings ∷ []) [] m after (Ok (Some g)) is)
+      ∙ settled_off (offered_bytes link (Some g)) (refusal.Value WrongType) _ after (no_bytes g other)
+
   pub not_offered : (link : List Seg) (m after : MachineState S) → ObjectAnswers accesses (link ++ possible_settings ∷ []) [] m (Ok None) after → possible_resources accesses link m ≡ (Err (refusal.Routing (NoOffer (text_of link))), after)
   unfolding possible_resources
   not_offered link m after is =
@@ -358,6 +381,20 @@ module _ {S : Type 0} (accesses : Accesses S) where
   current_told link m after bytes numbers is so =
       answered_on (child_evaluated accesses link crs []) (Some (given.Bytes bytes)) _ m after (object_told (link ++ current_settings ∷ []) [] m after (Ok (Some (given.Bytes bytes))) is)
       ∙ ap (λ (x : Outcome (Option (List ℕ))). (x, after)) (numbers_are bytes numbers so)
+
+  pub bad_current_told : (link : List Seg) (m after : MachineState S) (bytes : List ℕ) (e : Refusal) → ObjectAnswers accesses (link ++ current_settings ∷ []) [] m (Ok (Some (given.Bytes bytes))) after → current_of bytes ≡ Err e
+      → current_resources accesses link m ≡ (Err e, after)
+  unfolding current_resources settle
+  bad_current_told link m after bytes e is so =
+      answered_on (child_evaluated accesses link crs []) (Some (given.Bytes bytes)) _ m after (object_told (link ++ current_settings ∷ []) [] m after (Ok (Some (given.Bytes bytes))) is)
+      ∙ ap (λ (x : Outcome (Option (List ℕ))). (x, after)) (bad_numbers_are bytes e so)
+
+  pub wrong_current_told : (link : List Seg) (m after : MachineState S) (g : Given) → ObjectAnswers accesses (link ++ current_settings ∷ []) [] m (Ok (Some g)) after → ((bytes : List ℕ) → g ≡ given.Bytes bytes → ⊥)
+      → current_resources accesses link m ≡ (Err (refusal.Value WrongType), after)
+  unfolding current_resources settle
+  wrong_current_told link m after g is other =
+      answered_on (child_evaluated accesses link crs []) (Some g) _ m after (object_told (link ++ current_settings ∷ []) [] m after (Ok (Some g)) is)
+      ∙ ap (λ (x : Outcome (Option (List ℕ))). (x, after)) (no_numbers_are g other)
 
   pub no_current_told : (link : List Seg) (m after : MachineState S) → ObjectAnswers accesses (link ++ current_settings ∷ []) [] m (Ok None) after → current_resources accesses link m ≡ (Ok None, after)
   unfolding current_resources settle

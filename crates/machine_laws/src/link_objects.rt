@@ -56,8 +56,9 @@ pub fn a_link_is_present_by_its_status<S>()
 
 /// What a link device may be set to is what the buffer of its `_PRS` offers (ACPI 6.5, 6.2.12), exclusive offers taken
 /// in the wide profile alone; without `_PRS` it offers nothing, `NoOffer`. What it is set to are the numbers in the
-/// buffer of its `_CRS` (6.2.2), if there is one. It is set by its `_SRS` (6.2.16), if there is one, with the setting
-/// as the one argument. What refuses one of these refuses the call. Another name is refused by this.
+/// buffer of its `_CRS` (6.2.2), if there is one. No other value is taken, `WrongType`. It is set by its `_SRS`
+/// (6.2.16), if there is one, with the setting as the one argument. What refuses one of these refuses the call. Another
+/// name is refused by this.
 pub fn links_are_asked_by_their_objects<S>()
     ensures core { (accesses : Accesses S) (link : List Seg) (m after : MachineState S) (bytes : List ℕ) →
         ObjectAnswers accesses (link ++ possible_settings ∷ []) [] m (Ok (Some (given.Bytes bytes))) after →
@@ -65,6 +66,10 @@ pub fn links_are_asked_by_their_objects<S>()
     ensures wide { (accesses : Accesses S) (link : List Seg) (m after : MachineState S) (bytes : List ℕ) →
         ObjectAnswers accesses (link ++ possible_settings ∷ []) [] m (Ok (Some (given.Bytes bytes))) after →
         after.world.profile ≡ Wide → possible_resources accesses link m ≡ (possible_as Taken bytes, after) }
+    ensures wrong_offer { (accesses : Accesses S) (link : List Seg) (m after : MachineState S) (g : Given) →
+        ObjectAnswers accesses (link ++ possible_settings ∷ []) [] m (Ok (Some g)) after →
+        ((bytes : List ℕ) → g ≡ given.Bytes bytes → ⊥) →
+        possible_resources accesses link m ≡ (Err (Value WrongType), after) }
     ensures no_offer { (accesses : Accesses S) (link : List Seg) (m after : MachineState S) →
         ObjectAnswers accesses (link ++ possible_settings ∷ []) [] m (Ok None) after →
         possible_resources accesses link m ≡ (Err (Routing (NoOffer (text_of link))), after) }
@@ -74,6 +79,14 @@ pub fn links_are_asked_by_their_objects<S>()
     ensures current { (accesses : Accesses S) (link : List Seg) (m after : MachineState S) (bytes numbers : List ℕ) →
         ObjectAnswers accesses (link ++ current_settings ∷ []) [] m (Ok (Some (given.Bytes bytes))) after →
         current_of bytes ≡ Ok numbers → current_resources accesses link m ≡ (Ok (Some numbers), after) }
+    ensures bad_current { (accesses : Accesses S) (link : List Seg) (m after : MachineState S) (bytes : List ℕ)
+        (e : Refusal) →
+        ObjectAnswers accesses (link ++ current_settings ∷ []) [] m (Ok (Some (given.Bytes bytes))) after →
+        current_of bytes ≡ Err e → current_resources accesses link m ≡ (Err e, after) }
+    ensures wrong_current { (accesses : Accesses S) (link : List Seg) (m after : MachineState S) (g : Given) →
+        ObjectAnswers accesses (link ++ current_settings ∷ []) [] m (Ok (Some g)) after →
+        ((bytes : List ℕ) → g ≡ given.Bytes bytes → ⊥) →
+        current_resources accesses link m ≡ (Err (Value WrongType), after) }
     ensures no_current { (accesses : Accesses S) (link : List Seg) (m after : MachineState S) →
         ObjectAnswers accesses (link ++ current_settings ∷ []) [] m (Ok None) after →
         current_resources accesses link m ≡ (Ok None, after) }

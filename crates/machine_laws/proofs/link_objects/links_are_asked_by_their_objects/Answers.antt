@@ -1,4 +1,4 @@
-use Rattle.machine_laws.proofs.LinksTold.{core_offered, wide_offered, not_offered, offer_refused, current_told, no_current_told, current_refused, set_told, not_set_told, set_refused}
+use Rattle.machine_laws.proofs.LinksTold.{core_offered, wide_offered, wrong_offer_told, not_offered, offer_refused, current_told, bad_current_told, wrong_current_told, no_current_told, current_refused, set_told, not_set_told, set_refused}
 use Rattle.machine_laws.proofs.link_objects.links_are_asked_by_their_objects.Goals as goal
 
 pub returns-clause-core : goal.returns-clause-core
@@ -30,3 +30,12 @@ returns-clause-not_set g c = not_set_told
 
 pub returns-clause-refused_set : goal.returns-clause-refused_set
 returns-clause-refused_set g c = set_refused
+
+pub returns-clause-wrong_offer : goal.returns-clause-wrong_offer
+returns-clause-wrong_offer g c = wrong_offer_told
+
+pub returns-clause-bad_current : goal.returns-clause-bad_current
+returns-clause-bad_current g c = bad_current_told
+
+pub returns-clause-wrong_current : goal.returns-clause-wrong_current
+returns-clause-wrong_current g c = wrong_current_told
