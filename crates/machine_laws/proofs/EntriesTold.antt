@@ -16,7 +16,7 @@ use Rattle.acpi_machine.specs.MachineStates.{MachineState}
 use Rattle.acpi_prt.specs.declared.pin.Pin.{Pin}
 use Rattle.acpi_prt.specs.declared.pin.Route.{Route}
 use Rattle.acpi_prt.specs.declared.pin.Route.TheVariants.{Wired, Link}
-use Rattle.acpi_prt.specs.Entries.{list_of, word_of, source_tested, letter_of, no_index, device_number}
+use Rattle.acpi_prt.specs.Entries.{list_of, word_of, source_tested, pin_tested, no_index, device_number}
 use Rattle.acpi_prt.specs.Links.{link_at}
 use Rattle.acpi_prt.specs.RoutingTables.{linked, route_of, pin_with, pin_among, pin_of}
 use Rattle.machine_laws.specs.RoutingEntries.{entry_of, IsAddress, IsWord, word, IsSource, no_link, link, IsNoEntry, no_package, not_four, wrong_address, wrong_pin, wrong_source, wrong_index}
@@ -91,11 +91,11 @@ no_source_told (given.Package gs) none = refl
 no_source_told (given.Named p) none = absurd (none (link p))
 no_source_told given.Reference none = refl
 
-letter_told : (pin : ℕ) → pin < 4 → letter_of pin ≡ Ok pin
-letter_told pin few = ap (λ (b : Bool). if b then Err (RoutingTable BadPin) else Ok pin) (is_not_less 3 pin (omega arith))
+pin_told : (pin : ℕ) → pin < 4 → pin_tested pin ≡ Ok pin
+pin_told pin few = ap (λ (b : Bool). if b then Err (RoutingTable BadPin) else Ok pin) (is_not_less 3 pin (omega arith))
 
-no_letter : (pin : ℕ) → 4 ≤ pin → letter_of pin ≡ Err (RoutingTable BadPin)
-no_letter pin more = ap (λ (b : Bool). if b then Err (RoutingTable BadPin) else Ok pin) (is_less 3 pin (omega arith))
+no_pin_past_d : (pin : ℕ) → 4 ≤ pin → pin_tested pin ≡ Err (RoutingTable BadPin)
+no_pin_past_d pin more = ap (λ (b : Bool). if b then Err (RoutingTable BadPin) else Ok pin) (is_less 3 pin (omega arith))
 
 index_told : (index : ℕ) → 0 < index → no_index index ≡ Err (RoutingTable SourceIndex)
 index_told index some = ap (λ (b : Bool). unit_if b (RoutingTable SourceIndex)) (is_not_zero index some)
@@ -153,20 +153,20 @@ module _ {S : Type 0} (accesses : Accesses S) where
   bad_entry m = (Err (RoutingTable BadEntry), m)
 
   -- from its letter on, where all four parts may be what they are
-  abbrev from_letter : ℕ → ℕ → Given → ℕ → Change (MachineState S) (Option Pin)
-  from_letter address pin source index = settle (letter_of pin) >>= (λ letter. route_of accesses source index >>= (λ route. give (Some (record { number = device_number address; pin = letter; route = route }))))
+  abbrev from_pin : ℕ → ℕ → Given → ℕ → Change (MachineState S) (Option Pin)
+  from_pin address pin source index = settle (pin_tested pin) >>= (λ letter. route_of accesses source index >>= (λ route. give (Some (record { number = device_number address; pin = letter; route = route }))))
 
-  parts_told : (a p s i : Given) (address pin index : ℕ) (m : MachineState S) → word_of a ≡ Ok address → word_of p ≡ Ok pin → source_tested s ≡ Ok tt → word_of i ≡ Ok index → pin_with accesses a p s i m ≡ from_letter address pin s index m
+  parts_told : (a p s i : Given) (address pin index : ℕ) (m : MachineState S) → word_of a ≡ Ok address → word_of p ≡ Ok pin → source_tested s ≡ Ok tt → word_of i ≡ Ok index → pin_with accesses a p s i m ≡ from_pin address pin s index m
   unfolding pin_with
   parts_told a p s i address pin index m ha hp hs hi =
       settled_on (word_of a) address _ m ha ∙ (settled_on (word_of p) pin _ m hp ∙ (settled_on (source_tested s) tt _ m hs ∙ settled_on (word_of i) index _ m hi))
 
   -- where the pin leads somewhere
   route_told : (address device function pin : ℕ) (source : Given) (index : ℕ) (route : Route) (m after : MachineState S) → IsAddress address device function → pin < 4 → route_of accesses source index m ≡ (Ok route, after)
-      → from_letter address pin source index m ≡ (Ok (Some (record { number = device; pin = pin; route = route })), after)
+      → from_pin address pin source index m ≡ (Ok (Some (record { number = device; pin = pin; route = route })), after)
   unfolding give
   route_told address device function pin source index route m after at few is =
-      settled_on (letter_of pin) pin _ m (letter_told pin few) ∙ (answered_on (route_of accesses source index) route _ m after is ∙ ap (λ (d : ℕ). told_of d pin route after) (device_told address device function at))
+      settled_on (pin_tested pin) pin _ m (pin_told pin few) ∙ (answered_on (route_of accesses source index) route _ m after is ∙ ap (λ (d : ℕ). told_of d pin route after) (device_told address device function at))
 
   linked_is : (name found : List Seg) (m after : MachineState S) → link_at accesses name m ≡ (Ok found, after) → linked accesses name 0 m ≡ (Ok (Link found), after)
   unfolding linked give
@@ -245,7 +245,7 @@ module _ {S : Type 0} (accesses : Accesses S) where
       → pin_of accesses (entry_of (given.Integer address) (given.Integer pin) source (given.Integer index)) m ≡ (Err (RoutingTable BadPin), m)
   no_pin_refused address pin index source m fits more small is few =
       parts_told (given.Integer address) (given.Integer pin) source (given.Integer index) address pin index m (word_told address fits) (word_told pin small) (source_told source is) (word_told index few)
-      ∙ settled_off (letter_of pin) (RoutingTable BadPin) _ m (no_letter pin more)
+      ∙ settled_off (pin_tested pin) (RoutingTable BadPin) _ m (no_pin_past_d pin more)
 
   -- a route that is refused refuses the entry
   route_refused : (address pin index : ℕ) (name : List Seg) (m after : MachineState S) (e : Refusal) → address < 2 ^ 32 → pin < 4 → index < 2 ^ 32 → linked accesses name index m ≡ (Err e, after)
@@ -253,7 +253,7 @@ module _ {S : Type 0} (accesses : Accesses S) where
   route_refused address pin index name m after e fits few small is =
       let word_pin : pin < 4294967296 = omega (arith, few) in
       parts_told (given.Integer address) (given.Integer pin) (given.Named name) (given.Integer index) address pin index m (word_told address fits) (word_told pin word_pin) refl (word_told index small)
-      ∙ (settled_on (letter_of pin) pin _ m (letter_told pin few) ∙ answered_off (linked accesses name index) e _ m after is)
+      ∙ (settled_on (pin_tested pin) pin _ m (pin_told pin few) ∙ answered_off (linked accesses name index) e _ m after is)
 
   no_link_is : (index : ℕ) (name : List Seg) (m after : MachineState S) (e : Refusal) → link_at accesses name m ≡ (Err e, after) → linked accesses name index m ≡ (Err e, after)
   unfolding linked
