@@ -13,6 +13,7 @@ pub mod ArgumentsAndAnswersPreserve
 pub mod ArgumentsHanded
 pub mod ArgumentsInTurn
 pub mod ArgumentsReferring
+pub mod AritiesKept
 pub mod AskedBridges
 pub mod BanksDeclared
 pub mod BanksSelected

@@ -69,6 +69,7 @@ mod values;
 
 pub use arities::a_path_takes_the_arguments_that_are_told_last;
 pub use arities::a_table_is_read_with_what_was_told_before_it;
+pub use arities::evaluation_keeps_the_arguments_that_are_told;
 pub use bank_declarations::a_bank_field_is_declared_in_order;
 pub use bank_fields::a_bank_is_selected_before_each_unit;
 pub use bank_fields::a_bank_is_selected_by_a_write_of_its_field;
