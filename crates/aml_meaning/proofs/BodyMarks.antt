@@ -1,9 +1,11 @@
 -- The body of a control method that is read over a world, which it leaves alone; and what stays kept of bodies.
-use Rattle.std.specs.Prelude.{◌≡◌, ℕ, List, [], ◌∷◌, Bool, true, false, Some, Ok, Err, cond}
+use Rattle.std.specs.Prelude.{◌≡◌, ℕ, List, [], ◌∷◌, Bool, true, false, Some, Result, Ok, Err, OnOk, OnErr, cond}
 use Rattle.std.proofs.Common.{◌∙◌, ap, sym, subst, refl}
 use Rattle.std.specs.BTreeMap.{insert_entry}
 use Rattle.std.specs.Map.{lookup}
-use Rattle.std.specs.Ordering.{Ordering, Less, Equal, Greater, match_ordering}
+use Rattle.std.specs.declared.cmp.Ordering.{Ordering}
+use Rattle.std.specs.declared.cmp.Ordering.TheVariants.{Less, Equal, Greater}
+use Rattle.std.specs.Ordering.{match_ordering}
 use Rattle.ar_space.specs.declared.integer_width.IntegerWidth.{IntegerWidth}
 use Rattle.ar_space.specs.Outcome.{Outcome, Answers, seen}
 use Rattle.ar_space.specs.Change.{Does}
@@ -72,7 +74,7 @@ module _ (arities : List Arity) (test : List Seg → Bool) where
 module _ (arities : List Arity) (path : List Seg) (b : ScannedBody) (read : IsScanned arities b) where
   put_before : (r : Ordering) (e : List Seg × ScannedBody) (es : List (List Seg × ScannedBody)) → AreKept arities (insert_entry path_cmp es path b) → IsScanned arities e.1 → AreKept arities es → AreKept arities (match_ordering r ((path, b) ∷ e ∷ es) ((e.0, b) ∷ es) (e ∷ insert_entry path_cmp es path b))
   unfolding AreKept
-  put_before Less e es later h hs = (read, h, hs)
+  put_before Less e es later h hs = (read, (h, hs))
   put_before Equal e es later h hs = (read, hs)
   put_before Greater e es later h hs = (h, later)
 
@@ -93,10 +95,11 @@ kept_read test k b levels path body known now same h is deep at bytes =
 scanned_now : (b : ScannedBody) (levels : ℕ) (path : List Seg) (body : List ℕ) (marks : List Mark) (arities : List Arity) → record { path = path; body = body; levels = levels; marks = marks } ≡ b → reading_within levels body path true arities ≡ Ok (trees_by marks body) → IsScanned arities b
 scanned_now b levels path body marks arities is read = subst (IsScanned arities) is read
 
--- what is kept with that of a scan now
-pub newly_kept : (b : ScannedBody) (k k1 : List (List Seg × ScannedBody)) (levels : ℕ) (at path : List Seg) (body : List ℕ) (marks : List Mark) (known now : Known) → known ≡ now → Answers (Ok b) (Ok (record { path = path; body = body; levels = levels; marks = marks })) → k1 ≡ insert_entry path_cmp k at b
+-- what is kept with that of a scan now, or without it where there is no memory
+pub newly_kept : {A B : Type 0} (r : Result A B) (b : ScannedBody) (k k1 : List (List Seg × ScannedBody)) (levels : ℕ) (at path : List Seg) (body : List ℕ) (marks : List Mark) (known now : Known) → known ≡ now → Answers (Ok b) (Ok (record { path = path; body = body; levels = levels; marks = marks })) → OnOk r (k1 ≡ insert_entry path_cmp k at b) → OnErr r (k1 ≡ k)
     → reading_within levels body path true (known_arities now) ≡ Ok (trees_by marks body) → AreKept (known_arities known) k → AreKept (known_arities known) k1
-newly_kept b k k1 levels at path body marks known now same h put read kept =
+newly_kept (Err e) b k k1 levels at path body marks known now same h put stays read kept = subst (AreKept (known_arities known)) (sym stays) kept
+newly_kept (Ok a) b k k1 levels at path body marks known now same h put stays read kept =
     let made : ◌≡◌ {A = ScannedBody} (record { path = path; body = body; levels = levels; marks = marks }) b = cc (h.is tt) in
     let scanned : IsScanned (known_arities known) b = scanned_now b levels path body marks (known_arities known) made (ap (λ w. reading_within levels body path true (known_arities w)) same ∙ read) in
     subst (AreKept (known_arities known)) (sym put) (put_kept (known_arities known) at b scanned k kept)

@@ -87,7 +87,8 @@ impl Declarations {
         ensures memory { IsOkUnless result OutOfMemory }
     {
         let scanned = ScannedBody::shared(alloc, levels, path, body, marks)?;
-        drop(self.kept.insert(path.copy(alloc)?, scanned)?);
+        let path = path.copy(alloc)?;
+        drop(self.kept.insert(path, scanned)?);
         Ok(())
     }
 }
