@@ -5,7 +5,7 @@ ghost use Rattle.ar_space.specs.Change.{Does};
 ghost use Rattle.ar_space.specs.Outcome.{Answers, NotMemory, seen};
 ghost use Rattle.aml_meaning.specs.Calling.{ending, with_steps};
 ghost use Rattle.aml_meaning.specs.Fields.{bus_behind, bus_behind_all, inherited};
-ghost use Rattle.aml_meaning.specs.PciFunctions.{or_behind, behind_asked};
+ghost use Rattle.aml_meaning.specs.PciFunctions.{behind_asked};
 ghost use Rattle.acpi_machine.specs.Stops.{Made};
 ghost use Rattle.acpi_machine.specs.Buses.{prt, is_itself, bridges_down_to, bus_numbered};
 ghost use Rattle.acpi_machine.specs.Buses.{address_part, bus_of_table, bus_answered, bus_found};
@@ -13,9 +13,9 @@ ghost use Rattle.acpi_machine.specs.Buses.{address_part, bus_of_table, bus_answe
 use crate::calls::SPENT;
 use crate::machine::Machine;
 use aml_frames::ask_integer;
-use aml_meaning::{Profile, Running, Sought, World, WorldState, adr, base_bus, segment_group};
+use aml_meaning::{Running, Sought, World, WorldState, adr, base_bus, or_behind, segment_group};
 use aml_path::{Path, Seg};
-use ar_space::{EvaluationFault, FieldFault, Refusal, Space};
+use ar_space::{FieldFault, Refusal, Space};
 use std::alloc::Global;
 use std::collections::VecDeque;
 
@@ -146,18 +146,6 @@ fn ask_behind<S>(world: &WorldState<S>, bridge: Option<Path>) -> Result<(), Refu
     ensures { Does result world.now (behind_asked bridge) world.now }
 {
     or_behind(world.profile(), bridge)
-}
-
-fn or_behind(profile: Profile, bridge: Option<Path>) -> Result<(), Refusal>
-    ensures { Answers result (or_behind profile bridge) }
-{
-    match profile {
-        Profile::Wide => Ok(()),
-        Profile::Core => match bridge {
-            None => Ok(()),
-            Some(_) => Err(Refusal::Evaluation(EvaluationFault::DeepPci)),
-        },
-    }
 }
 
 /// The bridges from the nearest base bus number down to a device, which is itself among them where it is one.

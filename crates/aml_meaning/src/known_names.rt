@@ -17,6 +17,7 @@ use aml_objects::{Body, Entry, NamedObject, NodeId};
 use aml_path::Path;
 use ar_space::Refusal;
 use std::alloc::Global;
+use std::collections::BTreeMap;
 use std::marker::Model;
 use std::mem;
 
@@ -32,13 +33,13 @@ pub(crate) struct ScannedBody {
 
 /// The names that are declared, and how many arguments they take as the tables tell.
 ///
-/// How a body reads is up to the arguments that names take. So the marks of the body that was scanned last are kept,
-/// until another body is scanned or names come to take other arguments. What is kept is not seen.
+/// How a body reads is up to the arguments that names take. So the marks of each body that was scanned are kept, by the
+/// path of its control method, until names come to take other arguments. What is kept is not seen.
 #[derive(Drop)]
 pub(crate) struct Declarations {
     pub(crate) names: Names,
     pub(crate) arities: Arities,
-    pub(crate) kept: Option<ScannedBody>,
+    pub(crate) kept: BTreeMap<Path, ScannedBody>,
 }
 
 impl Model for Declarations {
@@ -48,11 +49,11 @@ impl Model for Declarations {
 
     ghost coded = { known_code };
 
-    ghost use Rattle.aml_meaning.specs.KeptBody.{IsKept};
+    ghost use Rattle.aml_meaning.specs.KeptBodies.{AreKept};
 
     ghost view = { λ d. record { names = d.names; arities = d.arities } };
 
-    ghost invariant = { λ d. IsKept (known_arities (record { names = d.names; arities = d.arities })) d.kept };
+    ghost invariant = { λ d. AreKept (known_arities (record { names = d.names; arities = d.arities })) d.kept.entries };
 }
 
 impl Declarations {
@@ -64,7 +65,7 @@ impl Declarations {
         Ok(Declarations {
             names: Names::new(alloc)?,
             arities: Arities::new(alloc),
-            kept: None,
+            kept: BTreeMap::new(alloc),
         })
     }
 
@@ -198,16 +199,16 @@ impl Declarations {
 }
 
 /// Keeps nothing any more.
-fn forget(kept: &mut Option<ScannedBody>)
-    ensures { kept.new ≡ None }
+fn forget(kept: &mut BTreeMap<Path, ScannedBody>)
+    ensures { kept.new.entries ≡ [] }
 {
-    drop(kept.take());
+    kept.clear();
 }
 
 /// Keeps what is kept, or nothing any more.
-fn keep_where(kept: &mut Option<ScannedBody>, stays: bool)
-    ensures stays { stays ≡ true → kept.new ≡ kept.old }
-    ensures goes { stays ≡ false → kept.new ≡ None }
+fn keep_where(kept: &mut BTreeMap<Path, ScannedBody>, stays: bool)
+    ensures stays { stays ≡ true → kept.new.entries ≡ kept.old.entries }
+    ensures goes { stays ≡ false → kept.new.entries ≡ [] }
 {
     if !stays {
         forget(kept);

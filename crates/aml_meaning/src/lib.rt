@@ -63,7 +63,7 @@ pub use kinds::{kind_of, target_kind};
 pub use name_use::NameUse;
 pub use object_type::{ObjectType, Referent};
 pub use passed_over::{PassedItem, PassedOver, is_passable};
-pub use pci_functions::{Sought, adr, base_bus, segment_group};
+pub use pci_functions::{Sought, adr, base_bus, or_behind, segment_group};
 pub use profile::Profile;
 pub use regions::{RegionField, RegionSpace, integer_only, pci_space, space_numbered};
 pub use running::Running;

@@ -188,7 +188,9 @@ fn or_deep(near: Option<Path>) -> Result<Path, Refusal>
     }
 }
 
-fn or_behind(profile: Profile, bridge: Option<Path>) -> Result<(), Refusal>
+/// Whether what lies behind this bridge is reached in a profile: where there is none, and in the wide profile. Else it is
+/// refused as `DeepPci`.
+pub fn or_behind(profile: Profile, bridge: Option<Path>) -> Result<(), Refusal>
     ensures { Answers result (or_behind profile bridge) }
 {
     match profile {
