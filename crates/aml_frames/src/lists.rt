@@ -12,7 +12,7 @@ ghost use Rattle.aml_frames.specs.Weights.{next_weight, charged};
 
 use crate::frames::{Control, Entry, Frame, Items, Next};
 use crate::passing::{passes_over, wait_for_list_item};
-use crate::short_items::item_integer;
+use crate::short_items::try_item;
 use crate::stack::{end_call, follow};
 use crate::terms::begin_term;
 use crate::turns::end_list;
@@ -56,7 +56,8 @@ pub(crate) fn step_items<S: Space>(
     if passes_over(run, &stack.act) {
         return wait_for_list_item(alloc, stack, behind);
     }
-    match item_integer(run, &mut stack.act, items.levels) {
+    // Some: the item was done whole, and a list has no use for its integer. None: nothing has changed.
+    match try_item(run, &mut stack.act, items.levels) {
         Some(_) => go_to_items(behind),
         None => {
             let next = begin_term(alloc, run, &mut stack.act, items.levels)?;

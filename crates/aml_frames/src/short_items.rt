@@ -2,7 +2,7 @@
 //! or what an operator gives of two of them (ACPI 6.5, 19.6).
 //!
 //! Each function does its term whole, or answers none. Then steps may have been taken and the place may have moved, and
-//! nothing else has changed: `item_integer` gives both back.
+//! nothing else has changed: `try_item` gives both back.
 ghost use Rattle.std.specs.Prelude.{◌≡◌, ◌≤◌, ◌<◌, Ok, None, IfSome};
 ghost use Rattle.ar_space.specs.Change.{Does};
 ghost use Rattle.aml_objects.specs.declared.value.Value.TheVariants as values;
@@ -22,10 +22,10 @@ use aml_convert::BinaryOperator;
 use aml_meaning::{Count, OperatorKind, Running, TwoOperands};
 use ar_space::Space;
 
-/// The integer that an item gives which stands next, where it is done at once. It takes the steps of its term and of
-/// its operands. In every other case nothing changes.
+/// Does the whole term of the item that stands next at once, its store with it, and gives the integer of the term. It
+/// takes the steps of the term and of its operands. In every other case it answers none, and nothing changes.
 #[tactic(auto, using(crate::proofs::ShortOperations::giving, crate::proofs::ShortOperators::begun))]
-pub(crate) fn item_integer<S: Space>(
+pub(crate) fn try_item<S: Space>(
     run: &mut Running<S>,
     act: &mut Activation,
     levels: u8,
