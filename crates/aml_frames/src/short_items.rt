@@ -69,7 +69,7 @@ fn operator_item<S: Space>(
 {
     match kind {
         OperatorKind::Two(TwoOperands::Integers(operator)) => {
-            two_to_slot(run, act, levels, operator)
+            binary_to_slot(run, act, levels, operator)
         }
         OperatorKind::Count(count) => count_of_slot(run, act, levels, count),
         OperatorKind::Store => store_to_slot(run, act, levels),
@@ -80,7 +80,7 @@ fn operator_item<S: Space>(
 /// As `operator_item`, of an operator on two integers whose target is a local or an argument.
 #[inline(always)]
 #[tactic(auto, using(crate::proofs::ShortItems::items))]
-fn two_to_slot<S: Space>(
+fn binary_to_slot<S: Space>(
     run: &mut Running<S>,
     act: &mut Activation,
     levels: u8,

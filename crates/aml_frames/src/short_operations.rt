@@ -69,7 +69,7 @@ fn operator_integer<S: Space>(
 {
     match kind {
         OperatorKind::Two(TwoOperands::Integers(operator)) => {
-            two_integers(run, act, levels, operator)
+            binary_without_target(run, act, levels, operator)
         }
         OperatorKind::Test(test) => test_of_integers(run, act, levels, test),
         OperatorKind::LogicalNot => not_of_integer(run, act, levels),
@@ -77,10 +77,10 @@ fn operator_integer<S: Space>(
     }
 }
 
-/// The same of an operator with two operands and a target, which is left out.
+/// As `operator_integer`, of an operator on two integers whose target is left out: a NullName stands there.
 #[inline(always)]
 #[tactic(auto, using(crate::proofs::ShortOperations::integers))]
-fn two_integers<S: Space>(
+fn binary_without_target<S: Space>(
     run: &mut Running<S>,
     act: &mut Activation,
     levels: u8,
@@ -111,7 +111,7 @@ fn two_integers<S: Space>(
     Some(number)
 }
 
-/// The same of a test of two operands.
+/// As `operator_integer`, of a test of two operands.
 #[inline(always)]
 #[tactic(auto, using(crate::proofs::ShortOperations::integers))]
 fn test_of_integers<S: Space>(
@@ -137,7 +137,7 @@ fn test_of_integers<S: Space>(
     Some(run.world.test_integers(test, x, y))
 }
 
-/// The same of LNot.
+/// As `operator_integer`, of LNot.
 #[inline(always)]
 #[tactic(auto, using(crate::proofs::ShortOperations::integers))]
 fn not_of_integer<S: Space>(run: &mut Running<S>, act: &mut Activation, levels: u8) -> Option<u64>
