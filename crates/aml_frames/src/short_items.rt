@@ -15,8 +15,8 @@ ghost use Rattle.aml_frames.specs.Follow.{term_run, operator_run, behind_operato
 ghost use Rattle.aml_frames.specs.Places.{at_place, behind_term};
 
 use crate::activation::Activation;
+use crate::short_opcodes::take_operator;
 use crate::short_operations::operation_integer;
-use crate::short_operators::take_operator;
 use crate::short_terms::{count_slot, put_integer_to_slot, short_integer};
 use aml_convert::BinaryOperator;
 use aml_meaning::{Count, OperatorKind, Running, TwoOperands};

@@ -15,7 +15,7 @@ ghost use Rattle.aml_frames.specs.Follow.{term_run, operator_run, behind_operato
 ghost use Rattle.aml_frames.specs.Places.{at_place, behind_term};
 
 use crate::activation::Activation;
-use crate::short_operators::take_operator;
+use crate::short_opcodes::take_operator;
 use crate::short_terms::short_integer;
 use aml_convert::BinaryOperator;
 use aml_meaning::{OperatorKind, Running, Test, TwoOperands};
