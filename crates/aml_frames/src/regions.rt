@@ -75,15 +75,15 @@ fn begin_operation_region<S: Space>(run: &Running<S>, act: &mut Activation, leve
 {
     let name = act.position();
     act.over_name();
-    let space = next_byte(act);
+    let space = region_space(act);
     act.over(1);
     let part = DeclarationPart::RegionOffset(space, name, levels);
     Next::Term(levels, Frame::Declaration(part))
 }
 
-/// The byte that stands next.
+/// The address space of an operation region: the byte that stands next.
 #[tactic(auto, using(crate::proofs::DeclaringFields::bytes))]
-fn next_byte(act: &Activation) -> u8
+fn region_space(act: &Activation) -> u8
     ensures { result ≡ (an_integer 1 act.now.place).0 % 256 }
 {
     act.first()
