@@ -300,7 +300,7 @@ impl Activation {
 
     /// The next byte, or zero.
     #[inline(always)]
-    pub fn first(&self) -> u8
+    pub fn next_byte(&self) -> u8
         ensures { result ≡ first self.now.place.rest }
     {
         first_between(self.bytes.as_slice(), self.position.at, self.position.end)
@@ -317,7 +317,7 @@ impl Activation {
     /// So many bytes on, or to the end.
     #[inline(always)]
     #[tactic(auto, using(crate::proofs::Between::moving))]
-    pub fn over(&mut self, count: usize)
+    pub fn advance(&mut self, count: usize)
         ensures { self.new ≡ at_place self.old (over count self.old.place) }
     {
         let end = self.position.end.min(self.bytes.as_slice().len());

@@ -136,8 +136,8 @@ fn lay_behind_flags<S: Space>(
     ensures behind { act.new ≡ at_position act.old list.1 }
 {
     let (levels, outer) = list;
-    let flags = u64::from(act.first());
-    act.over(1);
+    let flags = u64::from(act.next_byte());
+    act.advance(1);
     let elements = act.field_list(levels);
     let flow = lay_fields(alloc, run, act, source, flags, elements);
     act.go_to(outer);

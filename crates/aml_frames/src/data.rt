@@ -115,7 +115,7 @@ fn take_text(alloc: Global, act: &mut Activation) -> Result<Octets, Refusal>
     let bytes = act.rest();
     let length = text_length(bytes);
     let text = copied(alloc, &bytes[..length])?;
-    act.over(length + 1);
+    act.advance(length + 1);
     Ok(text)
 }
 

@@ -340,13 +340,13 @@ fn over_numbers(act: &mut Activation, kind: DeclarationKind)
 {
     match kind {
         DeclarationKind::Processor => {
-            act.over(1);
-            act.over(4);
-            act.over(1);
+            act.advance(1);
+            act.advance(4);
+            act.advance(1);
         }
         DeclarationKind::PowerResource => {
-            act.over(1);
-            act.over(2);
+            act.advance(1);
+            act.advance(2);
         }
         _ => {}
     }

@@ -34,8 +34,8 @@ pub(crate) fn begin_package<S: Space>(
     ensures ends { EndsAt result act.new (at_place act.old (outside_at act.old.place)) }
 {
     let outer = act.open();
-    let count = usize::from(act.first());
-    act.over(1);
+    let count = usize::from(act.next_byte());
+    act.advance(1);
     let filling = unfilled(alloc, act, levels, outer, count);
     Ok(Next::Package(Boxed::new(alloc, filling)?))
 }

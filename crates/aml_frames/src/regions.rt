@@ -76,7 +76,7 @@ fn begin_operation_region<S: Space>(run: &Running<S>, act: &mut Activation, leve
     let name = act.position();
     act.over_name();
     let space = region_space(act);
-    act.over(1);
+    act.advance(1);
     let part = DeclarationPart::RegionOffset(space, name, levels);
     Next::Term(levels, Frame::Declaration(part))
 }
@@ -86,7 +86,7 @@ fn begin_operation_region<S: Space>(run: &Running<S>, act: &mut Activation, leve
 fn region_space(act: &Activation) -> u8
     ensures { result ≡ (an_integer 1 act.now.place).0 % 256 }
 {
-    act.first()
+    act.next_byte()
 }
 
 /// A declaration of which a part was evaluated.

@@ -104,8 +104,8 @@ fn take_byte(act: &mut Activation) -> u8
     ensures byte { result ≡ next_byte act.old }
     ensures behind { act.new ≡ behind_byte act.old }
 {
-    let byte = act.first();
-    act.over(1);
+    let byte = act.next_byte();
+    act.advance(1);
     byte
 }
 

@@ -101,7 +101,7 @@ fn binary_to_slot<S: Space>(
     let Some(y) = operand_integer(run, act, levels) else {
         return None;
     };
-    if act.first() == 0 {
+    if act.next_byte() == 0 {
         return None;
     }
     let Ok(number) = run.world.operate_on_integers(operator, x, y) else {

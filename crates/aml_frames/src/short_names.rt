@@ -121,7 +121,7 @@ pub(crate) fn integer_at_name<S: Space>(
             Ok(None)
         }
         Some(number) => {
-            act.over(SEGMENT_LENGTH);
+            act.advance(SEGMENT_LENGTH);
             Ok(Some(number))
         }
     }
@@ -172,7 +172,7 @@ pub(crate) fn put_integer_at_name<S: Space>(
         return Ok(false);
     };
     if put_node(&mut run.world, id, number)? {
-        act.over(SEGMENT_LENGTH);
+        act.advance(SEGMENT_LENGTH);
         return Ok(true);
     }
     Ok(false)
@@ -203,7 +203,7 @@ pub(crate) fn count_at_name<S: Space>(
     if !run.world.put_integer_at(id, number) {
         return None;
     }
-    act.over(SEGMENT_LENGTH);
+    act.advance(SEGMENT_LENGTH);
     Some(number)
 }
 
@@ -228,8 +228,8 @@ pub(crate) fn acquire_at_name<S: Space>(
     if !run.world.acquire_node(id) {
         return false;
     }
-    act.over(SEGMENT_LENGTH);
-    act.over(TIMEOUT_LENGTH);
+    act.advance(SEGMENT_LENGTH);
+    act.advance(TIMEOUT_LENGTH);
     true
 }
 
@@ -254,6 +254,6 @@ pub(crate) fn release_at_name<S: Space>(
     if !run.world.release_node(id) {
         return false;
     }
-    act.over(SEGMENT_LENGTH);
+    act.advance(SEGMENT_LENGTH);
     true
 }

@@ -66,12 +66,12 @@ pub(crate) fn take_operator<S>(
     if levels == 0 {
         return None;
     }
-    let Some(kind) = operator_at(act.first()) else {
+    let Some(kind) = operator_at(act.next_byte()) else {
         return None;
     };
     if !take_step(run) {
         return None;
     }
-    act.over(1);
+    act.advance(1);
     Some(kind)
 }

@@ -101,13 +101,13 @@ fn binary_without_target<S: Space>(
     let Some(y) = short_integer(run, act, levels) else {
         return None;
     };
-    if act.first() != 0 {
+    if act.next_byte() != 0 {
         return None;
     }
     let Ok(number) = run.world.operate_on_integers(operator, x, y) else {
         return None;
     };
-    act.over(1);
+    act.advance(1);
     Some(number)
 }
 

@@ -165,8 +165,8 @@ fn begin_fatal<S: Space>(
         (statement_run S.accesses (meaning S.accesses) statements.Fatal act.old levels) run.old }
     ensures ends { EndsAt result act.new (behind_statement_at statements.Fatal act.old levels) }
 {
-    act.over(1);
-    act.over(4);
+    act.advance(1);
+    act.advance(4);
     Ok(Next::Term(levels, Frame::Fatal))
 }
 
@@ -252,7 +252,7 @@ fn next_otherwise<S: Space>(
 {
     if act.is_next(ELSE) {
         run.charge()?;
-        act.over(1);
+        act.advance(1);
         begin_else(run, act, levels)
     } else {
         leave(Flow::Next)

@@ -58,7 +58,7 @@ pub(crate) fn use_target<S: Space>(
         }
         TargetUse::Acquire => {
             run.world.acquire(alloc, &target)?;
-            act.over(TIMEOUT_LENGTH);
+            act.advance(TIMEOUT_LENGTH);
             Ok(Next::Flow(Flow::Value(Value::Integer(0))))
         }
         TargetUse::Release => {

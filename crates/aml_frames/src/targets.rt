@@ -68,8 +68,8 @@ fn begin_optional<S: Space>(
         (target_run S.accesses (meaning S.accesses) (optional levels) target_use act.old) run.old }
     ensures ends { EndsAt result act.new (target_ends (optional levels) target_use act.old) }
 {
-    if act.first() == 0 {
-        act.over(1);
+    if act.next_byte() == 0 {
+        act.advance(1);
         use_target(alloc, run, act, StoreTarget::Nowhere, target_use)
     } else {
         begin_super_name(alloc, run, act, levels, target_use)
