@@ -11,7 +11,7 @@ ghost use Rattle.aml_frames.specs.Stack.{then_all, machine, given_up, Goes, stac
 ghost use Rattle.aml_frames.specs.Weights.{next_weight, charged};
 
 use crate::frames::{Control, Entry, Frame, Items, Next};
-use crate::passing::{passes_over, wait_for_list_item};
+use crate::passing::{passes_over, push_passable_item};
 use crate::short_items::try_item;
 use crate::stack::{end_call, follow};
 use crate::terms::begin_term;
@@ -54,7 +54,7 @@ pub(crate) fn step_items<S: Space>(
         ..items
     };
     if passes_over(run, &stack.act) {
-        return wait_for_list_item(alloc, stack, behind);
+        return push_passable_item(alloc, stack, behind);
     }
     // Some: the item was done whole, and a list has no use for its integer. None: nothing has changed.
     match try_item(run, &mut stack.act, items.levels) {
@@ -104,7 +104,7 @@ fn follow_above<S: Space>(
         (then_all S.accesses (meaning S.accesses) (next_run S.accesses (meaning S.accesses) next stack.old.act)
         (next_ends next stack.old.act) (stack.old.entries.items ++ entry.Frame (frames.Items behind) ∷ [])) run.old }
 {
-    wait_for_item(run, stack, behind, &next)?;
+    push_list(run, stack, behind, &next)?;
     follow(run, stack, next)
 }
 
@@ -134,7 +134,7 @@ pub(crate) fn next_item<S: Space>(
 /// The items behind one that leaves something to do are put on the stack. Without memory for them a call ends that the
 /// item has begun.
 #[inline(always)]
-fn wait_for_item<S: Space>(
+fn push_list<S: Space>(
     run: &mut Running<S>,
     stack: &mut Stack,
     behind: Items,

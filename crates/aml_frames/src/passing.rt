@@ -31,7 +31,7 @@ pub(crate) fn passes_over<S>(run: &Running<S>, list: &Activation) -> bool
 
 /// An item begins that may be passed over, and the list waits.
 #[cold]
-pub(crate) fn wait_for_list_item(
+pub(crate) fn push_passable_item(
     alloc: Global,
     stack: &mut Stack,
     behind: Items,
