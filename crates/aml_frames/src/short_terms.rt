@@ -123,7 +123,7 @@ pub(crate) fn short_integer<S: Space>(
                 return None;
             }
             act.advance(1);
-            Some(run.world.number_kept(number))
+            Some(run.world.truncated_number(number))
         }
         Short::Number(count) => {
             if !take_step(run) {
@@ -132,7 +132,7 @@ pub(crate) fn short_integer<S: Space>(
             act.advance(1);
             let number = number_at(act, count);
             act.advance(count);
-            Some(run.world.number_kept(number))
+            Some(run.world.truncated_number(number))
         }
         Short::Other => None,
     }

@@ -24,10 +24,10 @@ impl<S> WorldState<S> {
         Ok(Value::Integer(truncate_integer(self.width, number)))
     }
 
-    /// A number as an integer keeps it, as `integer_kept` has it.
+    /// The lowest 32 or 64 bits of a number: what `integer_kept` gives, as a number.
     #[inline]
     #[tactic(auto, unfolding(crate::specs::Readings::integer_kept))]
-    pub fn number_kept(&self, number: u64) -> u64
+    pub fn truncated_number(&self, number: u64) -> u64
         ensures { Does (Ok (Integer result)) self.now (integer_kept number) self.now }
     {
         truncate_integer(self.width, number)
