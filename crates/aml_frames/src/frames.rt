@@ -196,7 +196,7 @@ pub enum Frame {
     Wait(Option<u64>),
 }
 
-/// What a step leaves to do.
+/// What a step leaves to do: nothing where it has finished its term, else a part of the term that is evaluated next.
 #[derive(Drop)]
 pub enum Next {
     /// Nothing: this is what the term leaves.

@@ -1,4 +1,5 @@
-//! Lists of terms (ACPI 6.5, 20.2.5). An item that leaves nothing to do pushes nothing.
+//! Lists of terms (ACPI 6.5, 20.2.5). The first step of an item finishes it, or leaves a part of it to be evaluated: a
+//! `Next` other than `Next::Flow`. Only then are the items behind it put on the stack.
 ghost use Rattle.std.specs.Prelude.{◌≡◌, ◌≤◌, ◌<◌, ◌+◌, [], ◌∷◌, ◌++◌, true, OnOk, IfOk, IfErr, IsOk};
 ghost use Rattle.ar_space.specs.declared.refusal.Refusal.TheVariants.{OutOfMemory};
 ghost use Rattle.aml_meaning.specs.Meaning.{meaning};
@@ -21,8 +22,8 @@ use aml_meaning::{Flow, Running};
 use ar_space::{Refusal, Space};
 use std::alloc::Global;
 
-/// The next item of a list is begun, or the list ends. What is left of the list waits only for an item that leaves
-/// something to do.
+/// The next item of a list is begun, or the list ends. What is left of the list waits on the stack only for an item
+/// that its first step doesn't finish.
 #[inline(always)]
 #[tactic(auto, using(crate::proofs::Machine::listing_on))]
 pub(crate) fn step_items<S: Space>(
@@ -66,7 +67,8 @@ pub(crate) fn step_items<S: Space>(
     }
 }
 
-/// What an item leaves to do is put on the stack, above the items behind it; where it leaves nothing, the list goes on.
+/// Where its first step has finished an item (`Next::Flow`), the list goes on. Else what the item leaves to do is put
+/// on the stack, above the items behind it.
 #[inline(always)]
 #[tactic(auto, using(crate::proofs::Machine::listing_on))]
 fn follow_item<S: Space>(
@@ -131,8 +133,8 @@ pub(crate) fn next_item<S: Space>(
     go_to_flow(flow)
 }
 
-/// The items behind one that leaves something to do are put on the stack. Without memory for them a call ends that the
-/// item has begun.
+/// The items behind one that its first step doesn't finish are put on the stack. Without memory for them a call ends
+/// that the item has begun.
 #[inline(always)]
 fn push_list<S: Space>(
     run: &mut Running<S>,

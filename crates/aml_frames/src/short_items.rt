@@ -3,6 +3,9 @@
 //!
 //! Each function does its term whole, or answers none. Then steps may have been taken and the place may have moved, and
 //! nothing else has changed: `try_item` gives both back.
+//!
+//! A term with a name as an operand or as its target is given up here. It is done the long way (`begin_term`), whose
+//! operators look for the integer at the name (`known`).
 ghost use Rattle.std.specs.Prelude.{◌≡◌, ◌≤◌, ◌<◌, Ok, None, IfSome};
 ghost use Rattle.ar_space.specs.Change.{Does};
 ghost use Rattle.aml_objects.specs.declared.value.Value.TheVariants as values;
@@ -104,6 +107,7 @@ fn binary_to_slot<S: Space>(
     if act.next_byte() == 0 {
         return None;
     }
+    // A refusal, such as DivideByZero of Mod, is dropped: the long way evaluates the term again, and refuses it.
     let Ok(number) = run.world.operate_on_integers(operator, x, y) else {
         return None;
     };

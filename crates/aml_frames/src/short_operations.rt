@@ -104,6 +104,7 @@ fn binary_without_target<S: Space>(
     if act.next_byte() != 0 {
         return None;
     }
+    // A refusal, such as DivideByZero of Mod, is dropped: the long way evaluates the term again, and refuses it.
     let Ok(number) = run.world.operate_on_integers(operator, x, y) else {
         return None;
     };
