@@ -40,12 +40,8 @@ pub(crate) fn step_items<S: Space>(
     ensures means { Goes S.accesses (meaning S.accesses) result stack.new.act stack.new.entries.items run.new
         (machine S.accesses (meaning S.accesses) (control.Items items) stack.old.act stack.old.entries.items) run.old }
 {
-    if items.left == 0 {
-        stack.act.go_to(items.outer);
-        return end_list(run, stack);
-    }
     let rest = stack.act.rest().len();
-    if rest == 0 {
+    if items.left == 0 || rest == 0 {
         stack.act.go_to(items.outer);
         return end_list(run, stack);
     }
