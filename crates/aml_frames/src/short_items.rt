@@ -104,6 +104,7 @@ fn binary_to_slot<S: Space>(
     let Some(y) = operand_integer(run, act, levels) else {
         return None;
     };
+    // A NullName: the target is left out (ACPI 6.5, 20.2.2), and there is nowhere to store.
     if act.next_byte() == 0 {
         return None;
     }

@@ -101,6 +101,7 @@ fn binary_without_target<S: Space>(
     let Some(y) = short_integer(run, act, levels) else {
         return None;
     };
+    // Anything but a NullName: a target is there.
     if act.next_byte() != 0 {
         return None;
     }

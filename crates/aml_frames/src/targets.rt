@@ -50,7 +50,7 @@ pub(crate) fn begin_target<S: Space>(
     }
 }
 
-/// A target that may be left out.
+/// A target that may be left out: a NullName stands there then (ACPI 6.5, 20.2.2).
 #[inline(always)]
 #[tactic(auto, using(crate::proofs::Using::finding))]
 fn begin_optional<S: Space>(
