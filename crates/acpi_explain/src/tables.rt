@@ -5,10 +5,10 @@ ghost use Rattle.acpi_explain.specs.Refused.{IsHowFar};
 ghost use Rattle.acpi_explain.specs.Stages.{IsTable};
 
 use crate::halt::is_refused;
-use acpi_machine::{MAX_TEXTS, load_table};
+use acpi_machine::load_table;
 use aml_meaning::{EvaluationSettings, World};
 use aml_objects::Octets;
-use ar_space::Space;
+use ar_space::{MAX_TEXTS, Space};
 use ar_tables::{Table, Tables};
 use std::alloc::{AllocError, Global};
 

@@ -22,15 +22,10 @@ use acpi_machine::Machine;
 use acpi_prt::{Pin, Route};
 use acpi_resources::{InterruptNumbers, Offer, Polarity};
 use aml_path::Path;
-use ar_space::{PathText, Refusal, RoutingFault, Space};
+use ar_space::{MAX_LINKS, MAX_PINS, PathText, Refusal, RoutingFault, Space};
 use route_model::are_all_avoided;
 use std::alloc::{AllocError, Global};
 use std::collections::BTreeSet;
-
-/// So many pins may count, the System Control Interrupt counted as one of them.
-const MAX_PINS: usize = 4096;
-/// So many links may be named.
-const MAX_LINKS: usize = 256;
 
 /// A present link: its path, what it offers, and what it is set to.
 pub type PresentLink = (Path, Offer, Option<InterruptNumbers>);

@@ -15,6 +15,6 @@ pub use aml_meaning::{EvaluationSettings, Nesting, Profile, Trace, TraceName, Tr
 pub use ar_tables::Mode;
 pub use buses::{PciBus, prt};
 pub use kind::Kind;
-pub use loading::{MAX_TEXTS, load_table, load_tables, load_tables_as, load_tables_traced};
+pub use loading::{load_table, load_tables, load_tables_as, load_tables_traced};
 pub use machine::Machine;
 pub use mode::mode_number;

@@ -12,12 +12,9 @@ use crate::machine::Machine;
 use aml_interp::load;
 use aml_meaning::{EvaluationSettings, PassedOver, Profile, Trace, World};
 use aml_objects::Octets;
-use ar_space::{EvaluationFault, Refusal, Space};
+use ar_space::{EvaluationFault, MAX_TEXTS, Refusal, Space};
 use ar_tables::{Mode, Table, Tables};
 use std::alloc::Global;
-
-/// How many texts `_OSI` may know; more are refused as `ObjectLimit`.
-pub const MAX_TEXTS: usize = 64;
 
 /// Loads the tables of a machine over a register space: the DSDT, and then each SSDT in the order of the list of
 /// tables, each within `steps` steps, 1 to 1,000,000,000. `osi` are the texts that `_OSI` knows (ACPI 6.5, 5.7.2).

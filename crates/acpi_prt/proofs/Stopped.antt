@@ -16,7 +16,7 @@ use Rattle.acpi_machine.specs.Stops.{Made, AllOrNone}
 use Rattle.acpi_machine.proofs.Stopping.{made_asked, made_after, made_settled, made_given, made_then_settled, made_then_tested, stops_first, stops_next}
 use Rattle.acpi_prt.specs.declared.pin.Route.TheVariants.{Link}
 use Rattle.acpi_prt.specs.Children.{child_named}
-use Rattle.acpi_prt.specs.Entries.{entries_of, word_of, source_tested, letter_of, no_index}
+use Rattle.acpi_prt.specs.Entries.{entries_of, word_of, source_tested, pin_tested, no_index}
 use Rattle.acpi_prt.specs.Links.{device_at, id_at, link_id_or_not, link_at}
 use Rattle.acpi_prt.specs.RoutingTables.{linked, route_of, pin_with}
 use Rattle.acpi_prt.specs.Stops.{entries_answered, StopsInEntries, StopsInTable}
@@ -34,10 +34,10 @@ module _ {S : Type 0} (accesses : Accesses S) {s t : MachineState S} where
   linked_made p index h = made_then_tested (link_at accesses p) (λ _. no_index index) (λ link _. Link link) h
 
   pub pin_made : (a p x i : Given) (address pin index letter : ℕ) → Answers (Ok address) (word_of a) → Answers (Ok pin) (word_of p) → Answers (Ok tt) (source_tested x) → Answers (Ok index) (word_of i)
-      → Answers (Ok letter) (letter_of pin) → AllOrNone (route_of accesses x index) s t → AllOrNone (pin_with accesses a p x i) s t
+      → Answers (Ok letter) (pin_tested pin) → AllOrNone (route_of accesses x index) s t → AllOrNone (pin_with accesses a p x i) s t
   unfolding pin_with
   pin_made a p x i address pin index letter ha hp hx hi hl h =
-      made_settled (word_of a) _ ha (made_settled (word_of p) _ hp (made_settled (source_tested x) _ hx (made_settled (word_of i) _ hi (made_settled (letter_of pin) _ hl
+      made_settled (word_of a) _ ha (made_settled (word_of p) _ hp (made_settled (source_tested x) _ hx (made_settled (word_of i) _ hi (made_settled (pin_tested pin) _ hl
       (made_given (route_of accesses x index) _ h)))))
 
 -- path: that of a routing table

@@ -33,8 +33,8 @@ source_tested (given.Named p) = Ok tt
 source_tested _ = Err (RoutingTable BadEntry)
 
 -- pins A to D are 0 to 3
-abbrev pub letter_of : ℕ → Outcome ℕ
-letter_of pin = if nat_lt 3 pin then Err (RoutingTable BadPin) else Ok pin
+abbrev pub pin_tested : ℕ → Outcome ℕ
+pin_tested pin = if nat_lt 3 pin then Err (RoutingTable BadPin) else Ok pin
 
 -- the source index at a link device
 abbrev pub no_index : ℕ → Outcome (Unit {0})

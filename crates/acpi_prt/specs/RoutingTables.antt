@@ -13,7 +13,7 @@ use Rattle.acpi_machine.specs.Calls.{evaluated_object}
 use Rattle.acpi_prt.specs.declared.pin.Pin.{Pin}
 use Rattle.acpi_prt.specs.declared.pin.Route.{Route}
 use Rattle.acpi_prt.specs.declared.pin.Route.TheVariants.{Wired, Link}
-use Rattle.acpi_prt.specs.Entries.{list_of, entries_of, word_of, source_tested, letter_of, no_index, device_number}
+use Rattle.acpi_prt.specs.Entries.{list_of, entries_of, word_of, source_tested, pin_tested, no_index, device_number}
 use Rattle.acpi_prt.specs.Links.{link_at}
 use Rattle.acpi_prt.specs.Pins.{taken}
 
@@ -39,7 +39,7 @@ module _ {S : Type 0} (accesses : Accesses S) where
     pin ← settle (word_of p)
     settle (source_tested s)
     index ← settle (word_of i)
-    letter ← settle (letter_of pin)
+    letter ← settle (pin_tested pin)
     route ← route_of s index
     give (Some (record { number = device_number address; pin = letter; route = route }))
 

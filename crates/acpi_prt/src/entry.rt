@@ -2,7 +2,7 @@
 ghost use Rattle.std.specs.Prelude.{◌≡◌, ◌<◌, ◌≤◌, ◌^◌, IfOk, Ok, map};
 ghost use Rattle.ar_space.specs.Outcome.{Answers, seen};
 ghost use Rattle.aml_meaning.specs.Given.{given_of};
-ghost use Rattle.acpi_prt.specs.Entries.{word_of, fits_word, letter_of, source_tested, no_index, device_number};
+ghost use Rattle.acpi_prt.specs.Entries.{word_of, fits_word, pin_tested, source_tested, no_index, device_number};
 ghost use Rattle.acpi_prt.specs.Entries.{entries_of};
 
 use aml_meaning::Datum;
@@ -55,8 +55,8 @@ pub(crate) fn source_tested(part: &Datum) -> Result<(), Refusal>
 }
 
 /// A pin is 0 to 3, for A to D: else `BadPin`.
-pub(crate) fn letter_of(pin: u32) -> Result<u8, Refusal>
-    ensures { Answers result (letter_of pin) }
+pub(crate) fn pin_tested(pin: u32) -> Result<u8, Refusal>
+    ensures { Answers result (pin_tested pin) }
 {
     if pin > 3 {
         Err(Refusal::RoutingTable(RoutingTableFault::BadPin))

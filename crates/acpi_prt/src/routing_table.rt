@@ -9,7 +9,7 @@ ghost use Rattle.acpi_prt.specs.Stops.{StopsInEntries, StopsInTable};
 ghost use Rattle.acpi_prt.specs.RoutingTables.{linked, route_of, pin_among, pin_with, pin_of, pins_from, routing_table};
 
 use crate::entry::{
-    BAD_ENTRY, device_number, entries_of, letter_of, no_index, source_tested, word_of,
+    BAD_ENTRY, device_number, entries_of, no_index, pin_tested, source_tested, word_of,
 };
 use crate::first_pins::FirstPins;
 use crate::link::link_at;
@@ -124,7 +124,7 @@ fn pin_with<S: Space>(
     let pin = word_of(pin)?;
     source_tested(source)?;
     let index = word_of(index)?;
-    let letter = letter_of(pin)?;
+    let letter = pin_tested(pin)?;
     let route = route_of(alloc, machine, source, index)?;
     Ok(Some(Pin {
         number: device_number(address),

@@ -1,15 +1,12 @@
-//! Evaluations from outside: a call of a control method, the terms of a table, and the integer that an object answers
-//! (ACPI 6.5, 5.5).
+//! Evaluations from outside: a call of a control method, and the integer that an object answers (ACPI 6.5, 5.5).
 ghost use Rattle.std.specs.Prelude.{◌≡◌, ℕ, [], Ok};
 ghost use Rattle.ar_space.specs.Change.{Does};
 ghost use Rattle.ar_space.specs.Outcome.{Answers, seen};
-ghost use Rattle.aml_marked.specs.Marked.{walk_levels};
 ghost use Rattle.aml_meaning.specs.Fields.{field_part};
 ghost use Rattle.aml_meaning.specs.FieldCalls.{method_integer};
 ghost use Rattle.aml_meaning.specs.Invocations.{invoked, method_value};
 ghost use Rattle.aml_meaning.specs.Meaning.{meaning};
 ghost use Rattle.aml_frames.specs.Addresses.{waited_run};
-ghost use Rattle.aml_frames.specs.Follow.{list_run, all_left};
 ghost use Rattle.aml_frames.specs.Uses.{asking};
 
 use crate::activation::Activation;
@@ -17,7 +14,7 @@ use crate::addresses::{Asked, Waited};
 use crate::asking::ask;
 use crate::calls::enter;
 use crate::position::MethodPath;
-use crate::stack::{access_field, evaluate, run_list};
+use crate::stack::{access_field, evaluate};
 use crate::values::value_of_call;
 use aml_meaning::{Flow, Running, integer_only};
 use aml_objects::{Body, Field, Octets, Value};
@@ -61,17 +58,6 @@ fn run_method<S: Space>(
         Ok(body) => evaluate(alloc, run, body),
         Err(refusal) => Err(refusal),
     }
-}
-
-/// Evaluates the terms of a list one after another, in the slots that stand: those of a table at the root, say.
-pub fn evaluate_list<S: Space>(
-    alloc: Global,
-    run: &mut Running<S>,
-    list: Activation,
-) -> Result<Flow, Refusal>
-    ensures { Does result run.new (list_run S.accesses (meaning S.accesses) list (all_left list walk_levels)) run.old }
-{
-    run_list(alloc, run, list)
 }
 
 /// The integer that the object at a path answers, without arguments, where so many calls may still be made one inside

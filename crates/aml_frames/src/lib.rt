@@ -64,7 +64,7 @@ pub use banked::{BankReads, BankWrites, BankedField, BanksLeft, Selector};
 pub use calls::begin_call;
 pub use data::begin_data;
 pub use declarations::begin_declaration;
-pub use evaluation::{ask_integer, call_method, evaluate_list};
+pub use evaluation::{ask_integer, call_method};
 pub use field_access::begin_region;
 pub use frames::{
     Call, Callee, Control, DeclarationPart, Entry, Frame, Items, ListItem, Loop, MatchPart, Next,
@@ -78,7 +78,7 @@ pub use operators::begin_operator;
 pub use position::{MethodPath, Position};
 pub use regions::begin_region_term;
 pub use resuming::resume;
-pub use stack::evaluate;
+pub use stack::{evaluate, evaluate_list};
 pub use statements::begin_statement;
 pub use uses::{
     Access, Accessed, Doing, Dyadic, Inquiry, Monadic, Reading, SecondOperand, Target, TargetForm,

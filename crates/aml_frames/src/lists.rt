@@ -18,7 +18,6 @@ use crate::terms::begin_term;
 use crate::turns::end_list;
 use crate::waiting::{Stack, go_to_flow, go_to_items};
 use aml_meaning::{Flow, Running};
-use aml_objects::Value;
 use ar_space::{Refusal, Space};
 use std::alloc::Global;
 
@@ -58,7 +57,7 @@ pub(crate) fn step_items<S: Space>(
         return wait_for_list_item(alloc, stack, behind);
     }
     match item_integer(run, &mut stack.act, items.levels) {
-        Some(number) => next_item(run, stack, behind, Flow::Value(Value::Integer(number))),
+        Some(_) => go_to_items(behind),
         None => {
             let next = begin_term(alloc, run, &mut stack.act, items.levels)?;
             follow_item(run, stack, behind, next)

@@ -24,7 +24,7 @@ use ar_space::Space;
 
 /// The integer that an item gives which stands next, where it is done at once. It takes the steps of its term and of
 /// its operands. In every other case nothing changes.
-#[tactic(auto, using(crate::proofs::ShortOperations::giving))]
+#[tactic(auto, using(crate::proofs::ShortOperations::giving, crate::proofs::ShortOperators::begun))]
 pub(crate) fn item_integer<S: Space>(
     run: &mut Running<S>,
     act: &mut Activation,
@@ -39,38 +39,18 @@ pub(crate) fn item_integer<S: Space>(
 {
     let steps = run.steps;
     let position = act.position();
-    match item(run, act, levels) {
-        Some(number) => Some(number),
-        None => {
-            run.steps = steps;
-            act.go_to(position);
-            None
-        }
-    }
-}
-
-/// As `item_integer`, but steps may be taken and the place may move where it answers none.
-#[inline(always)]
-#[tactic(auto, using(crate::proofs::ShortOperators::begun))]
-fn item<S: Space>(run: &mut Running<S>, act: &mut Activation, levels: u8) -> Option<u64>
-    ensures integer { IfSome result (λ n. Leads S.accesses (meaning S.accesses)
-        (Ok (next.Flow (flows.Value (values.Integer n)))) act.new run.new
-        (term_run S.accesses (meaning S.accesses) act.old levels) run.old) }
-    ensures behind { IfSome result (λ n. act.new ≡ behind_term act.old levels) }
-    ensures paid { IfSome result (λ n. run.new.1 < run.old.1) }
-    ensures kept { result ≡ None → run.new.0 ≡ run.old.0 }
-    ensures moves { act.new ≡ at_place act.old act.new.place }
-{
     let Some(kind) = take_operator(run, act, levels) else {
         return None;
     };
-    match operator_item(run, act, levels - 1, kind) {
-        Some(number) => Some(number),
-        None => None,
-    }
+    let Some(number) = operator_item(run, act, levels - 1, kind) else {
+        run.steps = steps;
+        act.go_to(position);
+        return None;
+    };
+    Some(number)
 }
 
-/// As `item`, of an operator whose operands stand next.
+/// The integer that an operator gives whose operands stand next.
 #[inline(always)]
 #[tactic(auto)]
 fn operator_item<S: Space>(

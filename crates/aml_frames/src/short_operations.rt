@@ -23,7 +23,7 @@ use ar_space::Space;
 
 /// The integer that an operator gives which stands next, where its operands are there already and it has no target.
 /// It takes the steps of the operator and of its operands. In every other case nothing changes.
-#[tactic(auto, using(crate::proofs::ShortOperations::giving))]
+#[tactic(auto, using(crate::proofs::ShortOperations::giving, crate::proofs::ShortOperators::begun))]
 pub(crate) fn operation_integer<S: Space>(
     run: &mut Running<S>,
     act: &mut Activation,
@@ -39,38 +39,18 @@ pub(crate) fn operation_integer<S: Space>(
 {
     let steps = run.steps;
     let position = act.position();
-    match operation(run, act, levels) {
-        Some(number) => Some(number),
-        None => {
-            run.steps = steps;
-            act.go_to(position);
-            None
-        }
-    }
-}
-
-/// The same, but that steps may be taken and evaluation may have gone on where it doesn't answer.
-#[inline(always)]
-#[tactic(auto, using(crate::proofs::ShortOperators::begun))]
-fn operation<S: Space>(run: &mut Running<S>, act: &mut Activation, levels: u8) -> Option<u64>
-    ensures integer { IfSome result (λ n. Leads S.accesses (meaning S.accesses)
-        (Ok (next.Flow (flows.Value (values.Integer n)))) act.new run.new
-        (term_run S.accesses (meaning S.accesses) act.old levels) run.old) }
-    ensures behind { IfSome result (λ n. act.new ≡ behind_term act.old levels) }
-    ensures paid { IfSome result (λ n. run.new.1 < run.old.1) }
-    ensures kept { run.new.0 ≡ run.old.0 }
-    ensures moves { act.new ≡ at_place act.old act.new.place }
-{
     let Some(kind) = take_operator(run, act, levels) else {
         return None;
     };
-    match operator_integer(run, act, levels - 1, kind) {
-        Some(number) => Some(number),
-        None => None,
-    }
+    let Some(number) = operator_integer(run, act, levels - 1, kind) else {
+        run.steps = steps;
+        act.go_to(position);
+        return None;
+    };
+    Some(number)
 }
 
-/// The same of an operator whose operands stand next.
+/// The integer that an operator gives whose operands stand next.
 #[inline(always)]
 #[tactic(auto)]
 fn operator_integer<S: Space>(

@@ -5,7 +5,7 @@
 ghost use Rattle.std.specs.Prelude.{◌≡◌, ◌≤◌, ◌<◌, ℕ, Ok, None, true, false, take, IfSome};
 ghost use Rattle.ar_space.specs.Change.{Does};
 ghost use Rattle.aml_grammar.specs.State.{little_endian};
-ghost use Rattle.aml_marked.specs.Marked.{first, an_integer};
+ghost use Rattle.aml_marked.specs.Marked.{an_integer};
 ghost use Rattle.aml_objects.specs.declared.value.Value.TheVariants as values;
 ghost use Rattle.aml_meaning.specs.declared.flow.Flow.TheVariants as flows;
 ghost use Rattle.aml_meaning.specs.Meaning.{meaning};
@@ -108,94 +108,34 @@ pub(crate) fn short_integer<S: Space>(
         return None;
     }
     match short_at(act.first()) {
-        Short::Slot(slot) => short_slot(run, act, levels, slot),
-        Short::Constant(number) => short_constant(run, act, levels, number),
-        Short::Number(count) => short_number(run, act, levels, count),
-        Short::Other => None,
-    }
-}
-
-/// The same of a local or an argument.
-#[inline(always)]
-fn short_slot<S: Space>(
-    run: &mut Running<S>,
-    act: &mut Activation,
-    levels: u8,
-    slot: Slot,
-) -> Option<u64>
-    requires deep { 0 < levels }
-    requires short { IsShort (shorts.Slot slot) (row_alone (first act.old.place.rest)) }
-    ensures integer { IfSome result (λ n. Does (Ok (flows.Value (values.Integer n))) run.new
-        (term_run S.accesses (meaning S.accesses) act.old levels) run.old) }
-    ensures behind { IfSome result (λ n. act.new ≡ behind_term act.old levels) }
-    ensures kept { run.new.0 ≡ run.old.0 }
-    ensures paid { IfSome result (λ n. run.new.1 < run.old.1) }
-    ensures none { result ≡ None → run.new ≡ run.old }
-    ensures stays { result ≡ None → act.new ≡ act.old }
-{
-    match run.world.slot_integer(slot) {
-        None => None,
-        Some(number) => {
+        Short::Slot(slot) => {
+            let Some(number) = run.world.slot_integer(slot) else {
+                return None;
+            };
             if !take_step(run) {
                 return None;
             }
             act.over(1);
             Some(number)
         }
+        Short::Constant(number) => {
+            if !take_step(run) {
+                return None;
+            }
+            act.over(1);
+            Some(run.world.number_kept(number))
+        }
+        Short::Number(count) => {
+            if !take_step(run) {
+                return None;
+            }
+            act.over(1);
+            let number = number_at(act, count);
+            act.over(count);
+            Some(run.world.number_kept(number))
+        }
+        Short::Other => None,
     }
-}
-
-/// The same of an integer that an opcode says.
-#[inline(always)]
-fn short_constant<S: Space>(
-    run: &mut Running<S>,
-    act: &mut Activation,
-    levels: u8,
-    number: u64,
-) -> Option<u64>
-    requires deep { 0 < levels }
-    requires short { IsShort (shorts.Constant number) (row_alone (first act.old.place.rest)) }
-    ensures integer { IfSome result (λ n. Does (Ok (flows.Value (values.Integer n))) run.new
-        (term_run S.accesses (meaning S.accesses) act.old levels) run.old) }
-    ensures behind { IfSome result (λ n. act.new ≡ behind_term act.old levels) }
-    ensures kept { run.new.0 ≡ run.old.0 }
-    ensures paid { IfSome result (λ n. run.new.1 < run.old.1) }
-    ensures none { result ≡ None → run.new ≡ run.old }
-    ensures stays { result ≡ None → act.new ≡ act.old }
-{
-    if !take_step(run) {
-        return None;
-    }
-    act.over(1);
-    Some(run.world.number_kept(number))
-}
-
-/// The same of an integer that follows its opcode.
-#[inline(always)]
-fn short_number<S: Space>(
-    run: &mut Running<S>,
-    act: &mut Activation,
-    levels: u8,
-    count: usize,
-) -> Option<u64>
-    requires deep { 0 < levels }
-    requires bound { count ≤ 8 }
-    requires short { IsShort (shorts.Number count) (row_alone (first act.old.place.rest)) }
-    ensures integer { IfSome result (λ n. Does (Ok (flows.Value (values.Integer n))) run.new
-        (term_run S.accesses (meaning S.accesses) act.old levels) run.old) }
-    ensures behind { IfSome result (λ n. act.new ≡ behind_term act.old levels) }
-    ensures kept { run.new.0 ≡ run.old.0 }
-    ensures paid { IfSome result (λ n. run.new.1 < run.old.1) }
-    ensures none { result ≡ None → run.new ≡ run.old }
-    ensures stays { result ≡ None → act.new ≡ act.old }
-{
-    if !take_step(run) {
-        return None;
-    }
-    act.over(1);
-    let number = number_at(act, count);
-    act.over(count);
-    Some(run.world.number_kept(number))
 }
 
 /// The integer of the next bytes, the lowest first; missing ones are zero. One, two and four bytes are read without a
@@ -282,31 +222,9 @@ pub(crate) fn put_integer_to_slot<S: Space>(
     if levels == 0 {
         return false;
     }
-    match short_at(act.first()) {
-        Short::Slot(slot) => put_integer_in_slot(run, act, levels, number, slot),
-        _ => false,
-    }
-}
-
-/// The same of a local or an argument.
-#[inline(always)]
-fn put_integer_in_slot<S: Space>(
-    run: &mut Running<S>,
-    act: &mut Activation,
-    levels: u8,
-    number: u64,
-    slot: Slot,
-) -> bool
-    requires deep { 0 < levels }
-    requires short { IsShort (shorts.Slot slot) (row_alone (first act.old.place.rest)) }
-    ensures done { result ≡ true → Does (Ok (flows.Value (values.Integer number))) run.new
-        (target_run S.accesses (meaning S.accesses) (super levels)
-        (uses.Store (values.Integer number)) act.old) run.old }
-    ensures behind { result ≡ true → act.new ≡ behind_target (super levels) act.old }
-    ensures spent { run.new.1 ≤ run.old.1 }
-    ensures none { result ≡ false → run.new ≡ run.old }
-    ensures stays { result ≡ false → act.new ≡ act.old }
-{
+    let Short::Slot(slot) = short_at(act.first()) else {
+        return false;
+    };
     if !run.world.put_slot_integer(slot, number) {
         return false;
     }
@@ -333,39 +251,16 @@ pub(crate) fn count_slot<S: Space>(
     if levels == 0 {
         return None;
     }
-    match short_at(act.first()) {
-        Short::Slot(slot) => count_in_slot(run, act, levels, kind, slot),
-        _ => None,
+    let Short::Slot(slot) = short_at(act.first()) else {
+        return None;
+    };
+    let Some(before) = run.world.slot_integer(slot) else {
+        return None;
+    };
+    let after = run.world.count_integer(kind, before);
+    if !run.world.put_slot_integer(slot, after) {
+        return None;
     }
-}
-
-/// The same of a local or an argument.
-#[inline(always)]
-fn count_in_slot<S: Space>(
-    run: &mut Running<S>,
-    act: &mut Activation,
-    levels: u8,
-    kind: Count,
-    slot: Slot,
-) -> Option<u64>
-    requires deep { 0 < levels }
-    requires short { IsShort (shorts.Slot slot) (row_alone (first act.old.place.rest)) }
-    ensures counted { IfSome result (λ n. Does (Ok (flows.Value (values.Integer n))) run.new
-        (target_run S.accesses (meaning S.accesses) (super levels) (uses.Count kind) act.old) run.old) }
-    ensures behind { IfSome result (λ n. act.new ≡ behind_target (super levels) act.old) }
-    ensures spent { run.new.1 ≤ run.old.1 }
-    ensures none { result ≡ None → run.new ≡ run.old }
-    ensures stays { result ≡ None → act.new ≡ act.old }
-{
-    match run.world.slot_integer(slot) {
-        None => None,
-        Some(before) => {
-            let number = run.world.count_integer(kind, before);
-            if !run.world.put_slot_integer(slot, number) {
-                return None;
-            }
-            act.over(1);
-            Some(number)
-        }
-    }
+    act.over(1);
+    Some(after)
 }

@@ -69,9 +69,10 @@ pub fn evaluate<S: Space>(
     of_call(outcome)
 }
 
-/// Evaluates the terms of a list that are left, in one loop, in the slots that stand.
+/// Evaluates the terms of a list one after another, in one loop, in the slots that stand: those of a table at the root,
+/// say.
 #[tactic(auto, using(crate::proofs::Machine::listing))]
-pub(crate) fn run_list<S: Space>(
+pub fn evaluate_list<S: Space>(
     alloc: Global,
     run: &mut Running<S>,
     list: Activation,

@@ -3,6 +3,7 @@ use Rattle.std.specs.Prelude.{◌≡◌, ◌≢◌, ℕ, List, Ok, Err, refl}
 use Rattle.std.proofs.Common.{ap, ◌∙◌}
 use Rattle.ar_space.specs.declared.refusal.Refusal.{Refusal}
 use Rattle.ar_space.specs.declared.refusal.Refusal.TheVariants as refusal
+use Rattle.ar_space.specs.declared.refusal.EvaluationFault.TheVariants.{NoValue}
 use Rattle.ar_space.specs.declared.refusal.ValueFault.TheVariants.{WrongType}
 use Rattle.ar_space.specs.Accesses.{Accesses}
 use Rattle.ar_space.specs.Change.{settle, go_on, ◌>>=◌}
@@ -140,6 +141,10 @@ module _ {S : Type 0} (accesses : Accesses S) (scope : List Seg) (depth : ℕ) (
       pub value_refused : (e : Refusal) (after : State S × ℕ) → meaning accesses (task scope depth value) s ≡ (Err e, after) → declared_by s ≡ (Err e, after)
       unfolding go_on
       value_refused e after is = by_value (Err e) after is
+
+      pub nothing_refused : (after : State S × ℕ) → meaning accesses (task scope depth value) s ≡ (Ok flow.Next, after) → declared_by s ≡ (Err (refusal.Evaluation NoValue), after)
+      unfolding settle go_on
+      nothing_refused after is = by_value (Ok flow.Next) after is
 
       pub no_integer_refused : (v : Value) (e : Refusal) (after : State S × ℕ) → meaning accesses (task scope depth value) s ≡ (Ok (flow.Value v), after) → integer_in v after.0 ≡ (Err e, after.0) → declared_by s ≡ (Err e, after)
       unfolding banked_laid lift settle ◌>>=◌ go_on

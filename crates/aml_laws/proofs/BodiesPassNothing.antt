@@ -42,7 +42,8 @@ body_relation accesses depth = record {
   names_removed = λ u w q at h. h;
   region_accessed = λ u w region s stands r h. h;
   bridge_asked = λ u w at width wide asks h. h;
-  arities_set = λ w list body. refl;
+  loads = true;
+  arities_set = λ loads w list body. refl;
   mutexes_released = λ w body. refl;
   passed_noted = λ listed u w scope e wide is h. never_listed depth u (with_passed scope e w) listed;
 }
@@ -71,4 +72,4 @@ no_access : {S : Type 0} → Accesses S
 no_access = record { reads = λ s place width. (Err NoRegister, s); writes = λ s place width value. (Err NoRegister, s) }
 
 pub none_at_first : {S : Type 0} (settings : EvaluationSettings) (width : IntegerWidth) (osi : List (List ℕ)) (space : S) → (predefined (fresh_as settings width osi space)).1.passed.count ≡ 0
-none_at_first settings width osi space = ap (λ p. p.count) ((predefined_preserves {relation = body_relation no_access 1}).preserves (fresh_as settings width osi space) refl)
+none_at_first settings width osi space = ap (λ p. p.count) ((predefined_preserves {relation = body_relation no_access 1} refl).preserves (fresh_as settings width osi space) refl)

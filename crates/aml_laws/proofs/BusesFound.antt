@@ -21,21 +21,21 @@ use Rattle.aml_laws.specs.BusesFound.{BusesFound, there, behind, TellsNumber, Te
 below : (n k : ℕ) → n < k → nat_lt n k ≡ true
 below n k less = grind (arith, nat_tests)
 
-function_space : (seg bus dev func : ℕ) → seg < 65536 → bus < 256 → dev < 32 → func < 8 → pci_space seg bus (dev * 65536 + func) ≡ Ok (spaces.Pci seg bus dev func)
+pub function_space : (seg bus dev func : ℕ) → seg < 65536 → bus < 256 → dev < 32 → func < 8 → pci_space seg bus (dev * 65536 + func) ≡ Ok (spaces.Pci seg bus dev func)
 function_space seg bus dev func s b d f =
     let high : (dev * 65536 + func) / 65536 ≡ dev = div-mul-add dev 65536 func (omega (arith, f)) in
     let low : (dev * 65536 + func) % 65536 ≡ func = mod-mul-add dev 65536 func (omega (arith, f)) in
     rw (high, low, below seg 65536 s, below bus 256 b, below dev 32 d, below func 8 f) refl
 
-bridge_kind : (kind : ℕ) → (kind % 128 ≡ 1) ⊎ (kind % 128 ≡ 2) → bridge_header kind ≡ Ok tt
+pub bridge_kind : (kind : ℕ) → (kind % 128 ≡ 1) ⊎ (kind % 128 ≡ 2) → bridge_header kind ≡ Ok tt
 bridge_kind kind (inl one) = rw one refl
 bridge_kind kind (inr two) = rw two refl
 
-header_place : (seg bus dev func : ℕ) → unit_place (header_of (spaces.Pci seg bus dev func)) W8 14 ≡ Ok (place.Pci seg bus dev func 14)
+pub header_place : (seg bus dev func : ℕ) → unit_place (header_of (spaces.Pci seg bus dev func)) W8 14 ≡ Ok (place.Pci seg bus dev func 14)
 unfolding unit_place
 header_place seg bus dev func = refl
 
-number_place : (seg bus dev func : ℕ) → unit_place (header_of (spaces.Pci seg bus dev func)) W8 25 ≡ Ok (place.Pci seg bus dev func 25)
+pub number_place : (seg bus dev func : ℕ) → unit_place (header_of (spaces.Pci seg bus dev func)) W8 25 ≡ Ok (place.Pci seg bus dev func 25)
 unfolding unit_place
 number_place seg bus dev func = refl
 

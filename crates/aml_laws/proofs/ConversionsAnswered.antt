@@ -80,7 +80,7 @@ unfolding length_before_end
 ends_before _ (here item items is) = (0, rw is refl)
 ends_before _ (later item items rest) = let before = ends_before items rest in counted_by item items (item.tag == 0x79) before.0 before.1
 
-front_answers : (bytes : List ℕ) → (bytes ≡ []) ⊎ HasEndTag (items_of bytes) → (front : List ℕ) × (before_end bytes ≡ Ok front)
+pub front_answers : (bytes : List ℕ) → (bytes ≡ []) ⊎ HasEndTag (items_of bytes) → (front : List ℕ) × (before_end bytes ≡ Ok front)
 front_answers [] h = ([], refl)
 front_answers (b ∷ bs) (inl none) = absurd (cc none)
 front_answers (b ∷ bs) (inr h) = let before = ends_before (items_of (b ∷ bs)) h in (take before.0 (b ∷ bs), rw before.1 refl)

@@ -1,5 +1,5 @@
 -- The count of the terms that have begun never falls, however an evaluation ends, and a term that begins adds at least one.
-use Rattle.std.specs.Prelude.{◌≡◌, ℕ, zero, suc, ◌≤◌, ◌<◌, List, refl}
+use Rattle.std.specs.Prelude.{◌≡◌, ℕ, zero, suc, ◌≤◌, ◌<◌, List, true, refl}
 use Rattle.std.proofs.Common.{arith}
 use Rattle.ar_space.specs.Accesses.{Accesses}
 use Rattle.aml_path.specs.declared.segment.Seg.{Seg}
@@ -38,7 +38,8 @@ module _ {S : Type 0} (accesses : Accesses S) where
     names_removed = λ u w q at h. h;
     region_accessed = λ u w region s stands r h. let e = same_counter region w.space s r in omega (arith, e, h);
     bridge_asked = λ u w at width wide asks h. h;
-    arities_set = λ w list. omega arith;
+    loads = true;
+    arities_set = λ loads w list. omega arith;
     mutexes_released = λ w. omega arith;
     passed_noted = λ listed u w scope e wide is h. h;
   }

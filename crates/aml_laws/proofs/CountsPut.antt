@@ -90,7 +90,7 @@ module _ {S : Type 0} (accesses : Accesses S) (scope : List Seg) (depth : ℕ) (
   unfolding rule
   ruled = rw is refl
 
-  begins : term_counts (count_rule accesses (meaning accesses) k scope depth (counting op p) (w, steps))
+  pub begins : term_counts (count_rule accesses (meaning accesses) k scope depth (counting op p) (w, steps))
   begins = (term_begins accesses (task scope depth (counting op p))).paid w steps ∙ ruled
 
   module _ (t : StoreTarget) (between : State S × ℕ) (finds : NamesAt accesses scope depth (w, steps) p t between) (h : Held) (holds : target_read t between.0 ≡ (Ok h, between.0)) where

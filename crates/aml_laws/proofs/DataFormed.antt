@@ -1,9 +1,12 @@
 -- What the terms of strings, buffers and packages form.
-use Rattle.std.specs.Prelude.{◌≡◌, ◌<◌, ◌≤◌, ◌-◌, ℕ, suc, nat_lt, false, List, [], ◌∷◌, ◌++◌, length, Ok, refl}
+use Rattle.std.specs.Prelude.{◌≡◌, ◌<◌, ◌≤◌, ◌-◌, ℕ, suc, nat_lt, false, List, [], ◌∷◌, ◌++◌, length, Ok, Err, refl}
 use Rattle.std.proofs.Common.{arith, ap, sym, ◌∙◌, append-nil, append_assoc}
 use Rattle.std.proofs.lemmas.Bool.Decides.{nat_tests}
 use Rattle.ar_space.specs.Accesses.{Accesses}
 use Rattle.ar_space.specs.Change.{give, settle, go_on, ◌>>=◌}
+use Rattle.ar_space.specs.declared.refusal.Refusal.{Refusal}
+use Rattle.ar_space.specs.declared.refusal.Refusal.TheVariants as refusal
+use Rattle.ar_space.specs.declared.refusal.EvaluationFault.TheVariants.{NoValue, OutOfSteps}
 use Rattle.aml_path.specs.declared.segment.Seg.{Seg}
 use Rattle.aml_path.specs.Paths.{Name}
 use Rattle.aml_grammar.specs.Apart.{code_of}
@@ -21,10 +24,10 @@ use Rattle.aml_meaning.specs.NewObjects.{within, new_buffer, new_package}
 use Rattle.aml_meaning.specs.DataTerms.{string_rule, buffer_rule, named_element, valued_element, element_by, elements_in_turn, package_of, package_rule, var_package_rule}
 use Rattle.aml_meaning.specs.Evaluation.{rule}
 use Rattle.aml_meaning.specs.Meaning.{meaning}
-use Rattle.aml_laws.specs.OperatorTerms.{GivesValue, OneInteger}
+use Rattle.aml_laws.specs.OperatorTerms.{GivesValue, GivesNothing, IsRefused, OneInteger}
 use Rattle.aml_laws.specs.JoinedTerms.{with_object, Fits}
-use Rattle.aml_laws.specs.DataTerms.{string_term, buffer_term, package_term, var_package_term, name_in_package, filled_with_zeros, filled_with_none, IsValued, of_term, of_use, GivesElements, enough, no_more, of_value, of_name}
-use Rattle.aml_laws.proofs.Charges.{charge_one}
+use Rattle.aml_laws.specs.DataTerms.{string_term, buffer_term, package_term, var_package_term, name_in_package, filled_with_zeros, filled_with_none, IsValued, of_term, of_use, GivesElements, enough, no_more, of_value, of_name, GivesNoElements, refused_there, nothing_there, no_step_there, behind_value, behind_name}
+use Rattle.aml_laws.proofs.Charges.{charge_none, charge_one}
 use Rattle.aml_laws.proofs.LimitsTaken.{string_made, buffer_made, package_made}
 use Rattle.aml_laws.proofs.TreesCost.{term_begins}
 
@@ -114,3 +117,36 @@ module _ {S : Type 0} (accesses : Accesses S) (scope : List Seg) (depth : ℕ) w
       → GivesValue accesses scope depth (var_package_term x ts) (w, suc steps) (value.Package (length after.0.objects)) (with_object after.0 (object.Package (filled_with_none n es)), after.1)
   var_package_formed x n ts w steps between es after h less given fits =
       (term_begins accesses (task scope depth (var_package_term x ts))).paid w steps ∙ (sized_so x n ts w steps between h less ∙ package_is n ts between es after given fits)
+
+  -- ---- packages with an element that is refused
+
+  valued_not : (t : Tree) (s after : State S × ℕ) (e : Refusal) → IsRefused accesses scope depth t s e after → valued_element (meaning accesses) scope depth t s ≡ (Err e, after)
+  unfolding valued_element operand_value go_on ◌>>=◌
+  valued_not t s after e stops = rw stops refl
+
+  valued_none : (t : Tree) (s after : State S × ℕ) → GivesNothing accesses scope depth t s after → valued_element (meaning accesses) scope depth t s ≡ (Err (refusal.Evaluation NoValue), after)
+  unfolding valued_element operand_value settle go_on ◌>>=◌
+  valued_none t s after gives = rw gives refl
+
+  named_not : (m : Name) (w : State S) → named_element (meaning accesses) scope (name_in_package m) (w, 0) ≡ (Err (refusal.Evaluation OutOfSteps), (w, 0))
+  unfolding named_element go_on ◌>>=◌
+  named_not m w = rw (charge_none w) refl
+
+  in_turn_stops : (n : ℕ) (ts : Trees) (s : State S × ℕ) (e : Refusal) (after : State S × ℕ) → GivesNoElements accesses scope depth n ts s e after → (done : List Element) → elements_in_turn (meaning accesses) scope depth n ts done s ≡ (Err e, after)
+  unfolding elements_in_turn go_on ◌>>=◌
+  in_turn_stops _ _ _ _ _ (refused_there n t ts s after e valued stops) done = rw (valued_so t valued, valued_not t s after e stops) refl
+  in_turn_stops _ _ _ _ _ (nothing_there n t ts s after valued gives) done = rw (valued_so t valued, valued_none t s after gives) refl
+  in_turn_stops _ _ _ _ _ (no_step_there n m ts w) done = rw (named_not m w) refl
+  in_turn_stops _ _ _ _ _ (behind_value n t ts s between after v e valued gives others) done = rw (valued_so t valued, valued_is t s between v gives) (in_turn_stops n ts between e after others (done ++ element.Value v ∷ []))
+  in_turn_stops _ _ _ _ _ (behind_name n m ts w steps after e others) done = rw (named_is m w steps) (in_turn_stops n ts (w, steps) e after others (done ++ element.Name m scope ∷ []))
+
+  package_stops : (n : ℕ) (ts : Trees) (s : State S × ℕ) (e : Refusal) (after : State S × ℕ) → GivesNoElements accesses scope depth n ts s e after → package_of (meaning accesses) scope depth n ts s ≡ (Err e, after)
+  unfolding package_of go_on ◌>>=◌
+  package_stops n ts s e after stops = rw (in_turn_stops n ts s e after stops []) refl
+
+  pub package_refused : (n : ℕ) (ts : Trees) (w : State S) (steps : ℕ) (e : Refusal) (after : State S × ℕ) → GivesNoElements accesses scope depth n ts (w, steps) e after → IsRefused accesses scope depth (package_term n ts) (w, suc steps) e after
+  package_refused n ts w steps e after stops = (term_begins accesses (task scope depth (package_term n ts))).paid w steps ∙ (counted_so n ts w steps ∙ package_stops n ts (w, steps) e after stops)
+
+  pub var_package_refused : (x : Tree) (n : ℕ) (ts : Trees) (w : State S) (steps : ℕ) (between : State S × ℕ) (e : Refusal) (after : State S × ℕ) → OneInteger accesses scope depth x (w, steps) n between → n ≤ 65535 → GivesNoElements accesses scope depth n ts between e after
+      → IsRefused accesses scope depth (var_package_term x ts) (w, suc steps) e after
+  var_package_refused x n ts w steps between e after h less stops = (term_begins accesses (task scope depth (var_package_term x ts))).paid w steps ∙ (sized_so x n ts w steps between h less ∙ package_stops n ts between e after stops)

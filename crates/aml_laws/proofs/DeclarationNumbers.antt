@@ -45,16 +45,17 @@ numbered_relation accesses = record {
   names_removed = λ u w q at h n. numbered_without q w.names (h n);
   region_accessed = λ u w region s stands r h n. h n;
   bridge_asked = λ u w at width wide asks h n. h n;
-  arities_set = λ w list n. n;
+  loads = true;
+  arities_set = λ loads w list n. n;
   mutexes_released = λ w n. numbered_released w.names n;
   passed_noted = λ listed u w scope e wide is h n. h n;
 }
 
 pub numbered_stays : {S : Type 0} (accesses : Accesses S) (w v : State S) → Becomes accesses w v → Numbered w.names → Numbered v.names
-numbered_stays accesses w v h n = becomes_preserves (numbered_relation accesses) w v h n
+numbered_stays accesses w v h n = becomes_preserves (numbered_relation accesses) refl w v h n
 
 pub numbered_always : {S : Type 0} (accesses : Accesses S) (settings : EvaluationSettings) (width : IntegerWidth) (osi : List (List ℕ)) (space : S) (v : State S) → Becomes accesses (predefined (fresh_as settings width osi space)).1 v → Numbered v.names
-numbered_always accesses settings width osi space v h = numbered_stays accesses _ v h ((predefined_preserves {relation = numbered_relation accesses}).preserves (fresh_as settings width osi space) numbered_root)
+numbered_always accesses settings width osi space v h = numbered_stays accesses _ v h ((predefined_preserves {relation = numbered_relation accesses} refl).preserves (fresh_as settings width osi space) numbered_root)
 
 -- a frame that is opened leaves the names as they are
 pub numbered_opened : {S : Type 0} (arguments : List Value) (w : State S) → Numbered w.names → Numbered (opened arguments w).1.names
@@ -109,7 +110,8 @@ gone_relation accesses n = record {
   names_removed = λ u w q at h g. gone_after_removal n q w.names (h g);
   region_accessed = λ u w region s stands r h g. h g;
   bridge_asked = λ u w at width wide asks h g. h g;
-  arities_set = λ w list g. g;
+  loads = true;
+  arities_set = λ loads w list g. g;
   mutexes_released = λ w g. gone_after_release n w.names g;
   passed_noted = λ listed u w scope e wide is h g. h g;
 }
@@ -175,6 +177,6 @@ gone_from n s l none = record { given = l; gone = λ p e at. unnumbered n (entri
 
 -- a number that was given and finds nothing never finds anything again
 pub gone_stays : {S : Type 0} (accesses : Accesses S) (w v : State S) (n : ℕ) → Becomes accesses w v → n < w.names.next → numbered n w.names.map ≡ None → numbered n v.names.map ≡ None
-gone_stays accesses w v n h l none = none_by_cases n v.names.map (numbered n v.names.map) refl (becomes_preserves (gone_relation accesses n) w v h (gone_from n w.names l none)).gone
+gone_stays accesses w v n h l none = none_by_cases n v.names.map (numbered n v.names.map) refl (becomes_preserves (gone_relation accesses n) refl w v h (gone_from n w.names l none)).gone
 
 pub ruleset numbers_are_given_once = (numbered_always, numbered_stays, numbered_opened)

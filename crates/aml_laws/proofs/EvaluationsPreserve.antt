@@ -1,5 +1,5 @@
 -- Loading a table and evaluating an object preserve every world relation; so what evaluations make of a world is related to it.
-use Rattle.std.specs.Prelude.{Bool, ℕ, List, [], length, Ok, Err, refl}
+use Rattle.std.specs.Prelude.{◌≡◌, Bool, true, ℕ, List, [], length, replicate, Ok, Err, refl}
 use Rattle.ar_space.specs.Accesses.{Accesses}
 use Rattle.ar_space.specs.Outcome.{Outcome}
 use Rattle.aml_path.specs.declared.segment.Seg.{Seg}
@@ -7,13 +7,14 @@ use Rattle.aml_grammar.specs.declared.arities.Arity.{Arity}
 use Rattle.aml_grammar.specs.Tree.{Tree, Trees}
 use Rattle.aml_grammar.specs.Grammar.{table_reading_within}
 use Rattle.aml_objects.specs.declared.value.Value.{Value}
+use Rattle.aml_objects.specs.declared.value.Value.TheVariants as value
 use Rattle.aml_objects.specs.declared.entry.NamedObject.{NamedObject}
 use Rattle.aml_meaning.specs.declared.invocation.Invocation.{Invocation}
 use Rattle.aml_meaning.specs.declared.invocation.Invocation.TheVariants as invocations
 use Rattle.aml_meaning.specs.Given.{Given}
 use Rattle.aml_meaning.specs.State.{State}
 use Rattle.aml_meaning.specs.Predefined as predefined
-use Rattle.aml_meaning.specs.Calling.{terms_kept, table_terms, at_root, table_run, loaded, value_of, called, evaluated, invocation_exported, answer_exported, answered}
+use Rattle.aml_meaning.specs.Calling.{with_steps, in_frame, terms_kept, table_terms, at_root, table_run, loaded, value_of, called, evaluated, invocation_exported, answer_exported, answered}
 use Rattle.aml_laws.specs.Becomes.{Becomes, same, term, list, table, value, answer, passed}
 use Rattle.aml_laws.proofs.FieldsPreserve.{field_given_preserves}
 use Rattle.aml_laws.proofs.OperandsAndCallsPreserve.{called_at_preserves}
@@ -24,29 +25,33 @@ use Rattle.aml_laws.proofs.OperandsAndCallsPreserve.{field_read_preserves, metho
 use Rattle.aml_laws.proofs.RulesPreserve.{meaning_parts_lead, list_leads, meaning_preserves, list_preserves}
 use Rattle.aml_laws.proofs.ArgumentsAndAnswersPreserve.{all_imported_preserves, exported_preserves}
 
-terms_kept_preserves : {S : Type 0} {listed : Bool} {accesses : Accesses S} (relation : WorldRelationOf listed accesses) (r : Outcome (List Tree × List Arity)) (w : State S) → relation.Leads w (terms_kept r w).1
-terms_kept_preserves relation (Ok (ts, after)) w = relation.arities_set w after
-terms_kept_preserves relation (Err e) w = relation.reflexive w
+terms_kept_preserves : {S : Type 0} {listed : Bool} {accesses : Accesses S} (relation : WorldRelationOf listed accesses) → relation.loads ≡ true → (r : Outcome (List Tree × List Arity)) (w : State S) → relation.Leads w (terms_kept r w).1
+terms_kept_preserves relation loads (Ok (ts, after)) w = relation.arities_set loads w after
+terms_kept_preserves relation loads (Err e) w = relation.reflexive w
 
 module _ {S : Type 0} {listed : Bool} {accesses : Accesses S} {relation : WorldRelationOf listed accesses} where
   -- ---- tables
 
-  table_terms_preserves : (bytes : List ℕ) → Preserves relation (table_terms bytes)
+  table_terms_preserves : relation.loads ≡ true → (bytes : List ℕ) → Preserves relation (table_terms bytes)
   unfolding table_terms
-  table_terms_preserves bytes = record { preserves = λ w. terms_kept_preserves relation (table_reading_within w.nesting.levels bytes w.arities) w }
+  table_terms_preserves loads bytes = record { preserves = λ w. terms_kept_preserves relation loads (table_reading_within w.nesting.levels bytes w.arities) w }
 
 module _ {S : Type 0} {accesses : Accesses S} (levels : Levels accesses) where
   at_root_preserves : (ts : Trees) → RunPreserves (levels.at 0) (at_root accesses ts)
   unfolding at_root
   at_root_preserves ts = run_then_preserves _ _ (list_leads levels [] 0 ts) (λ last. run_give_preserves _)
 
-  table_run_preserves : (steps : ℕ) (bytes : List ℕ) → Preserves (levels.at 0) (table_run accesses steps bytes)
-  unfolding table_run
-  table_run_preserves steps bytes = then_preserves _ _ (table_terms_preserves bytes) (λ ts. in_frame_preserves _ _ (with_steps_preserves steps _ (at_root_preserves ts)))
+  -- what was read of a table
+  pub terms_run_preserves : (steps : ℕ) (ts : Trees) → Preserves (levels.at 0) (in_frame (replicate 7 value.Uninitialized) (with_steps steps (at_root accesses ts)))
+  terms_run_preserves steps ts = in_frame_preserves _ _ (with_steps_preserves steps _ (at_root_preserves ts))
 
-  pub loaded_preserves : (bytes : List ℕ) (steps : ℕ) → Preserves (levels.at 0) (loaded accesses bytes steps)
+  table_run_preserves : (levels.at 0).loads ≡ true → (steps : ℕ) (bytes : List ℕ) → Preserves (levels.at 0) (table_run accesses steps bytes)
+  unfolding table_run
+  table_run_preserves loads steps bytes = then_preserves _ _ (table_terms_preserves loads bytes) (λ ts. terms_run_preserves steps ts)
+
+  pub loaded_preserves : (levels.at 0).loads ≡ true → (bytes : List ℕ) (steps : ℕ) → Preserves (levels.at 0) (loaded accesses bytes steps)
   unfolding loaded
-  loaded_preserves bytes steps = ending_preserves _ (table_run_preserves steps bytes)
+  loaded_preserves loads bytes steps = ending_preserves _ (table_run_preserves loads steps bytes)
 
   -- ---- objects that are evaluated
 
@@ -82,32 +87,32 @@ module _ {S : Type 0} {accesses : Accesses S} (levels : Levels accesses) where
 module _ {S : Type 0} {listed : Bool} {accesses : Accesses S} {relation : WorldRelationOf listed accesses} where
   -- ---- the predefined names
 
-  takes_preserves : (path : List Seg) (count : ℕ) → Preserves relation (predefined.takes path count)
+  takes_preserves : relation.loads ≡ true → (path : List Seg) (count : ℕ) → Preserves relation (predefined.takes path count)
   unfolding predefined.takes
-  takes_preserves path count = record { preserves = λ w. relation.arities_set w _ }
+  takes_preserves loads path count = record { preserves = λ w. relation.arities_set loads w _ }
 
-  predefined_at_root_preserves : (text : List ℕ) (o : NamedObject) (count : ℕ) → Preserves relation (predefined.at_root text o count)
+  predefined_at_root_preserves : relation.loads ≡ true → (text : List ℕ) (o : NamedObject) (count : ℕ) → Preserves relation (predefined.at_root text o count)
   unfolding predefined.at_root
-  predefined_at_root_preserves text o count = then_preserves _ _ (settle_preserves _) (λ s. then_preserves _ _ (settle_preserves _) (λ p. then_preserves _ _ (declared_preserves p o) (λ n. then_preserves _ _ (settle_preserves _) (λ q. takes_preserves q count))))
+  predefined_at_root_preserves loads text o count = then_preserves _ _ (settle_preserves _) (λ s. then_preserves _ _ (settle_preserves _) (λ p. then_preserves _ _ (declared_preserves p o) (λ n. then_preserves _ _ (settle_preserves _) (λ q. takes_preserves loads q count))))
 
-  predefined_scopes_preserves : Preserves relation predefined.predefined_scopes
+  predefined_scopes_preserves : relation.loads ≡ true → Preserves relation predefined.predefined_scopes
   unfolding predefined.predefined_scopes
-  predefined_scopes_preserves = then_preserves _ _ (predefined_at_root_preserves _ _ _) (λ a. then_preserves _ _ (predefined_at_root_preserves _ _ _) (λ b. then_preserves _ _ (predefined_at_root_preserves _ _ _) (λ c. then_preserves _ _ (predefined_at_root_preserves _ _ _) (λ d. predefined_at_root_preserves _ _ _))))
+  predefined_scopes_preserves loads = then_preserves _ _ (predefined_at_root_preserves loads _ _ _) (λ a. then_preserves _ _ (predefined_at_root_preserves loads _ _ _) (λ b. then_preserves _ _ (predefined_at_root_preserves loads _ _ _) (λ c. then_preserves _ _ (predefined_at_root_preserves loads _ _ _) (λ d. predefined_at_root_preserves loads _ _ _))))
 
-  predefined_objects_preserves : Preserves relation predefined.predefined_objects
+  predefined_objects_preserves : relation.loads ≡ true → Preserves relation predefined.predefined_objects
   unfolding predefined.predefined_objects
-  predefined_objects_preserves = then_preserves _ _ (predefined_at_root_preserves _ _ _) (λ a. then_preserves _ _ (on_objects_preserves _ (make_string_keeps_kinds _)) (λ text. then_preserves _ _ (predefined_at_root_preserves _ _ _) (λ b. then_preserves _ _ (predefined_at_root_preserves _ _ _) (λ c. predefined_at_root_preserves _ _ _))))
+  predefined_objects_preserves loads = then_preserves _ _ (predefined_at_root_preserves loads _ _ _) (λ a. then_preserves _ _ (on_objects_preserves _ (make_string_keeps_kinds _)) (λ text. then_preserves _ _ (predefined_at_root_preserves loads _ _ _) (λ b. then_preserves _ _ (predefined_at_root_preserves loads _ _ _) (λ c. predefined_at_root_preserves loads _ _ _))))
 
-  pub predefined_preserves : Preserves relation predefined.predefined
+  pub predefined_preserves : relation.loads ≡ true → Preserves relation predefined.predefined
   unfolding predefined.predefined
-  predefined_preserves = then_preserves _ _ predefined_scopes_preserves (λ u. predefined_objects_preserves)
+  predefined_preserves loads = then_preserves _ _ (predefined_scopes_preserves loads) (λ u. predefined_objects_preserves loads)
 
 -- what evaluations make of a world is related to it
-pub becomes_preserves : {S : Type 0} {accesses : Accesses S} (relation : WorldRelation accesses) (w v : State S) → Becomes accesses w v → relation.Leads w v
-becomes_preserves relation w v same = relation.reflexive w
-becomes_preserves relation w v (term u t steps h) = relation.transitive w u _ (becomes_preserves relation w u h) ((meaning_preserves {relation = relation} t).preserves (u, steps))
-becomes_preserves relation w v (list u scope depth ts steps h) = relation.transitive w u _ (becomes_preserves relation w u h) ((list_preserves {relation = relation} scope depth ts).preserves (u, steps))
-becomes_preserves relation w v (table u bytes steps h) = relation.transitive w u _ (becomes_preserves relation w u h) ((loaded_preserves (always relation) bytes steps).preserves u)
-becomes_preserves relation w v (value u p arguments steps h) = relation.transitive w u _ (becomes_preserves relation w u h) ((evaluated_preserves (always relation) p arguments steps).preserves u)
-becomes_preserves relation w v (answer u p arguments steps h) = relation.transitive w u _ (becomes_preserves relation w u h) ((answered_preserves (always relation) p arguments steps).preserves u)
-becomes_preserves relation w v (passed u p e wide is h) = relation.transitive w u _ (becomes_preserves relation w u h) (relation.passed_noted refl u u p e wide is (relation.reflexive u))
+pub becomes_preserves : {S : Type 0} {accesses : Accesses S} (relation : WorldRelation accesses) → relation.loads ≡ true → (w v : State S) → Becomes accesses w v → relation.Leads w v
+becomes_preserves relation loads w v same = relation.reflexive w
+becomes_preserves relation loads w v (term u t steps h) = relation.transitive w u _ (becomes_preserves relation loads w u h) ((meaning_preserves {relation = relation} t).preserves (u, steps))
+becomes_preserves relation loads w v (list u scope depth ts steps h) = relation.transitive w u _ (becomes_preserves relation loads w u h) ((list_preserves {relation = relation} scope depth ts).preserves (u, steps))
+becomes_preserves relation loads w v (table u bytes steps h) = relation.transitive w u _ (becomes_preserves relation loads w u h) ((loaded_preserves (always relation) loads bytes steps).preserves u)
+becomes_preserves relation loads w v (value u p arguments steps h) = relation.transitive w u _ (becomes_preserves relation loads w u h) ((evaluated_preserves (always relation) p arguments steps).preserves u)
+becomes_preserves relation loads w v (answer u p arguments steps h) = relation.transitive w u _ (becomes_preserves relation loads w u h) ((answered_preserves (always relation) p arguments steps).preserves u)
+becomes_preserves relation loads w v (passed u p e wide is h) = relation.transitive w u _ (becomes_preserves relation loads w u h) (relation.passed_noted refl u u p e wide is (relation.reflexive u))

@@ -65,13 +65,14 @@ frame_numbers_relation accesses = record {
   names_removed = λ u w q at h. h;
   region_accessed = λ u w region s stands r h. h;
   bridge_asked = λ u w at width wide asks h. h;
-  arities_set = λ w list. refl;
+  loads = true;
+  arities_set = λ loads w list. refl;
   mutexes_released = λ w. refl;
   passed_noted = λ listed u w scope e wide is h. h;
 }
 
 pub frames_are_balanced : {S : Type 0} (accesses : Accesses S) (w v : State S) → Becomes accesses w v → numbers_of v.frames ≡ numbers_of w.frames
-frames_are_balanced accesses w v h = becomes_preserves (frame_numbers_relation accesses) w v h
+frames_are_balanced accesses w v h = becomes_preserves (frame_numbers_relation accesses) refl w v h
 
 -- after a call too
 pub call_is_balanced : {S : Type 0} (accesses : Accesses S) (depth : ℕ) (p : List Seg) (body : List ℕ) (arguments : List Value) (s : State S × ℕ) → numbers_of (invoked (meaning accesses) depth p body arguments s).1.0.frames ≡ numbers_of s.0.frames
@@ -99,7 +100,7 @@ pub frames_rise : {S : Type 0} (accesses : Accesses S) (w v : State S) → Becom
 frames_rise accesses w v h rise = subst (RiseTo v.started) (sym (frames_are_balanced accesses w v h)) (rise_to_higher (numbers_of w.frames) w.started v.started (next_frame_rises accesses w v h) rise)
 
 pub frames_rise_always : {S : Type 0} (accesses : Accesses S) (settings : EvaluationSettings) (width : IntegerWidth) (osi : List (List ℕ)) (space : S) (v : State S) → Becomes accesses (predefined (fresh_as settings width osi space)).1 v → RiseTo v.started (numbers_of v.frames)
-frames_rise_always accesses settings width osi space v h = frames_rise accesses _ v h (subst (RiseTo _) (sym ((predefined_preserves {relation = frame_numbers_relation accesses}).preserves (fresh_as settings width osi space))) tt)
+frames_rise_always accesses settings width osi space v h = frames_rise accesses _ v h (subst (RiseTo _) (sym ((predefined_preserves {relation = frame_numbers_relation accesses} refl).preserves (fresh_as settings width osi space))) tt)
 
 opened_rises_by_cases : {S : Type 0} (b : Bool) (x : Refusal) (arguments : List Value) (w : State S) (n : ℕ) → RiseTo w.started (numbers_of w.frames) → (if◌then◌else◌ {A = Outcome ℕ × State S} b (Err x, w) (Ok w.started, in_new_frame arguments w)).0 ≡ Ok n
     → RiseTo (if◌then◌else◌ {A = Outcome ℕ × State S} b (Err x, w) (Ok w.started, in_new_frame arguments w)).1.started (numbers_of (if◌then◌else◌ {A = Outcome ℕ × State S} b (Err x, w) (Ok w.started, in_new_frame arguments w)).1.frames)

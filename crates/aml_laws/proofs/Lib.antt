@@ -7,10 +7,13 @@
 -- the default), `x_together` (x goes the same way over two register spaces until they part),
 -- `x_unnoted` (noting the accesses of x changes nothing), `x_respects`, `x_keeps_kinds`, `x_fits`, `x_stands`;
 -- a lemma that goes through the cases for another ends with `_by_cases`.
+pub mod AddressObjects
 pub mod AnswersTogether
 pub mod ArgumentsAndAnswersPreserve
 pub mod ArgumentsHanded
 pub mod ArgumentsInTurn
+pub mod ArgumentsReferring
+pub mod AritiesKept
 pub mod AskedBridges
 pub mod BanksDeclared
 pub mod BanksSelected
@@ -98,6 +101,7 @@ pub mod FormedElsewhere
 pub mod FieldSources
 pub mod FieldsInOrder
 pub mod FieldsLaidOut
+pub mod FieldsLedTo
 pub mod FieldsPreserve
 pub mod FieldsTogether
 pub mod FoundNamesStand
@@ -111,6 +115,7 @@ pub mod IndexRegisters
 pub mod IndexTargets
 pub mod IndexedFields
 pub mod BankedFields
+pub mod IntegersAsked
 pub mod IntegersClaimed
 pub mod IntegersInStrings
 pub mod IntegersOfAnswers
@@ -139,19 +144,21 @@ pub mod OperatorLaws
 pub mod OperatorsComputed
 pub mod OsiAsked
 pub mod PartsAsked
-pub mod PartsCounted
 pub mod PartsIndexed
+pub mod PartsRefused
 pub mod PartsStored
 pub mod PassableRefusals
 pub mod PutIntoTargets
 pub mod ReadingChanges
 pub mod ReadingRefusals
 pub mod StoreTermsDone
+pub mod TablesRead
 pub mod TablesRefused
 pub mod TermRefusals
 pub mod TestsTold
 pub mod ValuesJoined
 pub mod ValuesMatched
+pub mod ValuesNotJoined
 pub mod ValuesOfEvents
 pub mod ValuesOfFields
 pub mod ValuesOfObjects
@@ -192,12 +199,15 @@ pub mod OrderedValues
 pub mod OutOfSteps
 pub mod OutsideOfMethods
 pub mod PathsTaken
+pub mod PciAddresses
+pub mod PciRegionsLocated
 pub mod PciScopes
 pub mod Preorders
 pub mod ProfileKept
 pub mod ReadTermsHoldBytes
 pub mod ReadingStepsGiveBytes
 pub mod ReferenceChains
+pub mod ReferencesHandedIn
 pub mod ReferencesToNames
 pub mod ReferencesToSlots
 pub mod ReferencesToTargets
@@ -227,12 +237,16 @@ pub mod TargetsActedOn
 pub mod Together
 pub mod TooDeepForSettings
 pub mod TreesCost
+pub mod UncountedTargets
+pub mod UnitsInOrder
+pub mod UnitsPlaced
 pub mod UnitsTogether
 pub mod UnreferencedSlots
 pub mod UnreadUnits
 pub mod ItemsOfLists
 pub mod ItemsTogether
 pub mod JoinedResources
+pub mod KeptUnits
 pub mod Levels
 pub mod LimitsRefused
 pub mod LimitsTaken

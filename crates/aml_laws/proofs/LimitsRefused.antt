@@ -70,7 +70,7 @@ call_deep : {S : Type 0} (depth : ℕ) (w : State S) → 32 ≤ depth → call_a
 unfolding call_allowed
 call_deep depth w more = let test : nat_lt depth 32 ≡ false = grind (arith, nat_tests) in rw test refl
 
-call_set : {S : Type 0} (depth : ℕ) (w : State S) → depth < 32 → w.nesting.calls ≤ depth → call_allowed depth w ≡ (Err (refusal.Evaluation DepthSetting), w)
+pub call_set : {S : Type 0} (depth : ℕ) (w : State S) → depth < 32 → w.nesting.calls ≤ depth → call_allowed depth w ≡ (Err (refusal.Evaluation DepthSetting), w)
 unfolding call_allowed
 call_set depth w less many =
     let test : nat_lt depth 32 ≡ true = grind (arith, nat_tests) in

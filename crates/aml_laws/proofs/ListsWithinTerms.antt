@@ -3,6 +3,8 @@ use Rattle.std.specs.Prelude.{◌≡◌, ◌<◌, ℕ, suc, List, true, false, O
 use Rattle.std.proofs.Common.{arith, ap, sym, ◌∙◌}
 use Rattle.std.proofs.lemmas.Bool.Decides.{nat_tests}
 use Rattle.ar_space.specs.declared.refusal.Refusal.{Refusal}
+use Rattle.ar_space.specs.declared.refusal.Refusal.TheVariants as refusal
+use Rattle.ar_space.specs.declared.refusal.ValueFault.TheVariants.{WrongType}
 use Rattle.ar_space.specs.Accesses.{Accesses}
 use Rattle.ar_space.specs.Outcome.{Outcome}
 use Rattle.ar_space.specs.Change.{give, settle, go_on, ◌>>=◌}
@@ -13,9 +15,12 @@ use Rattle.aml_grammar.specs.declared.opcode.Opcode.TheVariants as opcodes
 use Rattle.aml_grammar.specs.declared.opcode.TermCode.TheVariants as codes
 use Rattle.aml_grammar.specs.Tree.{Tree, Trees, Part, null, name, number as a_number, bytes, inner, list}
 use Rattle.aml_grammar.specs.Apart.{code_of, operand_of, name_of}
+use Rattle.aml_objects.specs.declared.entry.Entry.{Entry}
 use Rattle.aml_objects.specs.declared.entry.NamedObject.{NamedObject}
+use Rattle.aml_objects.specs.declared.entry.NamedObject.TheVariants as objects
 use Rattle.aml_objects.specs.declared.value.Value.{Value}
 use Rattle.aml_convert.specs.Operators.{is_true}
+use Rattle.aml_namespace.specs.Search.{found}
 use Rattle.aml_meaning.specs.declared.flow.Flow.{Flow}
 use Rattle.aml_meaning.specs.declared.flow.Flow.TheVariants as flow
 use Rattle.aml_meaning.specs.Evaluation.{rule}
@@ -24,12 +29,12 @@ use Rattle.aml_meaning.specs.Run.{Run, lift}
 use Rattle.aml_meaning.specs.State.{State}
 use Rattle.aml_meaning.specs.Tasks.{Task, task, module_level, operand_value, operand_integer, in_turn}
 use Rattle.aml_meaning.specs.Terms.{else_of}
-use Rattle.aml_meaning.specs.Readings.{scope_found}
+use Rattle.aml_meaning.specs.Readings.{entry_found, path_found, is_scope, scope_found}
 use Rattle.aml_meaning.specs.Declaring.{new_name}
 use Rattle.aml_meaning.specs.DeclarationTerms.{scope_rule, new_scope}
 use Rattle.aml_meaning.specs.StatementTerms.{branch, if_rule, else_rule, while_rule, loop, turn, turn_of, after_turn, loop_end}
 use Rattle.aml_meaning.proofs.Loops.{loop_is}
-use Rattle.aml_laws.specs.InnerLists.{DeclaresScope, of_device, of_processor, of_power_resource, of_thermal_zone, Tests, Turns}
+use Rattle.aml_laws.specs.InnerLists.{OpensScope, a_scope, a_device, a_processor, a_power_resource, a_thermal_zone, DeclaresScope, of_device, of_processor, of_power_resource, of_thermal_zone, Tests, Turns}
 use Rattle.aml_laws.specs.OperatorTerms.{OneInteger}
 use Rattle.aml_laws.proofs.TreesCost.{term_begins}
 
@@ -44,6 +49,28 @@ no_else (Some (a_number n)) none = refl
 no_else (Some (bytes bs)) none = refl
 no_else (Some (inner e)) none = absurd (none e refl)
 no_else (Some (list ts)) none = refl
+
+opens_scope : (o : NamedObject) → OpensScope o → is_scope o ≡ true
+opens_scope _ a_scope = refl
+opens_scope _ a_device = refl
+opens_scope _ a_processor = refl
+opens_scope _ a_power_resource = refl
+opens_scope _ a_thermal_zone = refl
+
+opens_none : (o : NamedObject) → (OpensScope o → ⊥) → is_scope o ≡ false
+opens_none objects.Scope h = absurd (h a_scope)
+opens_none objects.Device h = absurd (h a_device)
+opens_none objects.Processor h = absurd (h a_processor)
+opens_none objects.PowerResource h = absurd (h a_power_resource)
+opens_none objects.ThermalZone h = absurd (h a_thermal_zone)
+opens_none (objects.Data v) h = refl
+opens_none (objects.Method m) h = refl
+opens_none (objects.OperationRegion r) h = refl
+opens_none (objects.FieldUnit u) h = refl
+opens_none (objects.BufferField b) h = refl
+opens_none (objects.Mutex n) h = refl
+opens_none (objects.Event n) h = refl
+opens_none (objects.Alias p) h = refl
 
 module _ {S : Type 0} (accesses : Accesses S) where
   abbrev ev : Task → Run S Flow
@@ -139,10 +166,37 @@ module _ {S : Type 0} (accesses : Accesses S) where
 
   -- ---- scopes
 
-  pub scope_list : (scope p : List Seg) (depth : ℕ) (t : Tree) (n : Name) (ts : Trees) (w after : State S) (steps : ℕ) → code_of t ≡ codes.Opcode opcodes.Scope → name_of (operand_of t 0) ≡ Ok n → operand_of t 1 ≡ Some (list ts) → scope_found scope n w ≡ (Ok p, after)
-      → ev (task scope depth t) (w, suc steps) ≡ in_turn ev p depth ts (after, steps)
-  unfolding rule scope_rule settle lift ◌>>=◌ go_on
-  scope_list scope p depth t n ts w after steps code named items found = by_rule scope depth t w steps ∙ rw (code, named, found, items) refl
+  scope_there : (scope p : List Seg) (n : Name) (e : Entry) (w : State S) → found w.names.map scope n ≡ Ok (p, e) → OpensScope e.object → scope_found scope n w ≡ (Ok p, w)
+  unfolding scope_found entry_found path_found settle ◌>>=◌ go_on
+  scope_there scope p n e w finds h = rw (finds, opens_scope e.object h, finds) refl
+
+  other_there : (scope p : List Seg) (n : Name) (e : Entry) (w : State S) → found w.names.map scope n ≡ Ok (p, e) → (OpensScope e.object → ⊥) → scope_found scope n w ≡ (Err (refusal.Value WrongType), w)
+  unfolding scope_found entry_found settle ◌>>=◌ go_on
+  other_there scope p n e w finds h = rw (finds, opens_none e.object h) refl
+
+  none_there : (scope : List Seg) (n : Name) (e : Refusal) (w : State S) → found w.names.map scope n ≡ Err e → scope_found scope n w ≡ (Err e, w)
+  unfolding scope_found entry_found ◌>>=◌ go_on
+  none_there scope n e w finds = rw finds refl
+
+  module _ (scope : List Seg) (depth : ℕ) (t : Tree) (n : Name) (w : State S) (steps : ℕ) (code : code_of t ≡ codes.Opcode opcodes.Scope) (named : name_of (operand_of t 0) ≡ Ok n) where
+    scope_goes : (p : List Seg) (ts : Trees) → operand_of t 1 ≡ Some (list ts) → scope_found scope n w ≡ (Ok p, w) → ev (task scope depth t) (w, suc steps) ≡ in_turn ev p depth ts (w, steps)
+    unfolding rule scope_rule settle lift ◌>>=◌ go_on
+    scope_goes p ts items finds = by_rule scope depth t w steps ∙ rw (code, named, finds, items) refl
+
+    scope_stops : (e : Refusal) → scope_found scope n w ≡ (Err e, w) → ev (task scope depth t) (w, suc steps) ≡ (Err e, (w, steps))
+    unfolding rule scope_rule settle lift ◌>>=◌ go_on
+    scope_stops e none = by_rule scope depth t w steps ∙ rw (code, named, none) refl
+
+  pub scope_list : (scope p : List Seg) (depth : ℕ) (t : Tree) (n : Name) (e : Entry) (ts : Trees) (w : State S) (steps : ℕ) → code_of t ≡ codes.Opcode opcodes.Scope → name_of (operand_of t 0) ≡ Ok n → operand_of t 1 ≡ Some (list ts) → found w.names.map scope n ≡ Ok (p, e) → OpensScope e.object
+      → ev (task scope depth t) (w, suc steps) ≡ in_turn ev p depth ts (w, steps)
+  scope_list scope p depth t n e ts w steps code named items finds h = scope_goes scope depth t n w steps code named p ts items (scope_there scope p n e w finds h)
+
+  pub scope_of_other : (scope p : List Seg) (depth : ℕ) (t : Tree) (n : Name) (e : Entry) (w : State S) (steps : ℕ) → code_of t ≡ codes.Opcode opcodes.Scope → name_of (operand_of t 0) ≡ Ok n → found w.names.map scope n ≡ Ok (p, e) → (OpensScope e.object → ⊥)
+      → ev (task scope depth t) (w, suc steps) ≡ (Err (refusal.Value WrongType), (w, steps))
+  scope_of_other scope p depth t n e w steps code named finds h = scope_stops scope depth t n w steps code named (refusal.Value WrongType) (other_there scope p n e w finds h)
+
+  pub scope_of_none : (scope : List Seg) (depth : ℕ) (t : Tree) (n : Name) (e : Refusal) (w : State S) (steps : ℕ) → code_of t ≡ codes.Opcode opcodes.Scope → name_of (operand_of t 0) ≡ Ok n → found w.names.map scope n ≡ Err e → ev (task scope depth t) (w, suc steps) ≡ (Err e, (w, steps))
+  scope_of_none scope depth t n e w steps code named finds = scope_stops scope depth t n w steps code named e (none_there scope n e w finds)
 
   new_scope_list : (o : NamedObject) (i : ℕ) (scope p : List Seg) (depth : ℕ) (t : Tree) (n : Name) (ts : Trees) (w after : State S) (steps number : ℕ) → name_of (operand_of t 0) ≡ Ok n → resolved n scope ≡ Ok p → new_name (module_level depth) p o w ≡ (Ok number, after) → operand_of t i ≡ Some (list ts)
       → new_scope ev o i scope depth t (w, steps) ≡ in_turn ev p depth ts (after, steps)

@@ -1,5 +1,5 @@
 -- Names that stand outside of control methods stay.
-use Rattle.std.specs.Prelude.{◌≡◌, ℕ, List, Some, false, refl}
+use Rattle.std.specs.Prelude.{◌≡◌, ℕ, List, Some, true, false, refl}
 use Rattle.ar_space.specs.Accesses.{Accesses}
 use Rattle.aml_path.specs.declared.segment.Seg.{Seg}
 use Rattle.aml_objects.specs.declared.entry.NamedObject.{NamedObject}
@@ -35,19 +35,20 @@ names_relation accesses p = record {
   names_removed = λ u w q at h o. kept_after_call u.names w.names q p at h o;
   region_accessed = λ u w region s stands r h o. h o;
   bridge_asked = λ u w at width wide asks h o. h o;
-  arities_set = λ w list o. kept_reflexive w.names.map p o;
+  loads = true;
+  arities_set = λ loads w list o. kept_reflexive w.names.map p o;
   mutexes_released = λ w o. kept_released w.names p o;
   passed_noted = λ listed u w scope e wide is h o. h o;
 }
 
 -- a path that is outside of control methods stays so
 pub outside_stays : {S : Type 0} (accesses : Accesses S) (w v : State S) (p : List Seg) → Becomes accesses w v → Outside w p → Outside v p
-outside_stays accesses w v p h o = (becomes_preserves (names_relation accesses p) w v h o).outside
+outside_stays accesses w v p h o = (becomes_preserves (names_relation accesses p) refl w v h o).outside
 
 -- and a name that stands there stands there still
 pub names_stay : {S : Type 0} (accesses : Accesses S) (w v : State S) (p : List Seg) → Becomes accesses w v → Outside w p → Stands w p → Stands v p
-names_stay accesses w v p h o st = (becomes_preserves (names_relation accesses p) w v h o).stands st
+names_stay accesses w v p h o st = (becomes_preserves (names_relation accesses p) refl w v h o).stands st
 
 -- under the number of its declaration
 pub numbers_stay : {S : Type 0} (accesses : Accesses S) (w v : State S) (p : List Seg) (n : ℕ) → Becomes accesses w v → Outside w p → number_at w p ≡ Some n → number_at v p ≡ Some n
-numbers_stay accesses w v p n h o e = (becomes_preserves (names_relation accesses p) w v h o).number n e
+numbers_stay accesses w v p n h o e = (becomes_preserves (names_relation accesses p) refl w v h o).number n e

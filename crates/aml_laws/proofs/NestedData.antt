@@ -149,7 +149,7 @@ module _ {S : Type 0} (accesses : Accesses S) where
 
 -- ---- what is handed in
 
-not_taken_back : {S : Type 0} (n : ℕ) (r : Outcome Value) (u : State S) (v : Value) → (taken_back n (r, u)).0 ≡ Ok v → r ≡ Ok v
+pub not_taken_back : {S : Type 0} (n : ℕ) (r : Outcome Value) (u : State S) (v : Value) → (taken_back n (r, u)).0 ≡ Ok v → r ≡ Ok v
 not_taken_back n (Ok x) u v e = e
 not_taken_back n (Err x) u v e = absurd (cc e)
 

@@ -1,5 +1,5 @@
 -- No change that a term makes of a world touches how deep calls and terms may be.
-use Rattle.std.specs.Prelude.{◌≡◌, ℕ, List, refl}
+use Rattle.std.specs.Prelude.{◌≡◌, ℕ, List, true, refl}
 use Rattle.std.proofs.Common.{◌∙◌}
 use Rattle.ar_space.specs.Accesses.{Accesses}
 use Rattle.ar_space.specs.declared.integer_width.IntegerWidth.{IntegerWidth}
@@ -23,14 +23,15 @@ nesting_relation accesses = record {
   names_removed = λ u w q at h. h;
   region_accessed = λ u w region s stands r h. h;
   bridge_asked = λ u w at width wide asks h. h;
-  arities_set = λ w list. refl;
+  loads = true;
+  arities_set = λ loads w list. refl;
   mutexes_released = λ w. refl;
   passed_noted = λ listed u w scope e wide is h. h;
 }
 
 pub nesting_is_kept : {S : Type 0} (accesses : Accesses S) (w v : State S) → Becomes accesses w v → v.nesting ≡ w.nesting
-nesting_is_kept accesses w v h = becomes_preserves (nesting_relation accesses) w v h
+nesting_is_kept accesses w v h = becomes_preserves (nesting_relation accesses) refl w v h
 
 pub nesting_is_given : {S : Type 0} (accesses : Accesses S) (settings : EvaluationSettings) (width : IntegerWidth) (osi : List (List ℕ)) (space : S) (v : State S) → Becomes accesses (predefined (fresh_as settings width osi space)).1 v → v.nesting ≡ settings.nesting
 nesting_is_given accesses settings width osi space v h =
-    nesting_is_kept accesses _ v h ∙ (predefined_preserves {relation = nesting_relation accesses}).preserves (fresh_as settings width osi space)
+    nesting_is_kept accesses _ v h ∙ (predefined_preserves {relation = nesting_relation accesses} refl).preserves (fresh_as settings width osi space)

@@ -113,7 +113,8 @@ module _ {S : Type 0} (accesses : Accesses S) where
     names_removed = λ u w q at h. h;
     region_accessed = λ u w region s stands r h. h;
     bridge_asked = λ u w at width wide asks h. h;
-    arities_set = λ w list. same w.passed;
+    loads = true;
+    arities_set = λ loads w list. same w.passed;
     mutexes_released = λ w. same w.passed;
     passed_noted = λ listed u w scope e wide is h. one_by_one u.passed w.passed _ h (one (record { refusal = e; scope = scope }) w.passed);
   }
@@ -125,12 +126,12 @@ module _ {S : Type 0} (accesses : Accesses S) where
   first_relation = notes_relation (λ p q. KeepsTheFirst p → KeepsTheFirst q) (λ p h. h) (λ p q r h i f. i (h f)) first_noted
 
   pub notes_go_on : (w v : State S) → Becomes accesses w v → GoesOn w.passed v.passed
-  notes_go_on w v h = becomes_preserves goes_on_relation w v h
+  notes_go_on w v h = becomes_preserves goes_on_relation refl w v h
 
   pub first_are_kept : (w v : State S) → Becomes accesses w v → KeepsTheFirst w.passed → KeepsTheFirst v.passed
-  first_are_kept w v h = becomes_preserves first_relation w v h
+  first_are_kept w v h = becomes_preserves first_relation refl w v h
 
   pub first_are_always_kept : (settings : EvaluationSettings) (width : IntegerWidth) (osi : List (List ℕ)) (space : S) (w : State S) → Becomes accesses (predefined (fresh_as settings width osi space)).1 w → KeepsTheFirst w.passed
-  first_are_always_kept settings width osi space w h = first_are_kept _ w h ((predefined_preserves {relation = first_relation}).preserves (fresh_as settings width osi space) refl)
+  first_are_always_kept settings width osi space w h = first_are_kept _ w h ((predefined_preserves {relation = first_relation} refl).preserves (fresh_as settings width osi space) refl)
 
 pub ruleset the_first_that_are_passed_over_are_kept = (notes_go_on, first_are_kept, first_are_always_kept)

@@ -1,5 +1,5 @@
 -- The core profile passes nothing over.
-use Rattle.std.specs.Prelude.{◌≡◌, refl}
+use Rattle.std.specs.Prelude.{◌≡◌, true, refl}
 use Rattle.std.proofs.Common.{sym, ◌∙◌}
 use Rattle.ar_space.specs.Accesses.{Accesses}
 use Rattle.aml_meaning.specs.declared.profile.Profile.TheVariants as profiles
@@ -38,10 +38,11 @@ core_relation accesses = record {
   names_removed = λ u w q at h. then_core u w _ refl refl h;
   region_accessed = λ u w region s stands r h. then_core u w _ refl refl h;
   bridge_asked = λ u w at width wide asks h. then_core u w _ refl refl h;
-  arities_set = λ w list. stays_core w _ refl refl;
+  loads = true;
+  arities_set = λ loads w list. stays_core w _ refl refl;
   mutexes_released = λ w. stays_core w _ refl refl;
   passed_noted = λ listed u w scope e wide is h. never_noted u _ wide;
 }
 
 pub core_notes_nothing : {S : Type 0} (accesses : Accesses S) (w v : State S) → Becomes accesses w v → w.profile ≡ profiles.Core → v.passed ≡ w.passed
-core_notes_nothing accesses w v h core = (becomes_preserves (core_relation accesses) w v h core).same
+core_notes_nothing accesses w v h core = (becomes_preserves (core_relation accesses) refl w v h core).same

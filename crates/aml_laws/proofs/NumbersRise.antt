@@ -1,5 +1,5 @@
 -- Numbers of declarations and of frames never fall.
-use Rattle.std.specs.Prelude.{◌≤◌}
+use Rattle.std.specs.Prelude.{◌≤◌, true, refl}
 use Rattle.std.proofs.Common.{arith}
 use Rattle.ar_space.specs.Accesses.{Accesses}
 use Rattle.aml_namespace.specs.Namespace.{without_below, mutexes_released}
@@ -32,15 +32,16 @@ numbers_rise_relation accesses = record {
   names_removed = λ u w q at h. record { next = h.next; started = h.started };
   region_accessed = λ u w region s stands r h. record { next = h.next; started = h.started };
   bridge_asked = λ u w at width wide asks h. record { next = h.next; started = h.started };
-  arities_set = λ w list. record { next = omega arith; started = omega arith };
+  loads = true;
+  arities_set = λ loads w list. record { next = omega arith; started = omega arith };
   mutexes_released = λ w. record { next = omega arith; started = omega arith };
   passed_noted = λ listed u w scope e wide is h. record { next = h.next; started = h.started };
 }
 
 pub next_declaration_rises : {S : Type 0} (accesses : Accesses S) (w v : State S) → Becomes accesses w v → w.names.next ≤ v.names.next
 unfolding numbers_rise_relation
-next_declaration_rises accesses w v h = (becomes_preserves (numbers_rise_relation accesses) w v h).next
+next_declaration_rises accesses w v h = (becomes_preserves (numbers_rise_relation accesses) refl w v h).next
 
 pub next_frame_rises : {S : Type 0} (accesses : Accesses S) (w v : State S) → Becomes accesses w v → w.started ≤ v.started
 unfolding numbers_rise_relation
-next_frame_rises accesses w v h = (becomes_preserves (numbers_rise_relation accesses) w v h).started
+next_frame_rises accesses w v h = (becomes_preserves (numbers_rise_relation accesses) refl w v h).started

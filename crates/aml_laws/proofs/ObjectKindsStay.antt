@@ -1,4 +1,5 @@
 -- After every evaluation objects have their numbers and their kinds.
+use Rattle.std.specs.Prelude.{true, refl}
 use Rattle.ar_space.specs.Accesses.{Accesses}
 use Rattle.aml_meaning.specs.State.{State}
 use Rattle.aml_laws.specs.Becomes.{Becomes}
@@ -20,10 +21,11 @@ object_kinds_relation accesses = record {
   names_removed = λ u w q at h. h;
   region_accessed = λ u w region s stands r h. h;
   bridge_asked = λ u w at width wide asks h. h;
-  arities_set = λ w list. kinds_reflexive w.objects;
+  loads = true;
+  arities_set = λ loads w list. kinds_reflexive w.objects;
   mutexes_released = λ w. kinds_reflexive w.objects;
   passed_noted = λ listed u w scope e wide is h. h;
 }
 
 pub object_kinds_stay : {S : Type 0} (accesses : Accesses S) (w v : State S) → Becomes accesses w v → KeepsKinds w.objects v.objects
-object_kinds_stay accesses w v h = becomes_preserves (object_kinds_relation accesses) w v h
+object_kinds_stay accesses w v h = becomes_preserves (object_kinds_relation accesses) refl w v h

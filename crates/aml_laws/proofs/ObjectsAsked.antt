@@ -1,7 +1,11 @@
 -- What SizeOf and ObjectType tell of what their target holds.
-use Rattle.std.specs.Prelude.{◌≡◌, ℕ, suc, List, length, Some, Ok, refl}
+use Rattle.std.specs.Prelude.{◌≡◌, ℕ, suc, List, length, Some, Ok, Err, refl}
 use Rattle.std.proofs.Common.{ap, ◌∙◌}
 use Rattle.std.specs.FinMap.{get}
+use Rattle.ar_space.specs.declared.refusal.EvaluationFault.TheVariants.{NoValue}
+use Rattle.ar_space.specs.declared.refusal.Refusal.{Refusal}
+use Rattle.ar_space.specs.declared.refusal.Refusal.TheVariants as refusal
+use Rattle.ar_space.specs.declared.refusal.ValueFault.TheVariants.{WrongType}
 use Rattle.ar_space.specs.Accesses.{Accesses}
 use Rattle.ar_space.specs.Change.{give, settle, go_on, ◌>>=◌}
 use Rattle.aml_path.specs.declared.segment.Seg.{Seg}
@@ -17,6 +21,7 @@ use Rattle.aml_objects.specs.declared.value.Value.TheVariants as value
 use Rattle.aml_meaning.specs.declared.flow.Flow.TheVariants as flow
 use Rattle.aml_meaning.specs.declared.object_type.ObjectType.{ObjectType}
 use Rattle.aml_meaning.specs.declared.object_type.ObjectType.TheVariants as types
+use Rattle.aml_meaning.specs.declared.object_type.Referent.{Referent}
 use Rattle.aml_meaning.specs.declared.object_type.Referent.TheVariants as referent
 use Rattle.aml_meaning.specs.declared.store_target.StoreTarget.{StoreTarget}
 use Rattle.aml_meaning.specs.declared.store_target.StoreTarget.TheVariants as targets
@@ -24,11 +29,12 @@ use Rattle.aml_meaning.specs.State.{State}
 use Rattle.aml_meaning.specs.Run.{lift}
 use Rattle.aml_meaning.specs.Tasks.{task}
 use Rattle.aml_meaning.specs.Operations.{type_number, type_of_value, size_in}
+use Rattle.aml_meaning.specs.FieldCalls.{referent_read}
 use Rattle.aml_meaning.specs.OperatorTerms.{referent_of_target, referent_at, size_rule, type_rule}
 use Rattle.aml_meaning.specs.StoreTargets.{latest_frame, slot_held, own_slot, referent_of, value_followed, referent_followed, followed, most_references, slot_referent, declared_referent, name_referent, target_referent}
 use Rattle.aml_meaning.specs.Evaluation.{rule}
 use Rattle.aml_meaning.specs.Meaning.{meaning}
-use Rattle.aml_laws.specs.OperatorTerms.{alone, counting, NamesTarget, nothing, debug, slot, named, SlotHolds, SlotIsEmpty, TargetHolds, in_slot, in_name, Gives}
+use Rattle.aml_laws.specs.OperatorTerms.{alone, counting, NamesTarget, nothing, debug, slot, named, SlotHolds, SlotIsEmpty, TargetHolds, in_slot, in_name, Gives, IsRefused}
 use Rattle.aml_laws.specs.ReferringTerms.{HasParts, elements, bytes_of_string, bytes_of_buffer, size_of, object_type, IsNumbered, an_integer, a_string, a_buffer, a_package, IsNamedKind, scope, field_unit, device, event, method, mutex, region, power_resource, processor, thermal_zone, buffer_field}
 use Rattle.aml_laws.proofs.TreesCost.{term_begins}
 use Rattle.aml_laws.proofs.OperatorsComputed.{slot_is_target, target_is}
@@ -90,7 +96,7 @@ module _ {S : Type 0} (accesses : Accesses S) (at : List Seg) (depth : ℕ) (w :
   unfolding referent_of_target go_on ◌>>=◌
   target_asked p t names = rw (target_is accesses at depth (counting op p) 0 w steps p t names refl) refl
 
-  part_asked : (p : Part) (t : StoreTarget) → NamesTarget at w p t → referent_at accesses (meaning accesses) at depth (counting op p) (w, steps) ≡ lift (target_referent t) (w, steps)
+  pub part_asked : (p : Part) (t : StoreTarget) → NamesTarget at w p t → referent_at accesses (meaning accesses) at depth (counting op p) (w, steps) ≡ lift (target_referent t) (w, steps)
   part_asked _ _ nothing = target_asked null targets.Nowhere nothing
   part_asked _ _ debug = target_asked (inner (alone opcodes.Debug)) targets.Nowhere debug
   part_asked _ _ (slot code s names) = rw (slot_is_target code s names) (target_asked (inner (alone code)) (targets.Slot s) (slot code s names))
@@ -143,3 +149,42 @@ module _ {S : Type 0} (accesses : Accesses S) (at : List Seg) (depth : ℕ) (p :
 pub debug_told : {S : Type 0} (accesses : Accesses S) (at : List Seg) (depth : ℕ) (w : State S) (steps : ℕ) → Gives accesses at depth (object_type (inner (alone opcodes.Debug))) (w, suc steps) 16 (w, steps)
 unfolding give
 debug_told accesses at depth w steps = object_gives accesses at depth (inner (alone opcodes.Debug)) w steps targets.Nowhere debug types.DebugObject refl
+
+-- ---- what has no size
+
+module _ {S : Type 0} (accesses : Accesses S) (at : List Seg) (depth : ℕ) (p : Part) (w : State S) (steps : ℕ) (t : StoreTarget) (names : NamesTarget at w p t) (e : Refusal) where
+  unsized : (r : Referent) → ((s : State S × ℕ) → referent_read accesses (meaning accesses) depth r s ≡ (Ok r, s)) → target_referent t w ≡ (Ok r, w) → size_in r w ≡ (Err e, w) → rule accesses (meaning accesses) (task at depth (size_of p)) (w, steps) ≡ (Err e, (w, steps))
+  unfolding rule size_rule lift give go_on ◌>>=◌
+  unsized r reads refers is = rw (part_asked accesses at depth w steps opcodes.SizeOf p t names, refers, reads (w, steps), is) refl
+
+  size_refused : (r : Referent) → ((s : State S × ℕ) → referent_read accesses (meaning accesses) depth r s ≡ (Ok r, s)) → target_referent t w ≡ (Ok r, w) → size_in r w ≡ (Err e, w) → IsRefused accesses at depth (size_of p) (w, suc steps) e (w, steps)
+  size_refused r reads refers is = (term_begins accesses (task at depth (size_of p))).paid w steps ∙ unsized r reads refers is
+
+  value_unsized : (v : Value) → target_referent t w ≡ (Ok (referent.Value v), w) → size_in (referent.Value v) w ≡ (Err e, w) → IsRefused accesses at depth (size_of p) (w, suc steps) e (w, steps)
+  unfolding give
+  value_unsized v refers is = size_refused (referent.Value v) (λ s. refl) refers is
+
+  object_unsized : (o : ObjectType) → target_referent t w ≡ (Ok (referent.Object o), w) → size_in (referent.Object o) w ≡ (Err e, w) → IsRefused accesses at depth (size_of p) (w, suc steps) e (w, steps)
+  unfolding give
+  object_unsized o refers is = size_refused (referent.Object o) (λ s. refl) refers is
+
+module _ {S : Type 0} (accesses : Accesses S) (at : List Seg) (depth : ℕ) (p : Part) (w : State S) (steps : ℕ) where
+  pub integer_unsized : (t : StoreTarget) (n : ℕ) → NamesTarget at w p t → TargetHolds w t (value.Integer n) → IsRefused accesses at depth (size_of p) (w, suc steps) (refusal.Value WrongType) (w, steps)
+  unfolding size_in
+  integer_unsized t n names holds = value_unsized accesses at depth p w steps t names (refusal.Value WrongType) (value.Integer n) (holder_refers w t (value.Integer n) holds (number n)) refl
+
+  pub nothing_unsized : (s : Slot) → NamesTarget at w p (targets.Slot s) → SlotIsEmpty w s → IsRefused accesses at depth (size_of p) (w, suc steps) (refusal.Evaluation NoValue) (w, steps)
+  unfolding size_in
+  nothing_unsized s names h = value_unsized accesses at depth p w steps (targets.Slot s) names (refusal.Evaluation NoValue) value.Uninitialized (empty_refers w s h) refl
+
+  pub no_value_unsized : (t : StoreTarget) → NamesTarget at w p t → TargetHolds w t value.Uninitialized → IsRefused accesses at depth (size_of p) (w, suc steps) (refusal.Evaluation NoValue) (w, steps)
+  unfolding size_in
+  no_value_unsized t names holds = value_unsized accesses at depth p w steps t names (refusal.Evaluation NoValue) value.Uninitialized (holder_refers w t value.Uninitialized holds nothing_yet) refl
+
+  pub kind_unsized : (path : List Seg) (e : Entry) (k : ℕ) → NamesTarget at w p (targets.Name path) → get w.names.map path ≡ Some e → IsNamedKind e.object k → IsRefused accesses at depth (size_of p) (w, suc steps) (refusal.Value WrongType) (w, steps)
+  unfolding size_in
+  kind_unsized path e k names there is = let b = kind_refers w path e there k is in object_unsized accesses at depth p w steps (targets.Name path) names (refusal.Value WrongType) b.0 b.1 refl
+
+pub debug_unsized : {S : Type 0} (accesses : Accesses S) (at : List Seg) (depth : ℕ) (w : State S) (steps : ℕ) → IsRefused accesses at depth (size_of (inner (alone opcodes.Debug))) (w, suc steps) (refusal.Value WrongType) (w, steps)
+unfolding give size_in
+debug_unsized accesses at depth w steps = object_unsized accesses at depth (inner (alone opcodes.Debug)) w steps targets.Nowhere debug (refusal.Value WrongType) types.DebugObject refl refl

@@ -1,5 +1,5 @@
 -- What \_OSI answers of a text.
-use Rattle.std.specs.Prelude.{◌≡◌, ◌||◌, ℕ, suc, List, [], ◌∷◌, Bool, true, false, Ok, refl}
+use Rattle.std.specs.Prelude.{◌≡◌, ◌||◌, ℕ, suc, List, [], ◌∷◌, slice_get, Bool, true, false, Option, Some, None, Ok, Err, refl}
 use Rattle.std.specs.Ordering.{is_eq, nat_cmp}
 use Rattle.std.specs.Cmp.Lexicographic.{slice_cmp}
 use Rattle.std.specs.FinMap.{nat_cmp-IsAntisymmetric, slice_cmp-IsAntisymmetric}
@@ -7,11 +7,18 @@ use Rattle.std.specs.declared.cmp.Ordering.{Ordering}
 use Rattle.std.specs.declared.cmp.Ordering.TheVariants.{Less, Equal, Greater}
 use Rattle.std.proofs.Common.{ap, sym, subst, ◌∙◌}
 use Rattle.std.proofs.lemmas.Cmp.{nat_list_cmp_total}
+use Rattle.ar_space.specs.declared.integer_width.IntegerWidth.{IntegerWidth}
+use Rattle.ar_space.specs.declared.refusal.Refusal.TheVariants as refusal
+use Rattle.ar_space.specs.declared.refusal.ValueFault.TheVariants.{WrongType}
 use Rattle.ar_space.specs.Accesses.{Accesses}
 use Rattle.ar_space.specs.Change.{give, settle, go_on, ◌>>=◌}
 use Rattle.aml_path.specs.declared.segment.Seg.{Seg}
 use Rattle.aml_path.specs.Paths.{Name}
 use Rattle.aml_grammar.specs.Tree.{Tree}
+use Rattle.aml_objects.specs.Contents.{content_in, buffer_held}
+use Rattle.aml_objects.specs.declared.object.Object.{Object}
+use Rattle.aml_objects.specs.declared.object.Object.TheVariants as object
+use Rattle.aml_objects.specs.declared.value.Value.{Value}
 use Rattle.aml_objects.specs.declared.value.Value.TheVariants as value
 use Rattle.aml_convert.specs.Integers.{truth}
 use Rattle.aml_meaning.specs.declared.flow.Flow.TheVariants as flow
@@ -21,12 +28,12 @@ use Rattle.aml_meaning.specs.Tasks.{task, operand_value}
 use Rattle.aml_meaning.specs.Readings.{entry_found, arguments_found}
 use Rattle.aml_meaning.specs.Invocations.{named_use, invocation_found}
 use Rattle.aml_meaning.specs.InvocationTerms.{arguments_in_turn, osi_rule, name_value}
-use Rattle.aml_meaning.specs.Osi.{same_text, is_known, osi_answered}
+use Rattle.aml_meaning.specs.Osi.{same_text, is_known, osi_answer, osi_answered}
 use Rattle.aml_meaning.specs.Evaluation.{rule}
 use Rattle.aml_meaning.specs.Meaning.{meaning}
-use Rattle.aml_laws.specs.OperatorTerms.{Gives}
+use Rattle.aml_laws.specs.OperatorTerms.{Gives, IsRefused}
 use Rattle.aml_laws.specs.TestTerms.{IsTruth}
-use Rattle.aml_laws.specs.NamesUsed.{call_of_one, IsAmong, first, later, AsksOsi}
+use Rattle.aml_laws.specs.NamesUsed.{call_of_one, IsAmong, first, later, AsksOsi, AsksOsiOf}
 use Rattle.aml_laws.proofs.TreesCost.{term_begins}
 use Rattle.aml_laws.proofs.LimitsRefused.{call_is_allowed}
 use Rattle.aml_laws.proofs.OrderedValues.{total_itself}
@@ -73,3 +80,27 @@ module _ {S : Type 0} (accesses : Accesses S) (scope : List Seg) (depth : ℕ) (
 
   pub osi_tells : (k : ℕ) × IsTruth after.0.width (IsAmong text after.0.osi) k × Gives accesses scope depth (call_of_one n x) (w, suc steps) k after
   osi_tells = (truth after.0.width (is_known after.0.osi text), truth_by after.0.width (is_known after.0.osi text) (IsAmong text after.0.osi) (among_so after.0.osi text) (not_among after.0.osi text), (term_begins accesses (task scope depth (call_of_one n x))).paid w steps ∙ answered_so)
+
+-- ---- other values
+
+buffer_refused : (width : IntegerWidth) (texts : List (List ℕ)) (b : Option Object) → osi_answer width texts (buffer_held b) ≡ Err (refusal.Value WrongType)
+buffer_refused width texts None = refl
+buffer_refused width texts (Some (object.String bytes)) = refl
+buffer_refused width texts (Some (object.Buffer bytes)) = refl
+buffer_refused width texts (Some (object.Package elements)) = refl
+
+refused_by : (width : IntegerWidth) (texts : List (List ℕ)) (objects : List Object) (v : Value) → ((o : ℕ) → v ≡ value.String o → ⊥) → osi_answer width texts (content_in objects v) ≡ Err (refusal.Value WrongType)
+refused_by width texts objects value.Uninitialized h = refl
+refused_by width texts objects (value.Integer n) h = refl
+refused_by width texts objects (value.String o) h = absurd (h o refl)
+refused_by width texts objects (value.Buffer o) h = buffer_refused width texts (slice_get objects o)
+refused_by width texts objects (value.Package o) h = refl
+refused_by width texts objects (value.Reference r) h = refl
+
+module _ {S : Type 0} (accesses : Accesses S) (scope : List Seg) (depth : ℕ) (n : Name) (x : Tree) (w : State S) (steps : ℕ) (v : Value) (after : State S × ℕ) (h : AsksOsiOf accesses scope depth n x (w, steps) v after) (other : (o : ℕ) → v ≡ value.String o → ⊥) where
+  refused_so : rule accesses (meaning accesses) (task scope depth (call_of_one n x)) (w, steps) ≡ (Err (refusal.Value WrongType), after)
+  unfolding rule name_value invocation_found arguments_found entry_found named_use osi_rule arguments_in_turn operand_value osi_answered settle lift give go_on ◌>>=◌
+  refused_so = rw (h.finds, h.takes_one, h.finds, h.gives, call_is_allowed depth after.0 h.below_32 h.allowed, refused_by after.0.width after.0.osi after.0.objects v other) refl
+
+  pub osi_refuses : IsRefused accesses scope depth (call_of_one n x) (w, suc steps) (refusal.Value WrongType) after
+  osi_refuses = (term_begins accesses (task scope depth (call_of_one n x))).paid w steps ∙ refused_so

@@ -1,6 +1,8 @@
 -- What SizeOf and ObjectType tell of a part of an object, which DerefOf reads.
-use Rattle.std.specs.Prelude.{◌≡◌, ◌≢◌, ℕ, suc, List, Ok, refl}
+use Rattle.std.specs.Prelude.{◌≡◌, ◌≢◌, ℕ, suc, List, Ok, Err, refl}
 use Rattle.std.proofs.Common.{◌∙◌}
+use Rattle.ar_space.specs.declared.refusal.Refusal.TheVariants as refusal
+use Rattle.ar_space.specs.declared.refusal.ValueFault.TheVariants.{WrongType}
 use Rattle.ar_space.specs.Accesses.{Accesses}
 use Rattle.ar_space.specs.Change.{give, settle, go_on, ◌>>=◌}
 use Rattle.aml_path.specs.declared.segment.Seg.{Seg}
@@ -16,7 +18,7 @@ use Rattle.aml_meaning.specs.Operations.{size_in}
 use Rattle.aml_meaning.specs.OperatorTerms.{referent_of_value, size_rule, type_rule}
 use Rattle.aml_meaning.specs.Evaluation.{rule}
 use Rattle.aml_meaning.specs.Meaning.{meaning}
-use Rattle.aml_laws.specs.OperatorTerms.{GivesValue, Gives}
+use Rattle.aml_laws.specs.OperatorTerms.{GivesValue, Gives, IsRefused}
 use Rattle.aml_laws.specs.ReferringTerms.{HasParts, elements, bytes_of_string, bytes_of_buffer, HasPart, Indexes, part_read, size_of, object_type, IsNumbered, an_integer, a_string, a_buffer, a_package}
 use Rattle.aml_laws.proofs.PartsIndexed.{part_is_read}
 use Rattle.aml_laws.proofs.TreesCost.{term_begins}
@@ -57,3 +59,16 @@ module _ {S : Type 0} (accesses : Accesses S) (scope : List Seg) (depth : ℕ) (
   part_sized v r i n f after h part parts =
       (term_begins accesses (task scope depth (size_of (inner (part_read x y))))).paid w (suc (suc steps))
       ∙ sized_so accesses scope depth x y w (suc (suc steps)) r n f after parts (part_is_read accesses scope depth x y w steps v r i after h part (some_parts after.0 r n f parts))
+
+-- ---- an integer has no size
+
+module _ {S : Type 0} (accesses : Accesses S) (scope : List Seg) (depth : ℕ) (x y : Tree) (w : State S) (steps : ℕ) where
+  unsized_so : (n : ℕ) (after : State S × ℕ) → GivesValue accesses scope depth (part_read x y) (w, steps) (value.Integer n) after → rule accesses (meaning accesses) (task scope depth (size_of (inner (part_read x y)))) (w, steps) ≡ (Err (refusal.Value WrongType), after)
+  unfolding rule size_rule referent_of_value operand_value size_in settle lift give go_on ◌>>=◌
+  unsized_so n after gives = rw gives refl
+
+module _ {S : Type 0} (accesses : Accesses S) (scope : List Seg) (depth : ℕ) (x y : Tree) (w : State S) (steps : ℕ) where
+  pub part_unsized : (v : Value) (i n : ℕ) (after : State S × ℕ) → Indexes accesses scope depth x y (w, steps) v i after → HasPart after.0 v i (value.Integer n) → IsRefused accesses scope depth (size_of (inner (part_read x y))) (w, suc (suc (suc steps))) (refusal.Value WrongType) after
+  part_unsized v i n after h part =
+      (term_begins accesses (task scope depth (size_of (inner (part_read x y))))).paid w (suc (suc steps))
+      ∙ unsized_so accesses scope depth x y w (suc (suc steps)) n after (part_is_read accesses scope depth x y w steps v (value.Integer n) i after h part (initialized_so (value.Integer n) 1 (an_integer n)))

@@ -118,3 +118,13 @@ module _ {S : Type 0} (accesses : Accesses S) (scope : List Seg) (depth : ℕ) (
 
     pub scope_refused : (code : Opcode) (o : NamedObject) (i : ℕ) (t : Tree) → DeclaresScope code o i → code_of t ≡ codes.Opcode code → name_of (operand_of t 0) ≡ Ok n → TakesNoName depth w path e → IsRefused accesses scope depth t (w, suc steps) e (w, steps)
     scope_refused code o i t declares coded at h = (term_begins accesses (task scope depth t)).paid w steps ∙ (scope_ruled code o i t declares coded ∙ new_scope_stops o i t at h)
+
+-- ---- aliases of nothing
+
+module _ {S : Type 0} (accesses : Accesses S) (scope : List Seg) (depth : ℕ) (source n : Name) (w : State S) (steps : ℕ) (e : Refusal) (none : found w.names.map scope source ≡ Err e) where
+  no_source_stops : rule accesses (meaning accesses) (task scope depth (alias_term source n)) (w, steps) ≡ (Err e, (w, steps))
+  unfolding rule alias_rule path_found settle lift go_on ◌>>=◌
+  no_source_stops = rw none refl
+
+  pub alias_of_none_refused : IsRefused accesses scope depth (alias_term source n) (w, suc steps) e (w, steps)
+  alias_of_none_refused = (term_begins accesses (task scope depth (alias_term source n))).paid w steps ∙ no_source_stops

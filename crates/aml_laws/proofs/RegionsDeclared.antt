@@ -168,3 +168,6 @@ wider_accesses flags update = (λ h. width_is flags 2 update h W16 refl, λ h. w
 
 pub update_rules : (flags access : ℕ) → (HasFlags flags access 0 → update_rule flags ≡ Preserve) × (HasFlags flags access 1 → update_rule flags ≡ WriteAsOnes) × (HasFlags flags access 2 → update_rule flags ≡ WriteAsZeros)
 update_rules flags access = (λ h. rule_is flags access 0 h Preserve refl, λ h. rule_is flags access 1 h WriteAsOnes refl, λ h. rule_is flags access 2 h WriteAsZeros refl)
+
+pub no_update_rule : (flags access : ℕ) → HasFlags flags access 3 → update_rule flags ≡ Preserve
+no_update_rule flags access h = rule_is flags access 3 h Preserve refl

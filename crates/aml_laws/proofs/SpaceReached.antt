@@ -2,7 +2,7 @@
 use Rattle.ar_space.specs.Accesses.{Accesses}
 use Rattle.aml_meaning.specs.State.{State}
 use Rattle.aml_laws.specs.Becomes.{Becomes}
-use Rattle.std.specs.Prelude.{◌≡◌, Bool, true}
+use Rattle.std.specs.Prelude.{◌≡◌, Bool, true, refl}
 use Rattle.aml_laws.specs.Reached.{Reached, none, read, written, KeptByAccesses}
 use Rattle.aml_laws.proofs.RegisterAccesses.{reached_transitive, reached_anyhow}
 use Rattle.aml_laws.proofs.WorldRelations.{WorldRelation}
@@ -21,13 +21,14 @@ reached_relation accesses = record {
   names_removed = λ u w q at h. h;
   region_accessed = λ u w region s stands r h. reached_transitive u.space w.space s h (reached_anyhow region w.space s r);
   bridge_asked = λ u w at width wide asks h. read w.space at width h;
-  arities_set = λ w list. none;
+  loads = true;
+  arities_set = λ loads w list. none;
   mutexes_released = λ w. none;
   passed_noted = λ listed u w scope e wide is h. h;
 }
 
 pub space_reached : {S : Type 0} (accesses : Accesses S) (w v : State S) → Becomes accesses w v → Reached accesses w.space v.space
-space_reached accesses w v h = becomes_preserves (reached_relation accesses) w v h
+space_reached accesses w v h = becomes_preserves (reached_relation accesses) refl w v h
 
 reached_keeps_test : {S : Type 0} (accesses : Accesses S) (test : S → Bool) (s t : S) → KeptByAccesses accesses test → Reached accesses s t → test s ≡ true → test t ≡ true
 reached_keeps_test accesses test s t k none h = h

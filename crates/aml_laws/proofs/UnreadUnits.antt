@@ -21,7 +21,9 @@ use Rattle.aml_fields.proofs.FieldWrites.{merged_bits}
 use Rattle.aml_fields.proofs.Putting.{length_extended}
 use Rattle.aml_fields.proofs.SpaceBits.{put_before, put_behind, put_inside}
 use Rattle.aml_fields.proofs.UnitWrites.{narrow}
+use Rattle.aml_laws.specs.UnitPlaces.{WritesOnce}
 use Rattle.aml_laws.specs.UnitValues.{Reads, with_reads, IsFilledWith}
+use Rattle.aml_laws.proofs.UnitsPlaced.{written_once}
 
 -- ---- no unit is read
 
@@ -129,13 +131,13 @@ unit_written accesses b r f source u p s rule at =
     ∙ ap (λ (x : Outcome ℕ × _). go_on x.0 x.1 (λ old. write_access accesses p f.access (merged (rest_of_unit f.update f.access old) u.first (field_bits source u.position u.count)))) (kept_zero f u (read_access accesses p f.access) s (not_preserve_by f.update b rule))
 
 pub unit_of_ones : {S : Type 0} (accesses : Accesses S) (r : Region) (f : FieldUnit) (source : List ℕ) (u : Access) (p : Place) (s : S) → f.update ≡ WriteAsOnes → u.first + u.count ≤ bit_count f.access → unit_place r f.access u.offset ≡ Ok p
-    → (value : ℕ) × IsFilledWith true f source u value × (write_unit accesses r f source u s ≡ write_access accesses p f.access value s)
+    → (value : ℕ) × IsFilledWith true f source u value × ((end : Outcome (Unit {0}) × S) → WritesOnce accesses p f.access value s end → write_unit accesses r f source u s ≡ end)
 unit_of_ones accesses r f source u p s is within at =
-    (merged (rest_of_unit f.update f.access 0) u.first (field_bits source u.position u.count), filled true f (inl (is, refl)) source u within 0, unit_written accesses true r f source u p s (inl (is, refl)) at)
+    (merged (rest_of_unit f.update f.access 0) u.first (field_bits source u.position u.count), filled true f (inl (is, refl)) source u within 0, λ end once. unit_written accesses true r f source u p s (inl (is, refl)) at ∙ written_once accesses p f.access (merged (rest_of_unit f.update f.access 0) u.first (field_bits source u.position u.count)) s end once)
 
 pub unit_of_zeros : {S : Type 0} (accesses : Accesses S) (r : Region) (f : FieldUnit) (source : List ℕ) (u : Access) (p : Place) (s : S) → f.update ≡ WriteAsZeros → u.first + u.count ≤ bit_count f.access → unit_place r f.access u.offset ≡ Ok p
-    → (value : ℕ) × IsFilledWith false f source u value × (write_unit accesses r f source u s ≡ write_access accesses p f.access value s)
+    → (value : ℕ) × IsFilledWith false f source u value × ((end : Outcome (Unit {0}) × S) → WritesOnce accesses p f.access value s end → write_unit accesses r f source u s ≡ end)
 unit_of_zeros accesses r f source u p s is within at =
-    (merged (rest_of_unit f.update f.access 0) u.first (field_bits source u.position u.count), filled false f (inr (is, refl)) source u within 0, unit_written accesses false r f source u p s (inr (is, refl)) at)
+    (merged (rest_of_unit f.update f.access 0) u.first (field_bits source u.position u.count), filled false f (inr (is, refl)) source u within 0, λ end once. unit_written accesses false r f source u p s (inr (is, refl)) at ∙ written_once accesses p f.access (merged (rest_of_unit f.update f.access 0) u.first (field_bits source u.position u.count)) s end once)
 
 pub ruleset ones_and_zeros_read_nothing = (field_unread, unit_of_ones, unit_of_zeros)

@@ -38,7 +38,7 @@ module _ {S : Type 0} (w : State S) where
   itself (value.Package o) other = refl
   itself (value.Reference r) other = absurd (other r refl)
 
-  leads_so : (v : Value) (x : Referent) → EndsAt w v x → value_followed (followed 64) v w ≡ (Ok x, w)
+  pub leads_so : (v : Value) (x : Referent) → EndsAt w v x → value_followed (followed 64) v w ≡ (Ok x, w)
   leads_so _ _ (to_itself v other) = itself v other
   leads_so _ _ (through_references r k x chain few) = chain_followed w k 64 r x chain few
 

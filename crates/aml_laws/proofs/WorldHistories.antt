@@ -108,13 +108,14 @@ module _ {S : Type 0} (accesses : Accesses S) where
     names_removed = λ u w q at h. changed u w _ h (names_gone w q);
     region_accessed = after_accesses;
     bridge_asked = λ u w at width wide is h. bridge_asked u w at width h (history_profile u w h ∙ wide) is;
-    arities_set = λ w list. changed w w _ (same w) (names_alike w _ refl refl refl);
+    loads = true;
+    arities_set = λ loads w list. changed w w _ (same w) (names_alike w _ refl refl refl);
     mutexes_released = λ w. changed w w _ (same w) (mutexes_free w);
     passed_noted = λ listed u w scope e wide is h. changed u w _ h (names_alike w _ refl refl refl);
   }
 
   pub has_history : (w v : State S) → Becomes accesses w v → History accesses w v
-  has_history w v h = becomes_preserves history_relation w v h
+  has_history w v h = becomes_preserves history_relation refl w v h
 
   history_numbers : (w v : State S) → History accesses w v → w.names.next ≤ v.names.next
   history_numbers w v (same _) = omega arith

@@ -74,7 +74,9 @@ pub record WorldRelationOf {S : Type 0} (listed : Bool) (accesses : Accesses S) 
   -- in the wide profile a bridge is asked for the bus behind it
   pub bridge_asked : (u w : State S) (at : Place) (width : Width) → u.profile ≡ profiles.Wide → AsksBridge at width → Leads u w → Leads u (record w { space = (accesses.reads w.space at width).1 })
   -- a table tells how many arguments names take, and all mutexes are free after it
-  pub arities_set : (w : State S) (list : List Arity) → Leads w (record w { arities = list })
+  -- loads: whether loading a table respects it, too
+  pub loads : Bool
+  pub arities_set : loads ≡ true → (w : State S) (list : List Arity) → Leads w (record w { arities = list })
   pub mutexes_released : (w : State S) → Leads w (released w)
   -- in the wide profile what a list at module level passes over is noted
   pub passed_noted : listed ≡ true → (u w : State S) (scope : List Seg) (e : Refusal) → u.profile ≡ profiles.Wide → is_passable e ≡ true → Leads u w → Leads u (with_passed scope e w)
@@ -102,6 +104,7 @@ always relation = record {
     names_removed = relation.names_removed;
     region_accessed = relation.region_accessed;
     bridge_asked = relation.bridge_asked;
+    loads = relation.loads;
     arities_set = relation.arities_set;
     mutexes_released = relation.mutexes_released;
     passed_noted = λ listed. relation.passed_noted refl;

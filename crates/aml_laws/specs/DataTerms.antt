@@ -1,6 +1,9 @@
 -- Terms that form strings, buffers and packages (ACPI 6.5, 19.6: Buffer, Package; 20.2.3: DefString).
 use Rattle.std.specs.Prelude.{◌-◌, ℕ, suc, List, [], ◌∷◌, ◌++◌, length, replicate}
 use Rattle.ar_space.specs.Accesses.{Accesses}
+use Rattle.ar_space.specs.declared.refusal.Refusal.{Refusal}
+use Rattle.ar_space.specs.declared.refusal.Refusal.TheVariants as refusal
+use Rattle.ar_space.specs.declared.refusal.EvaluationFault.TheVariants.{NoValue, OutOfSteps}
 use Rattle.aml_path.specs.declared.segment.Seg.{Seg}
 use Rattle.aml_path.specs.Paths.{Name}
 use Rattle.aml_grammar.specs.declared.opcode.Opcode.{Opcode}
@@ -12,7 +15,7 @@ use Rattle.aml_objects.specs.declared.object.Element.TheVariants as element
 use Rattle.aml_objects.specs.declared.value.Value.{Value}
 use Rattle.aml_objects.specs.declared.value.Value.TheVariants as value
 use Rattle.aml_meaning.specs.State.{State}
-use Rattle.aml_laws.specs.OperatorTerms.{of_opcode, GivesValue}
+use Rattle.aml_laws.specs.OperatorTerms.{of_opcode, GivesValue, GivesNothing, IsRefused}
 
 -- ---- terms
 
@@ -58,3 +61,13 @@ pub data GivesElements {S : Type 0} (accesses : Accesses S) (scope : List Seg) (
       → GivesElements accesses scope depth (suc n) (tree t ts) s (element.Value v ∷ es) after
   of_name : (n : ℕ) (m : Name) (ts : Trees) (w : State S) (steps : ℕ) (after : State S × ℕ) (es : List Element) → GivesElements accesses scope depth n ts (w, steps) es after
       → GivesElements accesses scope depth (suc n) (tree (name_in_package m) ts) (w, suc steps) (element.Name m scope ∷ es) after
+
+-- or one of them, behind such that give elements, is refused, or gives nothing; so is a name for which no step is left
+pub data GivesNoElements {S : Type 0} (accesses : Accesses S) (scope : List Seg) (depth : ℕ) : ℕ → Trees → State S × ℕ → Refusal → State S × ℕ → Type 0 where
+  refused_there : (n : ℕ) (t : Tree) (ts : Trees) (s after : State S × ℕ) (e : Refusal) → IsValued t → IsRefused accesses scope depth t s e after → GivesNoElements accesses scope depth (suc n) (tree t ts) s e after
+  nothing_there : (n : ℕ) (t : Tree) (ts : Trees) (s after : State S × ℕ) → IsValued t → GivesNothing accesses scope depth t s after → GivesNoElements accesses scope depth (suc n) (tree t ts) s (refusal.Evaluation NoValue) after
+  no_step_there : (n : ℕ) (m : Name) (ts : Trees) (w : State S) → GivesNoElements accesses scope depth (suc n) (tree (name_in_package m) ts) (w, 0) (refusal.Evaluation OutOfSteps) (w, 0)
+  behind_value : (n : ℕ) (t : Tree) (ts : Trees) (s between after : State S × ℕ) (v : Value) (e : Refusal) → IsValued t → GivesValue accesses scope depth t s v between → GivesNoElements accesses scope depth n ts between e after
+      → GivesNoElements accesses scope depth (suc n) (tree t ts) s e after
+  behind_name : (n : ℕ) (m : Name) (ts : Trees) (w : State S) (steps : ℕ) (after : State S × ℕ) (e : Refusal) → GivesNoElements accesses scope depth n ts (w, steps) e after
+      → GivesNoElements accesses scope depth (suc n) (tree (name_in_package m) ts) (w, suc steps) e after

@@ -23,6 +23,21 @@ abbrev mutual
   AllNestWithin n none = Unit {0}
   AllNestWithin n (more g gs) = NestsWithin n g × AllNestWithin n gs
 
+-- nowhere a reference without a path
+abbrev mutual
+  pub HasPaths : Given → Type 0
+  HasPaths Nothing = Unit {0}
+  HasPaths (Integer k) = Unit {0}
+  HasPaths (Text bytes) = Unit {0}
+  HasPaths (Bytes bytes) = Unit {0}
+  HasPaths (Package gs) = AllHavePaths gs
+  HasPaths (Named path) = Unit {0}
+  HasPaths Reference = ⊥
+
+  pub AllHavePaths : Givens → Type 0
+  AllHavePaths none = Unit {0}
+  AllHavePaths (more g gs) = HasPaths g × AllHavePaths gs
+
 -- how many elements a package has
 abbrev pub many : Givens → ℕ
 many none = 0

@@ -17,6 +17,14 @@ use Rattle.aml_meaning.specs.State.{State}
 use Rattle.aml_meaning.specs.Tasks.{in_turn}
 use Rattle.aml_laws.specs.OperatorTerms.{OneInteger}
 
+-- the objects in whose scope a Scope term declares names
+pub data OpensScope : NamedObject → Type 0 where
+  a_scope : OpensScope named.Scope
+  a_device : OpensScope named.Device
+  a_processor : OpensScope named.Processor
+  a_power_resource : OpensScope named.PowerResource
+  a_thermal_zone : OpensScope named.ThermalZone
+
 -- a term, the object that it declares, and which operand from 0 its list is
 pub data DeclaresScope : Opcode → NamedObject → ℕ → Type 0 where
   of_device : DeclaresScope opcodes.Device named.Device 1

@@ -1,11 +1,16 @@
 -- Strings and buffers that terms form of others (ACPI 6.5, 19.6: Concatenate, Mid, ToString).
-use Rattle.std.specs.Prelude.{◌≡◌, ◌≢◌, ◌⊎◌, ◌<◌, ◌≤◌, ◌-◌, ℕ, min, List, [], ◌∷◌, ◌++◌, length, slice_get, Some, Ok}
+use Rattle.std.specs.Prelude.{◌≡◌, ◌≢◌, ◌⊎◌, ◌<◌, ◌≤◌, ◌-◌, ℕ, min, List, [], ◌∷◌, ◌++◌, length, slice_get, Some, Ok, Err}
 use Rattle.ar_space.specs.declared.integer_width.IntegerWidth.{IntegerWidth}
+use Rattle.ar_space.specs.declared.refusal.Refusal.{Refusal}
+use Rattle.ar_space.specs.declared.refusal.Refusal.TheVariants as refusal
+use Rattle.ar_space.specs.declared.refusal.ResourceFault.TheVariants.{NoEnd}
+use Rattle.ar_space.specs.declared.refusal.ValueFault.TheVariants.{WrongType}
 use Rattle.ar_space.specs.Accesses.{Accesses}
+use Rattle.acpi_resources.specs.Items.{items_of}
 use Rattle.aml_path.specs.declared.segment.Seg.{Seg}
 use Rattle.aml_grammar.specs.declared.opcode.Opcode.TheVariants as opcodes
 use Rattle.aml_grammar.specs.Tree.{Tree, Part, inner, no_parts, part}
-use Rattle.aml_objects.specs.Contents.{Content, Integer, String, Buffer, content_in}
+use Rattle.aml_objects.specs.Contents.{Content, Integer, String, Buffer, Other, content_in}
 use Rattle.aml_objects.specs.declared.object.Object.{Object}
 use Rattle.aml_objects.specs.declared.object.Object.TheVariants as object
 use Rattle.aml_objects.specs.declared.value.Value.{Value}
@@ -15,6 +20,7 @@ use Rattle.aml_meaning.specs.declared.profile.Profile.TheVariants as profiles
 use Rattle.aml_meaning.specs.State.{State}
 use Rattle.aml_meaning.specs.Readings.{integer_in}
 use Rattle.aml_laws.specs.OperatorTerms.{of_opcode, GivesValue}
+use Rattle.aml_laws.specs.ResourceLists.{HasEndTag}
 use Rattle.aml_laws.specs.TestTerms.{TwoValues}
 
 -- the same world with one object more, which is the last one, and the value that it is
@@ -32,6 +38,33 @@ pub data IsJoined (width : IntegerWidth) : Content → Content → Content → L
   buffers : (s t : List ℕ) (second : Content) → to_buffer_of width second ≡ Ok t → IsJoined width (Buffer s) second (Buffer (s ++ t)) (s ++ t)
   integers : (n m : ℕ) (s t : List ℕ) (second : Content) → to_integer_of width second ≡ Ok m → to_buffer_of width (Integer n) ≡ Ok s → to_buffer_of width (Integer m) ≡ Ok t
       → IsJoined width (Integer n) second (Buffer (s ++ t)) (s ++ t)
+
+-- the second one has no conversion to the type of the first, and how that is refused
+pub data IsUnjoined (width : IntegerWidth) : Content → Content → Refusal → Type 0 where
+  no_integer : (n : ℕ) (second : Content) (e : Refusal) → to_integer_of width second ≡ Err e → IsUnjoined width (Integer n) second e
+  no_text : (s : List ℕ) (second : Content) (e : Refusal) → to_text_of width second ≡ Err e → IsUnjoined width (String s) second e
+  no_bytes : (s : List ℕ) (second : Content) (e : Refusal) → to_buffer_of width second ≡ Err e → IsUnjoined width (Buffer s) second e
+
+-- ---- ConcatenateResTemplate
+
+-- a content that is no buffer
+pub data HoldsNoBuffer : Content → Type 0 where
+  holds_integer : (n : ℕ) → HoldsNoBuffer (Integer n)
+  holds_string : (s : List ℕ) → HoldsNoBuffer (String s)
+  holds_other : HoldsNoBuffer Other
+
+-- bytes that are no list of resource items: there are some, and no end tag is among their items
+pub data HasNoEnd : List ℕ → Type 0 where
+  without_end : (b : ℕ) (bytes : List ℕ) → (HasEndTag (items_of (b ∷ bytes)) → ⊥) → HasNoEnd (b ∷ bytes)
+
+-- two contents that aren't both buffers of resource items, and how that is refused: first it is asked whether both are buffers
+pub data AreNoTemplates : Content → Content → Refusal → Type 0 where
+  first_is_none : (a b : Content) → HoldsNoBuffer a → AreNoTemplates a b (refusal.Value WrongType)
+  second_is_none : (s : List ℕ) (b : Content) → HoldsNoBuffer b → AreNoTemplates (Buffer s) b (refusal.Value WrongType)
+  first_has_no_end : (s t : List ℕ) → HasNoEnd s → AreNoTemplates (Buffer s) (Buffer t) (refusal.Resource NoEnd)
+  second_has_no_end : (s t : List ℕ) → (s ≡ []) ⊎ HasEndTag (items_of s) → HasNoEnd t → AreNoTemplates (Buffer s) (Buffer t) (refusal.Resource NoEnd)
+
+-- ---- new objects
 
 -- a value is a new object of a content, and the world has it
 pub data IsNew {S : Type 0} (w : State S) : Content → Value → State S → Type 0 where

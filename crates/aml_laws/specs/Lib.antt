@@ -1,3 +1,4 @@
+pub mod AddressObjects
 pub mod AllWithin
 pub mod Answered
 pub mod BankDeclarations
@@ -25,8 +26,8 @@ pub mod Digits
 pub mod Events
 pub mod FieldLists
 pub mod FieldNames
+pub mod FieldsLedTo
 pub mod FieldsPut
-pub mod FieldsReached
 pub mod FramesOpened
 pub mod Handed
 pub mod HandedBack
@@ -34,8 +35,8 @@ pub mod HandedIn
 pub mod HandedOut
 pub mod Histories
 pub mod IndexRegisters
-pub mod IndexTargets
 pub mod InnerLists
+pub mod IntegerOperands
 pub mod IntegersOfValues
 pub mod JoinedTerms
 pub mod Kinds
@@ -60,6 +61,8 @@ pub mod Outside
 pub mod Parts
 pub mod PassedNotes
 pub mod PassedNumbers
+pub mod PciAddresses
+pub mod PciRegions
 pub mod PciScopes
 pub mod Plain
 pub mod PredefinedNames
@@ -79,7 +82,10 @@ pub mod StoreTerms
 pub mod StoredParts
 pub mod TargetsNamed
 pub mod TestTerms
+pub mod UncountedTargets
+pub mod UnitPlaces
 pub mod UnitValues
+pub mod UnitsInTurn
 pub mod StoredCopies
 pub mod StoredNames
 pub mod Unreferenced

@@ -59,3 +59,14 @@ pub record AsksOsi {S : Type 0} (accesses : Accesses S) (scope : List Seg) (dept
   pub holds : slice_get after.0.objects o ≡ Some (object.String text)
   pub below_32 : depth < 32
   pub allowed : depth < after.0.nesting.calls
+
+-- or of any value
+pub record AsksOsiOf {S : Type 0} (accesses : Accesses S) (scope : List Seg) (depth : ℕ) (n : Name) (x : Tree) (s : State S × ℕ) (v : Value) (after : State S × ℕ) : Type 0 where
+  pub path : List Seg
+  pub number : ℕ
+  pub flags : MethodFlags
+  pub takes_one : arguments_taken flags ≡ 1
+  pub finds : found s.0.names.map scope n ≡ Ok (path, osi_entry number flags)
+  pub gives : GivesValue accesses scope depth x s v after
+  pub below_32 : depth < 32
+  pub allowed : depth < after.0.nesting.calls

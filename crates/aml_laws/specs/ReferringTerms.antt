@@ -32,6 +32,11 @@ pub data HasParts {S : Type 0} (w : State S) : Value → ℕ → (ℕ → Refere
   bytes_of_string : (o : ℕ) (bytes : List ℕ) → slice_get w.objects o ≡ Some (object.String bytes) → HasParts w (value.String o) (length bytes) (λ i. reference.Byte o i)
   bytes_of_buffer : (o : ℕ) (bytes : List ℕ) → slice_get w.objects o ≡ Some (object.Buffer bytes) → HasParts w (value.Buffer o) (length bytes) (λ i. reference.Byte o i)
 
+-- what has none
+pub data HasNoParts : Value → Type 0 where
+  an_integer_has_none : (n : ℕ) → HasNoParts (value.Integer n)
+  a_reference_has_none : (r : Reference) → HasNoParts (value.Reference r)
+
 -- and what its part at an index is
 pub data HasPart {S : Type 0} (w : State S) : Value → ℕ → Value → Type 0 where
   element_there : (o i : ℕ) (es : List Element) (v : Value) → slice_get w.objects o ≡ Some (object.Package es) → slice_get es i ≡ Some (element.Value v) → HasPart w (value.Package o) i v

@@ -20,3 +20,8 @@ with_reads accesses reads = record { reads = reads; writes = accesses.writes }
 pub record IsFilledWith (other : Bool) (field : FieldUnit) (source : List ℕ) (unit : Access) (value : ℕ) : Type 0 where
   pub inside : (m : ℕ) → m < unit.count → bit value (unit.first + m) ≡ get_or (field_bits source unit.position unit.count) m false
   pub outside : (m : ℕ) → m < bit_count field.access → (m < unit.first) ⊎ (unit.first + unit.count ≤ m) → bit value m ≡ other
+
+-- the bits of the field in a unit are those of the source, and each other bit is that of an old number
+pub record IsMergedInto (old : ℕ) (field : FieldUnit) (source : List ℕ) (unit : Access) (value : ℕ) : Type 0 where
+  pub inside : (m : ℕ) → m < unit.count → bit value (unit.first + m) ≡ get_or (field_bits source unit.position unit.count) m false
+  pub outside : (m : ℕ) → m < bit_count field.access → (m < unit.first) ⊎ (unit.first + unit.count ≤ m) → bit value m ≡ bit old m

@@ -3,6 +3,7 @@ ghost use Rattle.std.specs.Prelude.{◌≡◌, ◌≢◌, ℕ, List, Ok, Err};
 ghost use Rattle.ar_space.specs.Accesses.{Accesses};
 ghost use Rattle.ar_space.specs.declared.refusal.Refusal.{Refusal};
 ghost use Rattle.ar_space.specs.declared.refusal.Refusal.TheVariants as refusal;
+ghost use Rattle.ar_space.specs.declared.refusal.EvaluationFault.TheVariants.{NoValue};
 ghost use Rattle.ar_space.specs.declared.refusal.ValueFault.TheVariants.{WrongType};
 ghost use Rattle.aml_path.specs.Paths.{Name};
 ghost use Rattle.aml_path.specs.declared.segment.Seg.{Seg};
@@ -28,9 +29,10 @@ ghost use Rattle.aml_laws.specs.BankDeclarations.{bank_field, Finds, FindsField}
 /// A BankField term in the wide profile finds its region first, then its bank field, and then evaluates the value,
 /// once: where a name finds nothing, the term is refused so, and nothing has changed; what is no operation region, no
 /// field unit, or a field that a BankField or an IndexField declared is refused as `WrongType`; where the value is
-/// refused or is no integer, the term is refused so. Else its fields are declared in the region, with the bank field
-/// and the value as an integer. A value that is evaluated before its names are found, or a bank field in a bank, is
-/// refused by this.
+/// refused or is no integer, the term is refused so, and as `NoValue` where its term gives nothing, as a call of a
+/// control method that comes to its end; no field is declared then. Else its fields are declared in the region, with
+/// the bank field and the value as an integer. A value that is evaluated before its names are found, a bank field in
+/// a bank, and a term that gives nothing and counts as 0, are refused by this.
 pub fn a_bank_field_is_declared_in_order<S>()
     ensures no_region { (accesses : Accesses S) (scope : List Seg) (depth : ℕ) (region bank : Name) (value : Tree)
         (flags : ℕ) (fields : Trees) (s : State S × ℕ) (e : Refusal) → s.0.profile ≡ Wide →
@@ -71,6 +73,13 @@ pub fn a_bank_field_is_declared_in_order<S>()
         meaning accesses (task scope depth value) s ≡ (Err e, after) →
         rule accesses (meaning accesses) (task scope depth (bank_field region bank value flags fields)) s ≡
         (Err e, after) }
+    ensures nothing_given { (accesses : Accesses S) (scope : List Seg) (depth : ℕ) (region bank : Name) (value : Tree)
+        (flags : ℕ) (fields : Trees) (s after : State S × ℕ) (n : ℕ) (r : OperationRegion) (b q : ℕ) →
+        s.0.profile ≡ Wide → Finds s.0 scope region n (object.OperationRegion r) →
+        FindsField s.0 scope bank b (sources.Region q) →
+        meaning accesses (task scope depth value) s ≡ (Ok flow.Next, after) →
+        rule accesses (meaning accesses) (task scope depth (bank_field region bank value flags fields)) s ≡
+        (Err (refusal.Evaluation NoValue), after) }
     ensures no_integer { (accesses : Accesses S) (scope : List Seg) (depth : ℕ) (region bank : Name) (value : Tree)
         (flags : ℕ) (fields : Trees) (s after : State S × ℕ) (n : ℕ) (r : OperationRegion) (b q : ℕ) (v : Value)
         (e : Refusal) → s.0.profile ≡ Wide → Finds s.0 scope region n (object.OperationRegion r) →

@@ -22,10 +22,11 @@ ghost use Rattle.aml_laws.specs.BankFields.{IsFieldUnit, eight_bytes, read_in_it
 ghost use Rattle.aml_laws.specs.BankRegisters.{selected_and_read, selected_and_written};
 
 /// A field in a bank of a region of SystemMemory or SystemIO, whose bank field is a register that holds the value, is
-/// read unit by unit: the value is written to the bank register, and right behind that the unit is read. It is written
-/// so too, and where bits of a unit are kept, the unit is read so before. There are no other accesses, nothing else of
-/// the world changes, and no step is taken. A bank that is selected once for all units, or behind the unit, or not
-/// again between the read and the write of a unit, is refused by this.
+/// read unit by unit, in the order of `units_are_accessed_lowest_first`: the value is written to the bank register, and
+/// right behind that the unit is read. It is written so too, and where bits of a unit are kept, the unit is read so
+/// before. There are no other accesses, nothing else of the world changes, and no step is taken. A bank that is
+/// selected once for all units, or behind the unit, or not again between the read and the write of a unit, is refused
+/// by this.
 #[tactic(auto, using(crate::proofs::BankedFields::read_in_bank, crate::proofs::BankedFields::written_in_bank))]
 pub fn a_bank_is_selected_before_each_unit<S>()
     ensures read { (w : State S) (steps : ℕ) (accesses : Accesses S) (call : List Seg → Run S ℕ) (n : ℕ) (bank : Bank)
@@ -44,10 +45,10 @@ pub fn a_bank_is_selected_before_each_unit<S>()
 
 /// A bank is selected by one write of its bank field with the value, whatever bits the field has and by whatever rule
 /// it updates its units, which may read them first: the bank field lies in a region of SystemMemory or SystemIO and
-/// holds the value. A field in such a bank is read and written unit by unit, each right behind such a write, and
-/// where bits of a unit are kept, it is read so before. There are no other accesses, nothing else of the world
-/// changes, and no step is taken. A bank field of a part of a unit that is written whole, or without the bits that it
-/// keeps, is refused by this.
+/// holds the value. A field in such a bank is read and written unit by unit, in the order of
+/// `units_are_accessed_lowest_first`, each unit right behind such a write, and where bits of a unit are kept, it is
+/// read so before. There are no other accesses, nothing else of the world changes, and no step is taken. A bank field
+/// of a part of a unit that is written whole, or without the bits that it keeps, is refused by this.
 #[tactic(auto, using(crate::proofs::BanksSelected::a_bank_is_selected_by_a_write_of_its_field))]
 pub fn a_bank_is_selected_by_a_write_of_its_field<S>()
     ensures selected { (w : State S) (steps : ℕ) (accesses : Accesses S) (call : List Seg → Run S ℕ)

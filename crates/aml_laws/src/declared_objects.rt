@@ -1,5 +1,5 @@
 //! What terms that declare names leave at their paths.
-ghost use Rattle.std.specs.Prelude.{◌≡◌, ◌<◌, ℕ, suc, List, Ok};
+ghost use Rattle.std.specs.Prelude.{◌≡◌, ◌<◌, ℕ, suc, List, Ok, Err};
 ghost use Rattle.ar_space.specs.Accesses.{Accesses};
 ghost use Rattle.ar_space.specs.declared.refusal.Refusal.{Refusal};
 ghost use Rattle.aml_path.specs.declared.segment.Seg.{Seg};
@@ -55,6 +55,14 @@ pub fn a_declaration_leaves_what_its_term_says<S>()
 pub fn an_external_declares_nothing<S>()
     ensures { (accesses : Accesses S) (scope : List Seg) (depth : ℕ) (operands : Parts) (w : State S) (steps : ℕ) →
         Passes accesses scope depth (of_opcode opcodes.External operands) (w, suc steps) (w, steps) }
+{}
+
+/// An Alias of a name that isn't found is refused as the search for it is, and nothing changes: no alias is declared,
+/// whatever stands at its path (ACPI 6.5, 19.6: Alias). An alias of nothing is refused by this.
+pub fn an_alias_of_what_is_not_found_is_refused<S>()
+    ensures { (accesses : Accesses S) (scope : List Seg) (depth : ℕ) (source n : Name) (w : State S) (steps : ℕ)
+        (e : Refusal) → found w.names.map scope source ≡ Err e →
+        IsRefused accesses scope depth (alias_term source n) (w, suc steps) e (w, steps) }
 {}
 
 /// A Name, Method, Alias, Mutex or Event term at a path that takes no name, and one of a scope as a Device term, is

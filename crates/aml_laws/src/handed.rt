@@ -3,12 +3,13 @@ ghost use Rattle.std.specs.Prelude.{◌≡◌, ◌≤◌, ◌++◌, ◌+◌, ◌
 ghost use Rattle.ar_space.specs.Accesses.{Accesses};
 ghost use Rattle.ar_space.specs.declared.refusal.Refusal.TheVariants as refusal;
 ghost use Rattle.ar_space.specs.declared.refusal.EvaluationFault.TheVariants.{ArityChanged};
+ghost use Rattle.ar_space.specs.declared.refusal.ValueFault.TheVariants.{WrongType};
 ghost use Rattle.aml_path.specs.declared.segment.Seg.{Seg};
 ghost use Rattle.aml_objects.specs.Objects.{Objects};
 ghost use Rattle.aml_objects.specs.declared.value.Value.{Value};
 ghost use Rattle.aml_namespace.specs.Numbering.{Numbered};
 ghost use Rattle.aml_namespace.specs.Search.{found};
-ghost use Rattle.aml_meaning.specs.Given.{Given};
+ghost use Rattle.aml_meaning.specs.Given.{Given, Reference};
 ghost use Rattle.aml_meaning.specs.State.{State};
 ghost use Rattle.aml_meaning.specs.Importing.{imported};
 ghost use Rattle.aml_meaning.specs.Exporting.{exported};
@@ -17,7 +18,7 @@ ghost use Rattle.aml_meaning.specs.Invocations.{method_value};
 ghost use Rattle.aml_meaning.specs.Meaning.{meaning};
 ghost use Rattle.aml_laws.specs.CallTerms.{method_entry, HandedInTurn};
 ghost use Rattle.aml_laws.specs.HandedBack.{ComesBack, elements_of};
-ghost use Rattle.aml_laws.specs.HandedIn.{NestsWithin, MayBeHandedIn};
+ghost use Rattle.aml_laws.specs.HandedIn.{NestsWithin, HasPaths, MayBeHandedIn};
 ghost use Rattle.aml_laws.specs.NamesWritten.{from_root};
 
 /// What is handed in is handed out as it was, to its last element: integers that fit the width, texts, bytes, packages
@@ -52,6 +53,14 @@ pub fn data_nests_at_most_64_deep<S>()
     ensures handed_in { (g : Given) (w : State S) (v : Value) → (imported g w).0 ≡ Ok v → NestsWithin 64 g }
     ensures answers { (accesses : Accesses S) (path : List Seg) (arguments : List Given) (steps : ℕ) (w : State S)
         (g : Given) → (answered accesses path arguments steps w).0 ≡ Ok g → NestsWithin 64 g }
+{}
+
+/// A reference without a path, as one to a local or to a byte is handed out, can't be handed in: it is refused as one
+/// of the wrong type, and nothing changes. Whatever is handed in and isn't refused has none, wherever in a package it
+/// would stand. One that is handed in as nothing is refused by this.
+pub fn a_reference_without_a_path_is_not_handed_in<S>()
+    ensures alone { (w : State S) → imported Reference w ≡ (Err (refusal.Value WrongType), w) }
+    ensures inside { (g : Given) (w : State S) (v : Value) → (imported g w).0 ≡ Ok v → HasPaths g }
 {}
 
 /// What a control method answers to a caller is what it gives, called with the arguments that are handed in, in their

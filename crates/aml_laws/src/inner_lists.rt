@@ -2,6 +2,8 @@
 ghost use Rattle.std.specs.Prelude.{◌≡◌, ◌<◌, ℕ, suc, List, Some, Ok, Err};
 ghost use Rattle.ar_space.specs.Accesses.{Accesses};
 ghost use Rattle.ar_space.specs.declared.refusal.Refusal.{Refusal};
+ghost use Rattle.ar_space.specs.declared.refusal.Refusal.TheVariants as refusal;
+ghost use Rattle.ar_space.specs.declared.refusal.ValueFault.TheVariants.{WrongType};
 ghost use Rattle.aml_path.specs.declared.segment.Seg.{Seg};
 ghost use Rattle.aml_path.specs.Paths.{Name, resolved};
 ghost use Rattle.aml_grammar.specs.declared.opcode.Opcode.{Opcode as Opcodes};
@@ -9,26 +11,39 @@ ghost use Rattle.aml_grammar.specs.declared.opcode.Opcode.TheVariants as opcodes
 ghost use Rattle.aml_grammar.specs.declared.opcode.TermCode.TheVariants as codes;
 ghost use Rattle.aml_grammar.specs.Tree.{Tree, Trees, inner, list};
 ghost use Rattle.aml_grammar.specs.Apart.{code_of, operand_of, name_of};
+ghost use Rattle.aml_objects.specs.declared.entry.Entry.{Entry};
 ghost use Rattle.aml_objects.specs.declared.entry.NamedObject.{NamedObject};
 ghost use Rattle.aml_objects.specs.declared.value.Value.{Value};
+ghost use Rattle.aml_namespace.specs.Search.{found};
 ghost use Rattle.aml_meaning.specs.declared.flow.Flow.TheVariants as flow;
 ghost use Rattle.aml_meaning.specs.Declaring.{new_name};
 ghost use Rattle.aml_meaning.specs.Meaning.{meaning};
-ghost use Rattle.aml_meaning.specs.Readings.{scope_found};
 ghost use Rattle.aml_meaning.specs.State.{State};
 ghost use Rattle.aml_meaning.specs.Tasks.{task, module_level, in_turn};
-ghost use Rattle.aml_laws.specs.InnerLists.{DeclaresScope, Tests, Turns};
+ghost use Rattle.aml_laws.specs.InnerLists.{OpensScope, DeclaresScope, Tests, Turns};
 
-/// The list of a Scope, a Device, a Processor, a PowerResource or a ThermalZone is evaluated in turn in its scope, as
-/// deep in calls as the term itself: so at module level it is a list at module level, and goes on behind an item that
-/// is passed over by `a_list_goes_on_behind_an_item_that_is_passed_over`. A scope whose list isn't at its level is
-/// refused by this.
-#[tactic(auto, using(crate::proofs::ListsWithinTerms::scope_list))]
+/// The list of a Scope is evaluated in turn in the scope that its name finds, where that is a predefined scope, a
+/// Device, a Processor, a PowerResource or a ThermalZone. A Scope whose name finds any other object is refused as one
+/// of the wrong type, and one whose name isn't found as the search for it is, and nothing changes (ACPI 6.5, 19.6:
+/// Scope). The list of a Device, a Processor, a PowerResource or a ThermalZone is evaluated in turn in the scope that
+/// this term declares. Each is evaluated as deep in calls as the term itself: so at module level it is a list at module
+/// level, and goes on behind an item that is passed over by `a_list_goes_on_behind_an_item_that_is_passed_over`. A
+/// Scope whose list is evaluated where the term stands, one of a name that holds data, and one whose list isn't at its
+/// level, are refused by this.
 pub fn lists_of_scopes_are_evaluated_in_turn<S>()
-    ensures scopes { (accesses : Accesses S) (scope p : List Seg) (depth : ℕ) (t : Tree) (n : Name) (ts : Trees)
-        (w after : State S) (steps : ℕ) → code_of t ≡ codes.Opcode opcodes.Scope → name_of (operand_of t 0) ≡ Ok n →
-        operand_of t 1 ≡ Some (list ts) → scope_found scope n w ≡ (Ok p, after) →
-        meaning accesses (task scope depth t) (w, suc steps) ≡ in_turn (meaning accesses) p depth ts (after, steps) }
+    ensures scopes { (accesses : Accesses S) (scope p : List Seg) (depth : ℕ) (t : Tree) (n : Name) (e : Entry)
+        (ts : Trees) (w : State S) (steps : ℕ) → code_of t ≡ codes.Opcode opcodes.Scope →
+        name_of (operand_of t 0) ≡ Ok n → operand_of t 1 ≡ Some (list ts) → found w.names.map scope n ≡ Ok (p, e) →
+        OpensScope e.object →
+        meaning accesses (task scope depth t) (w, suc steps) ≡ in_turn (meaning accesses) p depth ts (w, steps) }
+    ensures no_scope { (accesses : Accesses S) (scope p : List Seg) (depth : ℕ) (t : Tree) (n : Name) (e : Entry)
+        (w : State S) (steps : ℕ) → code_of t ≡ codes.Opcode opcodes.Scope → name_of (operand_of t 0) ≡ Ok n →
+        found w.names.map scope n ≡ Ok (p, e) → (OpensScope e.object → ⊥) →
+        meaning accesses (task scope depth t) (w, suc steps) ≡ (Err (refusal.Value WrongType), (w, steps)) }
+    ensures not_found { (accesses : Accesses S) (scope : List Seg) (depth : ℕ) (t : Tree) (n : Name) (e : Refusal)
+        (w : State S) (steps : ℕ) → code_of t ≡ codes.Opcode opcodes.Scope → name_of (operand_of t 0) ≡ Ok n →
+        found w.names.map scope n ≡ Err e →
+        meaning accesses (task scope depth t) (w, suc steps) ≡ (Err e, (w, steps)) }
     ensures declared { (accesses : Accesses S) (code : Opcodes) (o : NamedObject) (i : ℕ) (scope p : List Seg)
         (depth : ℕ) (t : Tree) (n : Name) (ts : Trees) (w after : State S) (steps number : ℕ) →
         DeclaresScope code o i → code_of t ≡ codes.Opcode code → name_of (operand_of t 0) ≡ Ok n →

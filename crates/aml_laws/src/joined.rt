@@ -1,5 +1,8 @@
 //! Strings and buffers that terms form of others.
 ghost use Rattle.std.specs.Prelude.{◌≡◌, ℕ, suc, List, length, Ok};
+ghost use Rattle.ar_space.specs.declared.refusal.Refusal.{Refusal};
+ghost use Rattle.ar_space.specs.declared.refusal.Refusal.TheVariants as refusal;
+ghost use Rattle.ar_space.specs.declared.refusal.ValueFault.TheVariants.{WrongType};
 ghost use Rattle.ar_space.specs.Accesses.{Accesses};
 ghost use Rattle.aml_path.specs.declared.segment.Seg.{Seg};
 ghost use Rattle.aml_grammar.specs.Tree.{Tree, Part};
@@ -10,10 +13,12 @@ ghost use Rattle.aml_objects.specs.declared.value.Value.{Value};
 ghost use Rattle.aml_objects.specs.declared.value.Value.TheVariants as value;
 ghost use Rattle.aml_convert.specs.Concatenation.{resources_joined};
 ghost use Rattle.aml_meaning.specs.State.{State};
-ghost use Rattle.aml_laws.specs.OperatorTerms.{two_to, StoresTo, GivesValue};
+ghost use Rattle.aml_laws.specs.OperatorTerms.{two_to, StoresTo, GivesValue, IsRefused};
 ghost use Rattle.aml_laws.specs.StoreTerms.{FormsTo};
+ghost use Rattle.aml_laws.specs.StoredParts.{IsNoData};
 ghost use Rattle.aml_laws.specs.TestTerms.{TwoValues};
-ghost use Rattle.aml_laws.specs.JoinedTerms.{with_object, Fits, IsJoined, IsNew, middle, IsPart, TakesPart, HasBytes, TakesText, IsTextOf};
+ghost use Rattle.aml_laws.specs.JoinedTerms.{with_object, Fits, IsJoined, IsUnjoined, AreNoTemplates, IsNew};
+ghost use Rattle.aml_laws.specs.JoinedTerms.{middle, IsPart, TakesPart, HasBytes, TakesText, IsTextOf};
 
 /// Concatenate gives a new object: of a string the string and what the second value is as a string, of a buffer the
 /// buffer and what it is as one, and of an integer the bytes of it and of the integer that the second value converts
@@ -35,6 +40,26 @@ pub fn joined_values_begin_with_the_first<S>()
         IsJoined after.0.width (content_in after.0.objects v) (content_in after.0.objects u) c bytes →
         Fits after.0 bytes → IsNew after.0 c r formed → StoresTo scope p r formed end →
         GivesValue accesses scope depth (two_to opcodes.Concat x y p) (w, suc steps) r (end, after.1) }
+{}
+
+/// Concatenate is refused as `WrongType` where its first value is neither an integer nor a string nor a buffer, and
+/// else as the conversion of the second one to its type is. ConcatenateResTemplate is refused as `WrongType` where one
+/// of its two values is no buffer, and else as `NoEnd` where one of them has bytes, but no end tag among its resource
+/// items. Nothing is formed, and nothing is stored. A buffer without an end tag that is joined, or that is refused
+/// otherwise, and a package that counts as an empty buffer, are refused by this.
+pub fn what_cannot_be_joined_is_refused<S>()
+    ensures first { (accesses : Accesses S) (scope : List Seg) (depth : ℕ) (x y : Tree) (w : State S) (steps : ℕ)
+        (v u : Value) (after : State S × ℕ) → TwoValues accesses scope depth x y (w, steps) v u after → IsNoData v →
+        (p : Part) → IsRefused accesses scope depth (two_to opcodes.Concat x y p) (w, suc steps)
+        (refusal.Value WrongType) after }
+    ensures second { (accesses : Accesses S) (scope : List Seg) (depth : ℕ) (x y : Tree) (w : State S) (steps : ℕ)
+        (v u : Value) (after : State S × ℕ) → TwoValues accesses scope depth x y (w, steps) v u after → (e : Refusal) →
+        IsUnjoined after.0.width (content_in after.0.objects v) (content_in after.0.objects u) e → (p : Part) →
+        IsRefused accesses scope depth (two_to opcodes.Concat x y p) (w, suc steps) e after }
+    ensures resources { (accesses : Accesses S) (scope : List Seg) (depth : ℕ) (x y : Tree) (w : State S) (steps : ℕ)
+        (v u : Value) (after : State S × ℕ) → TwoValues accesses scope depth x y (w, steps) v u after → (e : Refusal) →
+        AreNoTemplates (content_in after.0.objects v) (content_in after.0.objects u) e → (p : Part) →
+        IsRefused accesses scope depth (two_to opcodes.ConcatRes x y p) (w, suc steps) e after }
 {}
 
 /// Mid, in the wide profile, gives a new string, or a new buffer, of the bytes from its index on, as many as its length

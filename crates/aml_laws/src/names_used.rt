@@ -3,18 +3,20 @@ ghost use Rattle.std.specs.Prelude.{◌≡◌, ℕ, suc, List, Ok};
 ghost use Rattle.ar_space.specs.Accesses.{Accesses};
 ghost use Rattle.ar_space.specs.declared.refusal.Refusal.TheVariants as refusal;
 ghost use Rattle.ar_space.specs.declared.refusal.EvaluationFault.TheVariants.{NoValue};
+ghost use Rattle.ar_space.specs.declared.refusal.ValueFault.TheVariants.{WrongType};
 ghost use Rattle.aml_path.specs.declared.segment.Seg.{Seg};
 ghost use Rattle.aml_path.specs.Paths.{Name};
 ghost use Rattle.aml_grammar.specs.Tree.{Tree};
 ghost use Rattle.aml_grammar.specs.declared.opcode.Opcode.{Opcode};
 ghost use Rattle.aml_objects.specs.declared.value.Slot.{Slot};
 ghost use Rattle.aml_objects.specs.declared.value.Value.{Value};
+ghost use Rattle.aml_objects.specs.declared.value.Value.TheVariants as value;
 ghost use Rattle.aml_namespace.specs.Search.{found};
 ghost use Rattle.aml_meaning.specs.State.{State};
 ghost use Rattle.aml_laws.specs.StoredNames.{data_entry};
 ghost use Rattle.aml_laws.specs.OperatorTerms.{alone, NamesSlot, SlotHolds, SlotIsEmpty, GivesValue, Gives, IsRefused};
 ghost use Rattle.aml_laws.specs.TestTerms.{IsTruth};
-ghost use Rattle.aml_laws.specs.NamesUsed.{use_of, IsGivenBy, call_of_one, IsAmong, AsksOsi};
+ghost use Rattle.aml_laws.specs.NamesUsed.{use_of, IsGivenBy, call_of_one, IsAmong, AsksOsi, AsksOsiOf};
 
 /// A name that holds an integer, a string, a buffer or a package gives this value where a value stands, and not a
 /// copy of it; one that holds a reference gives a reference to itself. A local and an argument give what they hold,
@@ -33,11 +35,16 @@ pub fn a_name_gives_what_it_holds<S>()
 {}
 
 /// The predefined control method \_OSI, called by any name with a string, is True where the text is one of those that
-/// the machine says it knows, and else False. It changes nothing. One that knows texts that begin alike, or that
-/// answers 1, is refused by this.
+/// the machine says it knows, and else False; called with any other value it is refused as one of the wrong type. It
+/// changes nothing. One that knows texts that begin alike, one that answers 1, and one that answers False of what is
+/// no string, are refused by this.
 pub fn osi_tells_of_known_texts<S>()
-    ensures { (accesses : Accesses S) (scope : List Seg) (depth : ℕ) (n : Name) (x : Tree) (w : State S) (steps : ℕ)
-        (text : List ℕ) (after : State S × ℕ) → AsksOsi accesses scope depth n x (w, steps) text after → (k : ℕ) ×
-        IsTruth after.0.width (IsAmong text after.0.osi) k ×
+    ensures text { (accesses : Accesses S) (scope : List Seg) (depth : ℕ) (n : Name) (x : Tree) (w : State S)
+        (steps : ℕ) (text : List ℕ) (after : State S × ℕ) → AsksOsi accesses scope depth n x (w, steps) text after →
+        (k : ℕ) × IsTruth after.0.width (IsAmong text after.0.osi) k ×
         Gives accesses scope depth (call_of_one n x) (w, suc steps) k after }
+    ensures no_string { (accesses : Accesses S) (scope : List Seg) (depth : ℕ) (n : Name) (x : Tree) (w : State S)
+        (steps : ℕ) (v : Value) (after : State S × ℕ) → AsksOsiOf accesses scope depth n x (w, steps) v after →
+        ((o : ℕ) → v ≡ value.String o → ⊥) → IsRefused accesses scope depth
+        (call_of_one n x) (w, suc steps) (refusal.Value WrongType) after }
 {}

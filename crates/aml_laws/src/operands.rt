@@ -7,17 +7,24 @@ ghost use Rattle.ar_space.specs.declared.refusal.Refusal.TheVariants as refusal;
 ghost use Rattle.ar_space.specs.declared.refusal.EvaluationFault.TheVariants.{NoValue};
 ghost use Rattle.ar_space.specs.declared.refusal.ValueFault.TheVariants.{EmptyValue, WrongType};
 ghost use Rattle.aml_path.specs.declared.segment.Seg.{Seg};
+ghost use Rattle.aml_path.specs.Paths.{Name};
 ghost use Rattle.aml_grammar.specs.Tree.{Tree, Part};
 ghost use Rattle.aml_grammar.specs.declared.opcode.Opcode.{Opcode};
 ghost use Rattle.aml_grammar.specs.declared.opcode.Opcode.TheVariants as opcodes;
+ghost use Rattle.aml_objects.specs.Contents.{Content, content_in};
 ghost use Rattle.aml_objects.specs.declared.object.Object.TheVariants as object;
 ghost use Rattle.aml_objects.specs.declared.value.Value.{Value};
 ghost use Rattle.aml_objects.specs.declared.value.Value.TheVariants as value;
 ghost use Rattle.aml_convert.specs.Integers.{bits_of, bytes_of};
+ghost use Rattle.aml_convert.specs.Conversions.{to_buffer_of};
+ghost use Rattle.aml_meaning.specs.declared.profile.Profile.TheVariants as profiles;
 ghost use Rattle.aml_meaning.specs.State.{State};
 ghost use Rattle.aml_meaning.specs.Readings.{integer_in};
 ghost use Rattle.aml_laws.specs.OperandTerms.{TakesValues, ComesTo};
-ghost use Rattle.aml_laws.specs.OperatorTerms.{of_two, two_to, divide, GivesNothing, IsRefused};
+ghost use Rattle.aml_laws.specs.IntegerOperands.{AsksInteger, IsIndexed};
+ghost use Rattle.aml_laws.specs.JoinedTerms.{middle, HasBytes};
+ghost use Rattle.aml_laws.specs.OperatorTerms.{of_two, two_to, divide, GivesNothing, GivesValue, IsRefused};
+ghost use Rattle.aml_laws.specs.RegionTerms.{operation_region};
 ghost use Rattle.aml_laws.specs.StoredParts.{IsNoData};
 ghost use Rattle.aml_laws.specs.TestTerms.{TwoValues};
 ghost use Rattle.aml_laws.specs.IntegersOfValues.{lowest_first, AreDigits, EndsDigits, TakesIntegers};
@@ -70,6 +77,53 @@ pub fn operands_that_do_not_convert_are_refused<S>()
         (p q : Part) → IsRefused accesses scope depth (divide x y p q) (w, suc steps) e after ×
         IsRefused accesses scope depth (of_two opcodes.LAnd x y) (w, suc steps) e after ×
         IsRefused accesses scope depth (of_two opcodes.LOr x y) (w, suc steps) e after }
+{}
+
+/// A term that takes an integer of an operand whose value doesn't convert to one is refused as the conversion is, once
+/// its operands are evaluated, and nothing is stored, formed or declared (ACPI 6.5, 19.3.5.7). So are Not,
+/// FindSetLeftBit, FindSetRightBit and LNot, and FromBCD and ToBCD in the wide profile, by their operand; an If, and a
+/// While in its first turn, by its condition; a Buffer and a VarPackage by its size; an Index of a package, a string
+/// or a buffer by its index; an OperationRegion by its offset, and by its length where the offset converts; and in the
+/// wide profile a ToString of what is bytes by its length, and a Mid of what is bytes by its index, and by its length
+/// where the index converts. A condition, a size, an index or an offset that counts as 0 where it is no integer is
+/// refused by this.
+pub fn an_operand_that_is_no_integer_refuses_its_term<S>()
+    ensures alone { (accesses : Accesses S) (scope : List Seg) (depth : ℕ) (w : State S) (steps : ℕ) (t x : Tree) →
+        AsksInteger w.profile t x → (v : Value) (e : Refusal) (after : State S × ℕ) →
+        GivesValue accesses scope depth x (w, steps) v after → integer_in v after.0 ≡ (Err e, after.0) →
+        IsRefused accesses scope depth t (w, suc steps) e after }
+    ensures index { (accesses : Accesses S) (scope : List Seg) (depth : ℕ) (x y : Tree) (w : State S) (steps : ℕ)
+        (v u : Value) (after : State S × ℕ) → TwoValues accesses scope depth x y (w, steps) v u after →
+        (e : Refusal) → IsIndexed v → integer_in u after.0 ≡ (Err e, after.0) → (p : Part) →
+        IsRefused accesses scope depth (two_to opcodes.Index x y p) (w, suc steps) e after }
+    ensures offset { (accesses : Accesses S) (scope : List Seg) (depth : ℕ) (x y : Tree) (w : State S) (steps : ℕ)
+        (v u : Value) (after : State S × ℕ) → TwoValues accesses scope depth x y (w, steps) v u after →
+        (e : Refusal) → integer_in v after.0 ≡ (Err e, after.0) → (n : Name) (space : ℕ) →
+        IsRefused accesses scope depth (operation_region n space x y) (w, suc steps) e after }
+    ensures extent { (accesses : Accesses S) (scope : List Seg) (depth : ℕ) (x y : Tree) (w : State S) (steps : ℕ)
+        (v u : Value) (after : State S × ℕ) → TwoValues accesses scope depth x y (w, steps) v u after →
+        (e : Refusal) (a : ℕ) → integer_in v after.0 ≡ (Ok a, after.0) → integer_in u after.0 ≡ (Err e, after.0) →
+        (n : Name) (space : ℕ) →
+        IsRefused accesses scope depth (operation_region n space x y) (w, suc steps) e after }
+    ensures text { (accesses : Accesses S) (scope : List Seg) (depth : ℕ) (x y : Tree) (w : State S) (steps : ℕ)
+        (v u : Value) (after : State S × ℕ) → TwoValues accesses scope depth x y (w, steps) v u after →
+        (e : Refusal) → w.profile ≡ profiles.Wide → (bytes : List ℕ) →
+        to_buffer_of after.0.width (content_in after.0.objects v) ≡ Ok bytes →
+        integer_in u after.0 ≡ (Err e, after.0) → (p : Part) →
+        IsRefused accesses scope depth (two_to opcodes.ToString x y p) (w, suc steps) e after }
+    ensures start { (accesses : Accesses S) (scope : List Seg) (depth : ℕ) (x y z : Tree) (w : State S) (steps : ℕ)
+        (v u r : Value) (behind after : State S × ℕ) → TwoValues accesses scope depth x y (w, steps) v u behind →
+        GivesValue accesses scope depth z behind r after → (e : Refusal) → w.profile ≡ profiles.Wide →
+        (whole : List ℕ) (made : List ℕ → Content) →
+        HasBytes after.0.width (content_in after.0.objects v) whole made → integer_in u after.0 ≡ (Err e, after.0) →
+        (p : Part) → IsRefused accesses scope depth (middle x y z p) (w, suc steps) e after }
+    ensures count { (accesses : Accesses S) (scope : List Seg) (depth : ℕ) (x y z : Tree) (w : State S) (steps : ℕ)
+        (v u r : Value) (behind after : State S × ℕ) → TwoValues accesses scope depth x y (w, steps) v u behind →
+        GivesValue accesses scope depth z behind r after → (e : Refusal) → w.profile ≡ profiles.Wide →
+        (whole : List ℕ) (made : List ℕ → Content) →
+        HasBytes after.0.width (content_in after.0.objects v) whole made → (i : ℕ) →
+        integer_in u after.0 ≡ (Ok i, after.0) → integer_in r after.0 ≡ (Err e, after.0) → (p : Part) →
+        IsRefused accesses scope depth (middle x y z p) (w, suc steps) e after }
 {}
 
 /// A term that evaluates operands as values is refused as one of them is, where those in front of it give values; no

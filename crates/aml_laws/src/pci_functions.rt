@@ -1,9 +1,13 @@
 //! The PCI functions that operation regions of PCI_Config belong to.
-ghost use Rattle.std.specs.Prelude.{◌≡◌, ◌≤◌, ◌<◌, ◌+◌, ◌*◌, ◌-◌, ◌++◌, ◌∷◌};
+ghost use Rattle.std.specs.Prelude.{◌≡◌, ◌≢◌, ◌≤◌, ◌<◌, ◌+◌, ◌*◌, ◌-◌, ◌%◌, ◌++◌, ◌∷◌};
 ghost use Rattle.std.specs.Prelude.{[], ℕ, List, length, take, Some, None, Ok, Err};
 ghost use Rattle.ar_space.specs.declared.refusal.Refusal.TheVariants.{Evaluation};
-ghost use Rattle.ar_space.specs.declared.refusal.EvaluationFault.TheVariants.{DeepPci};
+ghost use Rattle.ar_space.specs.declared.refusal.Refusal.{Refusal};
+ghost use Rattle.ar_space.specs.declared.refusal.EvaluationFault.TheVariants.{ArityChanged, CallDepth, DepthSetting};
+ghost use Rattle.ar_space.specs.declared.refusal.EvaluationFault.TheVariants.{DeepPci, SpaceKind};
 ghost use Rattle.ar_space.specs.Accesses.{Accesses};
+ghost use Rattle.ar_space.specs.Outcome.{Outcome};
+ghost use Rattle.aml_fields.specs.declared.region.AddressSpace.{AddressSpace};
 ghost use Rattle.aml_fields.specs.declared.region.AddressSpace.TheVariants.{Pci};
 ghost use Rattle.aml_path.specs.declared.segment.Seg.{Seg};
 ghost use Rattle.aml_meaning.specs.declared.pci_functions.Sought.TheVariants.{Parent};
@@ -12,21 +16,29 @@ ghost use Rattle.aml_meaning.specs.State.{State};
 ghost use Rattle.aml_meaning.specs.FieldCalls.{called_at};
 ghost use Rattle.aml_meaning.specs.Meaning.{meaning};
 ghost use Rattle.aml_objects.specs.declared.entry.Entry.{Entry};
+ghost use Rattle.aml_objects.specs.declared.entry.Method.{Method};
+ghost use Rattle.aml_objects.specs.declared.entry.NamedObject.{NamedObject};
 ghost use Rattle.aml_objects.specs.declared.entry.NamedObject.TheVariants.{Data};
+ghost use Rattle.aml_objects.specs.declared.entry.NamedObject.TheVariants as named;
+ghost use Rattle.aml_objects.specs.declared.entry.OperationRegion.{OperationRegion};
 ghost use Rattle.aml_objects.specs.declared.value.Value.TheVariants.{Integer};
 ghost use Rattle.std.specs.FinMap.{get};
 ghost use Rattle.aml_meaning.specs.PciFunctions.{adr, segment_group, base_bus, nearest, pci_function};
 ghost use Rattle.aml_namespace.specs.Namespace.{Map};
 ghost use Rattle.aml_meaning.specs.Run.{Run};
-ghost use Rattle.aml_meaning.specs.Fields.{bus_behind_all, pci_address};
-ghost use Rattle.aml_meaning.specs.Bridges.{bridges_to};
+ghost use Rattle.aml_meaning.specs.Fields.{bus_behind_all, pci_address, located};
+ghost use Rattle.aml_meaning.specs.Bridges.{bridges_to, secondary_bus};
 ghost use Rattle.aml_laws.specs.PciScopes.{StandsIn, IsFunctionAt, IsBridgeAt, IsNearestSuch, NoneSuch};
 ghost use Rattle.aml_laws.specs.BusesFound.{BusesFound, TellsNumber, TellAddresses, TellsPart};
 ghost use Rattle.aml_laws.specs.PciScopes.{IsAskedBridge, IsAmong, GrowFrom};
+ghost use Rattle.aml_laws.specs.PciRegions.{RegionStandsIn, located_at};
+ghost use Rattle.aml_laws.specs.PciAddresses.{BridgeTells, AddressAnswers};
+ghost use Rattle.aml_laws.specs.AddressObjects.{IsAskedAt, TakesNoArguments, ObjectAnswers};
 
-/// A region of PCI_Config belongs to the nearest Device with an `_ADR`, of the scope that the region stands in and
-/// those above it. Where there is none it is refused (DeepPci). So it is in the core profile where a Device above that
-/// one has an `_ADR` and no `_HID`, and in the wide profile it isn't. Asking changes nothing. A search from the root
+/// A scope belongs to the nearest Device with an `_ADR`, of itself and the scopes above it: that is the PCI function of
+/// a region of PCI_Config there. Where there is none it is refused (DeepPci). So it is in the core profile where a
+/// Device above that one has an `_ADR` and no `_HID`, and in the wide profile it isn't. Asking changes nothing. Of
+/// which scope a region is asked, `a_region_of_pci_config_is_located_by_its_own_scope` says. A search from the root
 /// down, one that takes a name that is no Device, or one that begins above the scope is refused by this.
 #[tactic(auto, using(crate::proofs::PciScopes::a_region_of_pci_config_belongs_to_the_nearest_device))]
 pub fn a_region_of_pci_config_belongs_to_the_nearest_device<S>()
@@ -86,10 +98,11 @@ pub fn each_bridge_is_asked_on_the_bus_that_the_one_above_told<S>()
         bus_behind_all accesses call seg bus bridges (w, steps) ≡ (Ok end, (record w { space = after }, steps)) }
 {}
 
-/// The registers of a region of PCI_Config are those of the function that the region belongs to: in the segment group
-/// that the nearest `_SEG` tells, on the bus that the nearest `_BBN` tells or that the bridges lead to from there, at
-/// the device and the function of its `_ADR`. Nothing else is accessed. Parts that are exchanged, a bus that is counted
-/// from 0 in spite of `_BBN`, and another device's `_ADR` are refused by this.
+/// The PCI address of a scope is that of the function that it belongs to: in the segment group that the nearest `_SEG`
+/// tells, on the bus that the nearest `_BBN` tells or that the bridges lead to from there, at the device and the
+/// function of its `_ADR`. Nothing else is accessed. That a region of PCI_Config has the address of its own scope,
+/// `a_region_of_pci_config_is_located_by_its_own_scope` says. Parts that are exchanged, a bus that is counted from 0 in
+/// spite of `_BBN`, and another device's `_ADR` are refused by this.
 #[tactic(auto, using(crate::proofs::BusesFound::address_told))]
 pub fn a_pci_address_is_told_by_its_objects<S>()
     ensures { (accesses : Accesses S) (seg : ℕ) → seg < 65536 → (call : List Seg → Run S ℕ) (w : State S)
@@ -100,4 +113,78 @@ pub fn a_pci_address_is_told_by_its_objects<S>()
         BusesFound accesses seg bus addresses w.space end after → end < 256 → dev < 32 → func < 8 →
         TellsNumber call w steps (path ++ adr ∷ []) (dev * 65536 + func) →
         pci_address accesses call scope (w, steps) ≡ (Ok (Pci seg end dev func), (record w { space = after }, steps)) }
+{}
+
+/// An operation region of PCI_Config lies in the registers at the PCI address of the very scope that it stands in, at
+/// its offset and as long as it was declared. Where that address is refused, so is the region, and asking leaves what
+/// the address left. A region of another address space than SystemMemory, SystemIO and PCI_Config is refused
+/// (SpaceKind), and nothing changes (ACPI 6.5, 5.5.2.4 and 19.6: OperationRegion). A region that is located by the
+/// scope above its own, PCI_Config under another number than 2, and another refusal of other spaces are refused by
+/// this.
+pub fn a_region_of_pci_config_is_located_by_its_own_scope<S>()
+    ensures there { (accesses : Accesses S) (call : List Seg → Run S ℕ) (w : State S) (steps n : ℕ) (scope : List Seg)
+        (region : OperationRegion) → RegionStandsIn w n scope region → region.space ≡ 2 → (space : AddressSpace)
+        (after : State S × ℕ) → pci_address accesses call scope (w, steps) ≡ (Ok space, after) →
+        located accesses call n (w, steps) ≡ (Ok (located_at space region), after) }
+    ensures refused { (accesses : Accesses S) (call : List Seg → Run S ℕ) (w : State S) (steps n : ℕ)
+        (scope : List Seg) (region : OperationRegion) → RegionStandsIn w n scope region → region.space ≡ 2 →
+        (e : Refusal) (after : State S × ℕ) → pci_address accesses call scope (w, steps) ≡ (Err e, after) →
+        located accesses call n (w, steps) ≡ (Err e, after) }
+    ensures other { (accesses : Accesses S) (call : List Seg → Run S ℕ) (w : State S) (steps n : ℕ)
+        (scope : List Seg) (region : OperationRegion) → RegionStandsIn w n scope region → 2 < region.space →
+        located accesses call n (w, steps) ≡ (Err (Evaluation SpaceKind), (w, steps)) }
+{}
+
+/// A device is asked for the bus behind it by a read of its header type and, where the low seven bits of that are 1 or
+/// 2, of its secondary bus, which is the answer (PCI-to-PCI Bridge Architecture 1.2, 3.2). Of any other type it is
+/// refused (DeepPci), and the second byte isn't read. A fault that a read answers refuses it, and nothing more is read.
+/// An `_ADR` whose device or function is too great for one, and such a segment group or bus, are refused (RegionLimit),
+/// and nothing is read (ACPI 6.5, 6.1.1). A function of another type that is taken for a bridge, and all functions of a
+/// device that are taken for one, are refused by this.
+pub fn what_is_no_bridge_tells_no_bus<S>()
+    ensures { (accesses : Accesses S) (seg bus dev func : ℕ) → func < 65536 → (s : S) (r : Outcome ℕ) (after : S) →
+        BridgeTells accesses seg bus dev func s r after →
+        secondary_bus accesses seg bus (dev * 65536 + func) s ≡ (r, after) }
+{}
+
+/// The objects of a PCI address are asked one after another, each in the world that the one before it left: `_SEG`,
+/// then `_BBN`, then the bridges above the function, from the outermost on, each by its `_ADR` and its registers, and
+/// at last the `_ADR` of the function (ACPI 6.5, 5.5.2.4, 6.1.1, 6.5.5 and 6.5.6). The first that is refused refuses
+/// the address, and nothing behind it is asked. The address is refused, too, where its segment group, bus, device or
+/// function is too great for one (RegionLimit), and where the scope belongs to no function nothing is asked. Objects in
+/// another order, a refused `_BBN` that counts as 0, and all functions of a device that are taken for one, are refused
+/// by this.
+pub fn the_objects_of_a_pci_address_are_asked_in_turn<S>()
+    ensures in_turn { (accesses : Accesses S) (call : List Seg → Run S ℕ) (w : State S) (steps : ℕ)
+        (scope path : List Seg) (r : Outcome AddressSpace) (after : State S × ℕ) →
+        pci_function scope w ≡ (Ok path, w) → AddressAnswers accesses call path (w, steps) r after →
+        pci_address accesses call scope (w, steps) ≡ (r, after) }
+    ensures no_function { (accesses : Accesses S) (call : List Seg → Run S ℕ) (w : State S) (steps : ℕ)
+        (scope : List Seg) (e : Refusal) → pci_function scope w ≡ (Err e, w) →
+        pci_address accesses call scope (w, steps) ≡ (Err e, (w, steps)) }
+{}
+
+/// What is asked for an address answers an integer (ACPI 6.5, 6.1.1, 6.5.5 and 6.5.6): a name the one that it holds, a
+/// field the one that its bits make, where they are no more than an integer has, and a control method the one that it
+/// returns. A control method is called without arguments, one call deeper than the term that accesses the field, and so
+/// are the objects of the address of a field that is asked. What an alias leads to answers for it. Another value is
+/// refused (WrongType), even one that converts to an integer, and so is a field of more bits; a name without a value
+/// and a control method that returns none are refused (NoValue). What refuses the control method or the field refuses
+/// it. Inside 32 calls, and inside as many as the world allows, nothing answers (CallDepth, DepthSetting). A control
+/// method that takes arguments isn't called (ArityChanged). Of a name that stands for anything else this says nothing.
+/// A control method that answers 0, a String that is converted, and 32 calls anew inside a call are refused by this.
+pub fn what_is_asked_for_an_address_answers_an_integer<S>()
+    ensures answers { (accesses : Accesses S) (depth : ℕ) → depth < 32 → (w : State S) → depth < w.nesting.calls →
+        (steps : ℕ) (path at : List Seg) (o : NamedObject) → IsAskedAt w path at o → (r : Outcome ℕ)
+        (after : State S × ℕ) → ObjectAnswers accesses depth (w, steps) at o r after →
+        called_at accesses (meaning accesses) depth path (w, steps) ≡ (r, after) }
+    ensures deep { (accesses : Accesses S) (w : State S) (steps : ℕ) (path at : List Seg) (o : NamedObject) →
+        IsAskedAt w path at o → TakesNoArguments o → (depth : ℕ) → 32 ≤ depth →
+        called_at accesses (meaning accesses) depth path (w, steps) ≡ (Err (Evaluation CallDepth), (w, steps)) }
+    ensures setting { (accesses : Accesses S) (w : State S) (steps : ℕ) (path at : List Seg) (o : NamedObject) →
+        IsAskedAt w path at o → TakesNoArguments o → (depth : ℕ) → depth < 32 → w.nesting.calls ≤ depth →
+        called_at accesses (meaning accesses) depth path (w, steps) ≡ (Err (Evaluation DepthSetting), (w, steps)) }
+    ensures arguments { (accesses : Accesses S) (w : State S) (steps : ℕ) (path at : List Seg) (o : NamedObject) →
+        IsAskedAt w path at o → (m : Method) → o ≡ named.Method m → m.flags.byte % 8 ≢ 0 → (depth : ℕ) →
+        called_at accesses (meaning accesses) depth path (w, steps) ≡ (Err (Evaluation ArityChanged), (w, steps)) }
 {}

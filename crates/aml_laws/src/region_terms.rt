@@ -56,8 +56,8 @@ pub fn fields_are_declared_in_what_their_names_find<S>()
 
 /// What field flags say (ACPI 6.5, 20.2.5.2): the low four bits are the access type, which is 2 for words, 3 for
 /// doublewords, 4 for quadwords, and for bytes else; bits 5 and 6 are the update rule, which is 0 for Preserve, 1 for
-/// WriteAsOnes and 2 for WriteAsZeros. The lock bit, bit 4, says nothing of either. Flags that are read from other
-/// bits are refused by this.
+/// WriteAsOnes and 2 for WriteAsZeros; 3 stands for none, and counts as Preserve. The lock bit, bit 4, says nothing of
+/// either. Flags that are read from other bits, and an update rule 3 that writes other bits, are refused by this.
 pub fn field_flags_say_the_access_and_the_update_rule()
     ensures bytes { (flags access update : ℕ) → HasFlags flags access update → (access ≡ 2 → ⊥) → (access ≡ 3 → ⊥) →
         (access ≡ 4 → ⊥) → access_width flags ≡ W8 }
@@ -66,4 +66,5 @@ pub fn field_flags_say_the_access_and_the_update_rule()
     ensures rules { (flags access : ℕ) → (HasFlags flags access 0 → update_rule flags ≡ Preserve) ×
         (HasFlags flags access 1 → update_rule flags ≡ WriteAsOnes) ×
         (HasFlags flags access 2 → update_rule flags ≡ WriteAsZeros) }
+    ensures no_rule { (flags access : ℕ) → HasFlags flags access 3 → update_rule flags ≡ Preserve }
 {}

@@ -18,6 +18,7 @@ ghost use Rattle.aml_meaning.specs.Stores.{stored, copied_to};
 ghost use Rattle.aml_meaning.specs.declared.store_target.StoreTarget.TheVariants as targets;
 ghost use Rattle.aml_meaning.specs.declared.store_target.Stored.TheVariants as store;
 ghost use Rattle.aml_laws.specs.Copyable.{IsCopyable};
+ghost use Rattle.aml_laws.specs.Limits.{IsLink};
 ghost use Rattle.aml_laws.specs.StoredNames.{data_entry, with_object_numbered};
 ghost use Rattle.aml_laws.specs.StoredParts.{ArgumentHolds, ArgumentTakesCopy, ElementTakesCopy, GivesByte, ByteTaken, IsNoData, HoldsNothing};
 
@@ -36,6 +37,24 @@ pub fn arguments_and_elements_take_copies<S>()
         IsCopyable before.objects 64 count v → length before.objects + count ≤ 262144 → (after : State S) ×
         ((stored (targets.Refers (reference.Element o i)) v before ≡ (Ok store.Done, after)) ×
         ElementTakesCopy before after o i es v) }
+{}
+
+/// A Store to an argument of the control method that runs that holds a reference goes to what this refers to, as
+/// CopyObject through the reference does: to that very name, slot, element or byte, and to a name without conversion
+/// (ACPI 6.5, 19.3.5.8.1). So does CopyObject to the argument, and a Store through a reference to an argument of any
+/// control method that hasn't ended yet. Where CopyObject through a reference goes
+/// `a_reference_to_a_name_finds_its_declaration` says of names, `a_reference_to_a_slot_reads_that_slot` of locals, and
+/// `at_most_64_references_are_followed` of arguments that hold references. An argument that is overwritten, and a Store
+/// that converts, are refused by this.
+pub fn an_argument_stands_for_what_it_refers_to<S>()
+    ensures stored { (w : State S) (i last : ℕ) (r : Reference) (v : Value) →
+        ArgumentHolds w i last (value.Reference r) →
+        stored (targets.Slot (Argument i)) v w ≡ copied_to (targets.Refers r) v w }
+    ensures copied { (w : State S) (i last : ℕ) (r : Reference) (v : Value) →
+        ArgumentHolds w i last (value.Reference r) →
+        copied_to (targets.Slot (Argument i)) v w ≡ copied_to (targets.Refers r) v w }
+    ensures referred { (w : State S) (q r : Reference) (v : Value) → IsLink w q r →
+        stored (targets.Refers q) v w ≡ copied_to (targets.Refers r) v w }
 {}
 
 /// A Store to a byte of a string or of a buffer takes an integer modulo 256, and of a string or a buffer the first

@@ -21,6 +21,8 @@ ghost use Rattle.aml_meaning.specs.Stores.{stored, copied_to};
 ghost use Rattle.aml_meaning.specs.FormedStores.{formed_to};
 ghost use Rattle.aml_laws.specs.OperatorTerms.{divide, counting, NamesTarget, Gives, IsRefused, TwoIntegers, IsDivision};
 ghost use Rattle.aml_laws.specs.FieldNames.{NamesField};
+ghost use Rattle.aml_laws.specs.TargetsNamed.{NamesAt};
+ghost use Rattle.aml_laws.specs.UncountedTargets.{HoldsNoValue};
 ghost use Rattle.aml_laws.specs.PutIntoTargets.{PutsBy, PutsWhatItGives, IsTaken, IsNotTaken, IsCount, CountsTarget, CountsFieldAt, CountsNothing};
 
 /// A Store, a CopyObject, an operator, a conversion and a Mid find their target once their value is formed, and put
@@ -60,8 +62,8 @@ pub fn a_division_puts_both_results_into_its_targets<S>()
 /// Increment and Decrement find their target, read what stands there, and put the next integer back, or the one before
 /// it; this is their value. So they do where a RefOf, a DerefOf or an Index names the target. Where no target is found,
 /// what stands there doesn't convert to an integer or can't be read, or the target doesn't take what they counted, they
-/// are refused so. One that stores nothing through a reference, and one that is done where its target refuses, are
-/// refused by this.
+/// are refused so. One that stores nothing through a reference or to a field, one that counts a field from 0, and one
+/// that is done where its target refuses, are refused by this.
 pub fn a_count_is_put_back_into_its_target<S>()
     ensures up { CountsTarget S opcodes.Increment (λ width a n. n ≡ (a + 1) % 2 ^ bits_of width) }
     ensures down { CountsTarget S opcodes.Decrement (λ width a n.
@@ -73,6 +75,19 @@ pub fn a_count_is_put_back_into_its_target<S>()
         (w : State S) (steps : ℕ) (e : Refusal) (after : State S × ℕ) →
         CountsNothing accesses scope depth p (w, steps) e after →
         IsRefused accesses scope depth (counting op p) (w, suc steps) e after }
+{}
+
+/// Increment and Decrement of a target where no value stands are refused once it is found, and nothing is stored:
+/// Debug, and a name that holds neither a value nor a field, as a device, by itself or behind a reference, as
+/// `WrongType`; a local or an argument that holds nothing yet, by itself or behind a reference, and an element of a
+/// package that holds nothing, as `NoValue`; and a local or an argument outside of control methods as `DeadReference`
+/// (ACPI 6.5, 19.6: Decrement, Increment). Debug that counts from 0, and so a slot that holds nothing and a device,
+/// are refused by this.
+pub fn a_count_of_what_holds_no_value_is_refused<S>()
+    ensures { (accesses : Accesses S) (scope : List Seg) (depth : ℕ) (op : Opcode) → IsCount op → (p : Part) (w : State S)
+        (steps : ℕ) (t : StoreTarget) (between : State S × ℕ) → NamesAt accesses scope depth (w, steps) p t between →
+        (e : Refusal) → HoldsNoValue between.0 t e →
+        IsRefused accesses scope depth (counting op p) (w, suc steps) e between }
 {}
 
 /// A name that finds a field hands whatever is put there on to this field: what is stored, what is copied, and what a

@@ -1,18 +1,22 @@
 //! The update rules of fields.
-ghost use Rattle.std.specs.Prelude.{◌≡◌, ◌≢◌, ◌≤◌, ◌+◌, ℕ, List, true, false, Ok};
+ghost use Rattle.std.specs.Prelude.{◌≡◌, ◌≢◌, ◌≤◌, ◌+◌, ℕ, List, true, false, Ok, Err};
+ghost use Rattle.ar_space.specs.declared.refusal.Refusal.TheVariants as refusal;
+ghost use Rattle.ar_space.specs.declared.refusal.SpaceFault.{SpaceFault};
 ghost use Rattle.ar_space.specs.declared.space.Place.{Place};
 ghost use Rattle.ar_space.specs.Accesses.{Accesses, bit_count};
+ghost use Rattle.ar_space.specs.Outcome.{Outcome};
 ghost use Rattle.aml_objects.specs.declared.entry.FieldUnit.{FieldUnit};
 ghost use Rattle.aml_objects.specs.declared.entry.UpdateRule.TheVariants.{Preserve, WriteAsOnes, WriteAsZeros};
 ghost use Rattle.aml_fields.specs.declared.region.Region.{Region};
 ghost use Rattle.aml_fields.specs.declared.field_units.Unit.{Unit as Access};
-ghost use Rattle.aml_fields.specs.Regions.{unit_place, write_access, write_unit, write_field};
-ghost use Rattle.aml_laws.specs.UnitValues.{Reads, with_reads, IsFilledWith};
+ghost use Rattle.aml_fields.specs.Regions.{unit_place, write_unit, write_field};
+ghost use Rattle.aml_laws.specs.UnitPlaces.{IsUnitAt, WritesOnce};
+ghost use Rattle.aml_laws.specs.UnitValues.{Reads, with_reads, IsFilledWith, IsMergedInto};
 
 /// Under the update rules WriteAsOnes and WriteAsZeros a write of a field reads nothing: it comes to the same, whatever
-/// reads are answered with. Each of its units (`units_hold_each_bit_once` of `aml_fields`) is written once, with the
-/// bits of the field, and all other bits ones, or zeros. A rule that reads the unit first, or that keeps what it held,
-/// is refused by this.
+/// reads are answered with. A unit of it that has a place comes to one write there, with the bits of the field, and
+/// all other bits ones, or zeros; which units a field has `units_hold_each_bit_once` of `aml_fields` says. A rule that
+/// reads the unit first, or that keeps what it held, and a unit that is written twice, are refused by this.
 #[tactic(auto, using(crate::proofs::UnreadUnits::ones_and_zeros_read_nothing))]
 pub fn ones_and_zeros_read_nothing<S>()
     ensures unread { (accesses : Accesses S) (reads : Reads S) (region : Region) (field : FieldUnit) (source : List ℕ)
@@ -21,11 +25,35 @@ pub fn ones_and_zeros_read_nothing<S>()
     ensures ones { (accesses : Accesses S) (region : Region) (field : FieldUnit) (source : List ℕ) (unit : Access)
         (place : Place) (s : S) → field.update ≡ WriteAsOnes → unit.first + unit.count ≤ bit_count field.access →
         unit_place region field.access unit.offset ≡ Ok place →
-        (value : ℕ) × IsFilledWith true field source unit value ×
-        (write_unit accesses region field source unit s ≡ write_access accesses place field.access value s) }
+        (value : ℕ) × IsFilledWith true field source unit value × ((end : Outcome (Unit {0}) × S) →
+        WritesOnce accesses place field.access value s end → write_unit accesses region field source unit s ≡ end) }
     ensures zeros { (accesses : Accesses S) (region : Region) (field : FieldUnit) (source : List ℕ) (unit : Access)
         (place : Place) (s : S) → field.update ≡ WriteAsZeros → unit.first + unit.count ≤ bit_count field.access →
         unit_place region field.access unit.offset ≡ Ok place →
-        (value : ℕ) × IsFilledWith false field source unit value ×
-        (write_unit accesses region field source unit s ≡ write_access accesses place field.access value s) }
+        (value : ℕ) × IsFilledWith false field source unit value × ((end : Outcome (Unit {0}) × S) →
+        WritesOnce accesses place field.access value s end → write_unit accesses region field source unit s ≡ end) }
+{}
+
+/// Under the update rule Preserve a unit that the field covers whole comes to one write, and nothing is read. One that
+/// it covers in part comes to one read, and then one write of the number that was read with the bits of the field in
+/// it; where the read faults, the unit is refused so, and it isn't written. A unit that is covered whole and read, and
+/// one that is read twice, are refused by this.
+pub fn a_unit_that_keeps_bits_is_read_once<S>()
+    ensures whole { (accesses : Accesses S) (region : Region) (field : FieldUnit) (source : List ℕ) (unit : Access)
+        (place : Place) (s : S) → field.update ≡ Preserve → unit.first + unit.count ≤ bit_count field.access →
+        IsUnitAt region field.access unit.offset place → unit.count ≡ bit_count field.access →
+        (value : ℕ) × IsMergedInto 0 field source unit value × ((end : Outcome (Unit {0}) × S) →
+        WritesOnce accesses place field.access value s end → write_unit accesses region field source unit s ≡ end) }
+    ensures part { (accesses : Accesses S) (region : Region) (field : FieldUnit) (source : List ℕ) (unit : Access)
+        (place : Place) (s : S) → field.update ≡ Preserve → unit.first + unit.count ≤ bit_count field.access →
+        IsUnitAt region field.access unit.offset place → (unit.count ≡ bit_count field.access → ⊥) →
+        (old : ℕ) (between : S) → accesses.reads s place field.access ≡ (Ok old, between) →
+        (value : ℕ) × IsMergedInto old field source unit value × ((end : Outcome (Unit {0}) × S) →
+        WritesOnce accesses place field.access value between end →
+        write_unit accesses region field source unit s ≡ end) }
+    ensures fault { (accesses : Accesses S) (region : Region) (field : FieldUnit) (source : List ℕ) (unit : Access)
+        (place : Place) (s : S) → field.update ≡ Preserve → unit.first + unit.count ≤ bit_count field.access →
+        IsUnitAt region field.access unit.offset place → (unit.count ≡ bit_count field.access → ⊥) →
+        (fault : SpaceFault) (between : S) → accesses.reads s place field.access ≡ (Err fault, between) →
+        write_unit accesses region field source unit s ≡ (Err (refusal.Space fault), between) }
 {}

@@ -6,7 +6,7 @@ use aml_namespace::Names;
 use aml_objects::NamedObject;
 use aml_path::{NameString, Path, Prefix};
 use ar_space::{IntegerWidth, Refusal, Sparse};
-use row_words::{path, refuse, say_of};
+use row_words::{path, refuse, say_word_and_number};
 use space_trace::Traced;
 use test_rows::Exchange;
 
@@ -62,7 +62,7 @@ fn declare(asked: &mut Exchange, world: &mut World<Traced<Sparse>>) {
     let object = declaration(asked);
     let path = path(asked);
     match declared(world, path, object) {
-        Ok(number) => say_of(asked, "number", number),
+        Ok(number) => say_word_and_number(asked, "number", number),
         Err(refusal) => refuse(asked, refusal),
     }
 }

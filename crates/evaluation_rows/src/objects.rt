@@ -4,7 +4,7 @@ use crate::telling::{say_content, say_outcome};
 use aml_meaning::World;
 use aml_objects::{Element, Elements, Value};
 use ar_space::{Refusal, Sparse};
-use row_words::{object_number, refuse, say_done, say_of};
+use row_words::{object_number, refuse, say_done, say_word_and_number};
 use space_trace::Traced;
 use std::alloc::Global;
 use test_rows::Exchange;
@@ -102,7 +102,7 @@ fn open_frame(asked: &mut Exchange, world: &mut World<Traced<Sparse>>) {
     let mut arguments = [Value::Uninitialized; 7];
     arguments[1] = value(asked);
     match world.running.world.open_frame(arguments) {
-        Ok(number) => say_of(asked, "frame", number),
+        Ok(number) => say_word_and_number(asked, "frame", number),
         Err(refusal) => refuse(asked, refusal),
     }
 }

@@ -1,6 +1,6 @@
 //! How rows write numbers and values.
 use aml_objects::{Octets, Reference, Slot, Value};
-use row_words::{add, count, extend, object_number, tiny};
+use row_words::{add, count, extend, hexadecimal8, object_number};
 use test_rows::Exchange;
 
 /// A number in decimal digits, or behind `0x` in hexadecimal ones.
@@ -51,12 +51,12 @@ pub fn texts(asked: &mut Exchange) -> Vec<Octets> {
 /// A slot of a frame: `local N` or `argument N`.
 pub fn slot(asked: &mut Exchange) -> Slot {
     if asked.takes("local ") {
-        return Slot::Local(tiny(asked));
+        return Slot::Local(hexadecimal8(asked));
     }
     if !asked.takes("argument ") {
         asked.misunderstand();
     }
-    Slot::Argument(tiny(asked))
+    Slot::Argument(hexadecimal8(asked))
 }
 
 /// A slot behind the number of its frame, as a reference.

@@ -4,7 +4,7 @@ use crate::telling::say_value;
 use acpi_machine::Kind;
 use aml_objects::{Method, MethodBody, NamedObject};
 use aml_path::Path;
-use row_words::{push_path, say_of};
+use row_words::{push_path, say_word_and_number};
 use test_rows::Exchange;
 
 /// Answers paths in their order, or `none`.
@@ -24,7 +24,7 @@ fn say_method(asked: &mut Exchange, method: &Method) {
         MethodBody::Osi => "predefined method",
         MethodBody::Aml(_) => "method",
     };
-    say_of(asked, word, u64::from(method.flags.arguments()));
+    say_word_and_number(asked, word, u64::from(method.flags.arguments()));
 }
 
 /// The word of what a name was declared as, where that says nothing more.
@@ -47,8 +47,8 @@ pub fn say_object(asked: &mut Exchange, object: &NamedObject) {
     match object {
         NamedObject::Method(method) => say_method(asked, method),
         NamedObject::Data(held) => say_value(asked, *held),
-        NamedObject::Mutex(count) => say_of(asked, "mutex", *count),
-        NamedObject::Event(count) => say_of(asked, "event", *count),
+        NamedObject::Mutex(count) => say_word_and_number(asked, "mutex", *count),
+        NamedObject::Event(count) => say_word_and_number(asked, "event", *count),
         NamedObject::Alias(path) => say_path_of(asked, "alias", path),
         _ => asked.say(object_word(object)),
     }
@@ -80,7 +80,7 @@ fn kind_word(kind: Kind<'_>) -> &'static str {
 /// Answers what a machine shows of a name.
 pub fn say_kind(asked: &mut Exchange, kind: Kind<'_>) {
     match kind {
-        Kind::Method(count) => say_of(asked, "method", u64::from(count)),
+        Kind::Method(count) => say_word_and_number(asked, "method", u64::from(count)),
         Kind::Alias(path) => say_path_of(asked, "alias", path),
         _ => asked.say(kind_word(kind)),
     }

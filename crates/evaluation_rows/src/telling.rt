@@ -2,7 +2,7 @@
 use aml_meaning::Datum;
 use aml_objects::{Content, Reference, Slot, Value};
 use ar_space::Refusal;
-use row_words::{push_path, refuse, say_of};
+use row_words::{push_path, refuse, say_word_and_number};
 use test_rows::Exchange;
 
 /// How many bytes an answer shows at most.
@@ -21,7 +21,7 @@ fn push_integer(asked: &mut Exchange, number: u64) {
 fn push_bytes(asked: &mut Exchange, kind: &str, bytes: &[u8]) {
     asked.push(kind);
     if bytes.len() > MOST_BYTES {
-        say_of(asked, "of", bytes.len() as u64);
+        say_word_and_number(asked, "of", bytes.len() as u64);
         asked.say("bytes");
     } else {
         asked.say_bytes(bytes);
@@ -74,8 +74,8 @@ pub fn push_datum(asked: &mut Exchange, datum: &Datum) {
 /// Answers a slot of a frame.
 fn say_slot(asked: &mut Exchange, slot: Slot) {
     match slot {
-        Slot::Local(number) => say_of(asked, "local", u64::from(number)),
-        Slot::Argument(number) => say_of(asked, "argument", u64::from(number)),
+        Slot::Local(number) => say_word_and_number(asked, "local", u64::from(number)),
+        Slot::Argument(number) => say_word_and_number(asked, "argument", u64::from(number)),
     }
 }
 
@@ -83,17 +83,17 @@ fn say_slot(asked: &mut Exchange, slot: Slot) {
 fn say_reference(asked: &mut Exchange, reference: Reference) {
     asked.say("reference");
     match reference {
-        Reference::Name(number) => say_of(asked, "name", number),
+        Reference::Name(number) => say_word_and_number(asked, "name", number),
         Reference::Slot(place, frame) => {
-            say_of(asked, "slot", frame);
+            say_word_and_number(asked, "slot", frame);
             say_slot(asked, place);
         }
         Reference::Element(object, index) => {
-            say_of(asked, "element", u64::from(object));
+            say_word_and_number(asked, "element", u64::from(object));
             asked.say_number(index as u64);
         }
         Reference::Byte(object, index) => {
-            say_of(asked, "byte", u64::from(object));
+            say_word_and_number(asked, "byte", u64::from(object));
             asked.say_number(index as u64);
         }
     }
@@ -104,9 +104,9 @@ pub fn say_value(asked: &mut Exchange, value: Value) {
     match value {
         Value::Uninitialized => asked.say("uninitialized"),
         Value::Integer(number) => push_integer(asked, number),
-        Value::String(object) => say_of(asked, "string object", u64::from(object)),
-        Value::Buffer(object) => say_of(asked, "buffer object", u64::from(object)),
-        Value::Package(object) => say_of(asked, "package object", u64::from(object)),
+        Value::String(object) => say_word_and_number(asked, "string object", u64::from(object)),
+        Value::Buffer(object) => say_word_and_number(asked, "buffer object", u64::from(object)),
+        Value::Package(object) => say_word_and_number(asked, "package object", u64::from(object)),
         Value::Reference(other) => say_reference(asked, other),
     }
 }

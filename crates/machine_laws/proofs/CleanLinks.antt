@@ -8,7 +8,7 @@ use Rattle.acpi_links.specs.Resources.{offered_bytes}
 use Rattle.acpi_machine.specs.Kinds as kind
 use Rattle.acpi_machine.specs.Kinds.{Kind, kind_at}
 use Rattle.acpi_prt.specs.Children.{child_named}
-use Rattle.acpi_prt.specs.Entries.{entries_of, fits_word, letter_of, no_index, source_tested, word_of, zero_source}
+use Rattle.acpi_prt.specs.Entries.{entries_of, fits_word, pin_tested, no_index, source_tested, word_of, zero_source}
 use Rattle.acpi_prt.specs.Finding.{device_in, device_or_not, id_in, id_or_not, method_or_not}
 use Rattle.acpi_prt.specs.Links.{is_link_id, link_id_or_not}
 use Rattle.acpi_prt.specs.declared.pin.Pin.{Pin}
@@ -126,8 +126,8 @@ source_tested_clean (given.Integer n) = zero_source_clean n
 source_tested_clean (given.Named p) = tt
 source_tested_clean _ = tt
 
-pub letter_of_clean : (pin : ℕ) → Clean (letter_of pin)
-letter_of_clean pin = if_clean (nat_lt 3 pin) _ _ tt tt
+pub pin_tested_clean : (pin : ℕ) → Clean (pin_tested pin)
+pin_tested_clean pin = if_clean (nat_lt 3 pin) _ _ tt tt
 
 pub no_index_clean : (index : ℕ) → Clean (no_index index)
 no_index_clean index = if_clean (index == 0) _ _ tt tt

@@ -1,6 +1,6 @@
 -- Where a routing table, a link or what is gathered of a machine is refused by a fault of the register space, the last access
 -- answered with it.
-use Rattle.machine_laws.proofs.CleanLinks.{device_in_clean, id_in_clean, offered_bytes_clean, child_named_clean, numbers_of_clean, entries_of_clean, few_links_clean, few_pins_clean, link_id_or_not_clean, letter_of_clean, no_index_clean, one_polarity_clean, possible_as_clean, presence_of_clean, some_left_clean, source_tested_clean, word_of_clean}
+use Rattle.machine_laws.proofs.CleanLinks.{device_in_clean, id_in_clean, offered_bytes_clean, child_named_clean, numbers_of_clean, entries_of_clean, few_links_clean, few_pins_clean, link_id_or_not_clean, pin_tested_clean, no_index_clean, one_polarity_clean, possible_as_clean, presence_of_clean, some_left_clean, source_tested_clean, word_of_clean}
 use Rattle.machine_laws.proofs.FaultsOfCalls.{MachineExplains, evaluated_object_explains}
 use Rattle.std.specs.Prelude.{Bool, List, Option, [], false, refl, true, ℕ, ◌∷◌, ◌++◌}
 use Rattle.acpi_links.specs.Devices.{devices, devices_listed, pins_at, pins_of_device}
@@ -61,7 +61,7 @@ module _ {S : Type 0} {accesses : Accesses S} where
 
   pin_with_explains : (a p s i : Given) → MachineExplains accesses (pin_with accesses a p s i)
   unfolding pin_with
-  pin_with_explains a p s i = then_explains _ _ (settle_explains _ (word_of_clean a)) (λ address. then_explains _ _ (settle_explains _ (word_of_clean p)) (λ pin. then_explains _ _ (settle_explains _ (source_tested_clean s)) (λ tested. then_explains _ _ (settle_explains _ (word_of_clean i)) (λ index. then_explains _ _ (settle_explains _ (letter_of_clean pin)) (λ letter.
+  pin_with_explains a p s i = then_explains _ _ (settle_explains _ (word_of_clean a)) (λ address. then_explains _ _ (settle_explains _ (word_of_clean p)) (λ pin. then_explains _ _ (settle_explains _ (source_tested_clean s)) (λ tested. then_explains _ _ (settle_explains _ (word_of_clean i)) (λ index. then_explains _ _ (settle_explains _ (pin_tested_clean pin)) (λ letter.
       then_explains _ _ (route_of_explains s index) (λ route. give_explains _))))))
 
   pin_among_explains : (gs : List Given) → MachineExplains accesses (pin_among accesses gs)

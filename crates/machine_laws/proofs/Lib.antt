@@ -7,11 +7,14 @@ pub mod BusesReached
 pub mod CallsPassedOver
 pub mod CallsTogether
 pub mod CleanLinks
+pub mod EntriesTold
 pub mod FaultsOfBuses
 pub mod FaultsOfCalls
 pub mod FaultsOfLinks
 pub mod FaultsOfLoading
+pub mod FlagsTold
 pub mod InitialCalls
+pub mod ItemsTold
 pub mod KernelBuses
 pub mod KernelLinesTold
 pub mod KernelOffers
@@ -19,6 +22,7 @@ pub mod KernelRuns
 pub mod KernelTriggers
 pub mod LinesWidened
 pub mod LinksTogether
+pub mod LinksTold
 pub mod MachineFaults
 pub mod MachineNotes
 pub mod MachineNoting

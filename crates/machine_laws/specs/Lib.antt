@@ -2,9 +2,13 @@ pub mod BoundedAccesses
 pub mod Deepened
 pub mod Evaluated
 pub mod Initializing
+pub mod InterruptFlags
+pub mod InterruptItems
 pub mod KernelLines
+pub mod LinkObjects
 pub mod LoadedInTurn
 pub mod Notes
 pub mod PassedCalls
 pub mod ReportedNotes
+pub mod RoutingEntries
 pub mod Widened

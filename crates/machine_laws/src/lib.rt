@@ -3,9 +3,12 @@
 
 mod bounds;
 mod depths;
+mod descriptors;
+mod entries;
 mod faults;
 mod initializing;
 mod kernel_lines;
+mod link_objects;
 mod loading;
 mod notes;
 mod profiles;
@@ -20,6 +23,10 @@ pub use depths::{
     a_machine_that_allows_more_depth_calls_as_one_that_allows_less,
     a_machine_that_allows_more_depth_gathers_as_one_that_allows_less,
 };
+pub use descriptors::{an_item_means_what_its_first_byte_says, the_flags_of_an_interrupt_are_bits};
+pub use entries::{
+    an_entry_of_a_routing_table_tells_of_a_pin, an_entry_that_tells_of_no_pin_is_refused,
+};
 pub use faults::{machine_faults_are_reached_by_accesses, routing_faults_are_reached_by_accesses};
 pub use initializing::{
     calls_of_initializing_are_passed_over, initializing_calls_three_methods_in_turn,
@@ -29,6 +36,10 @@ pub use kernel_lines::{
     each_source_has_one_line_trigger, interrupts_are_triggered_as_their_overrides_say,
     links_are_triggered_as_they_offer, the_bus_of_a_routing_table_is_told_by_its_objects,
     the_device_of_each_pin_has_one_line_bus,
+};
+pub use link_objects::{
+    a_link_is_a_device_with_the_id_of_links, a_link_is_present_by_its_status,
+    a_routing_table_is_what_its_device_answers, links_are_asked_by_their_objects,
 };
 pub use loading::tables_are_loaded_in_turn;
 pub use notes::{

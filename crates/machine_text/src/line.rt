@@ -11,15 +11,13 @@ use crate::address_space::AddressSpace;
 use crate::draft::Draft;
 use crate::osi_texts::OsiTexts;
 use crate::words::{bad_line, bytes, ended, number};
-use ar_space::{Refusal, Sparse};
+use ar_space::{MAX_TEXTS, Refusal, Sparse};
 use std::alloc::Global;
 use std::slice;
 use text_words::{Words, cut};
 
 /// How many bytes an `osi` text may have.
 const MAX_TEXT: usize = 255;
-/// How many `osi` texts there may be.
-const MAX_TEXTS: usize = 64;
 
 /// `A bytes..`
 #[tactic(auto, using(ar_space::proofs::Outcomes::answering), unfolding(crate::specs::MachineText::placed))]

@@ -2,7 +2,7 @@
 
 use crate::shown::{show_code, show_name};
 use aml_terms::{OperandView, Term, TermPart, TermReader};
-use row_words::{count, refuse, say_of};
+use row_words::{count, refuse, say_word_and_number};
 use test_rows::Exchange;
 
 /// An item of a list, from 0.
@@ -50,7 +50,7 @@ fn show_operand(asked: &mut Exchange, operand: OperandView<TermPart<'_>>) {
         OperandView::Absent => asked.say("absent"),
         OperandView::Null => asked.say("null"),
         OperandView::Name => asked.say("name"),
-        OperandView::Number(number) => say_of(asked, "number", number),
+        OperandView::Number(number) => say_word_and_number(asked, "number", number),
         OperandView::Bytes => asked.say("bytes"),
         OperandView::Term(_) => asked.say("term"),
         OperandView::List(_) => asked.say("list"),

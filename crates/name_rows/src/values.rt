@@ -4,7 +4,7 @@ use crate::shown::show_name;
 use crate::words::{name, number, scope};
 use aml_objects::{Element, NamedObject, Reference, Slot, Value};
 use ar_space::Refusal;
-use row_words::{object_number, path, refuse, say_of, say_path};
+use row_words::{object_number, path, refuse, say_path, say_word_and_number};
 use test_rows::Exchange;
 
 /// The slot of a frame, as `0 of frame 3`, and its word before it.
@@ -67,7 +67,7 @@ pub fn object(asked: &mut Exchange) -> NamedObject {
 fn show_reference(asked: &mut Exchange, reference: Reference) {
     let (word, number, of, whole) = match reference {
         Reference::Name(number) => {
-            say_of(asked, "declaration", number);
+            say_word_and_number(asked, "declaration", number);
             return;
         }
         Reference::Slot(Slot::Local(index), frame) => (
@@ -82,18 +82,18 @@ fn show_reference(asked: &mut Exchange, reference: Reference) {
         Reference::Element(object, index) => ("element", index as u64, "of", u64::from(object)),
         Reference::Byte(object, index) => ("byte", index as u64, "of", u64::from(object)),
     };
-    say_of(asked, word, number);
-    say_of(asked, of, whole);
+    say_word_and_number(asked, word, number);
+    say_word_and_number(asked, of, whole);
 }
 
 /// Answers a value.
 fn show_value(asked: &mut Exchange, value: Value) {
     match value {
         Value::Uninitialized => asked.say("Uninitialized"),
-        Value::Integer(number) => say_of(asked, "Integer", number),
-        Value::String(object) => say_of(asked, "String", u64::from(object)),
-        Value::Buffer(object) => say_of(asked, "Buffer", u64::from(object)),
-        Value::Package(object) => say_of(asked, "Package", u64::from(object)),
+        Value::Integer(number) => say_word_and_number(asked, "Integer", number),
+        Value::String(object) => say_word_and_number(asked, "String", u64::from(object)),
+        Value::Buffer(object) => say_word_and_number(asked, "Buffer", u64::from(object)),
+        Value::Package(object) => say_word_and_number(asked, "Package", u64::from(object)),
         Value::Reference(reference) => show_reference(asked, reference),
     }
 }

@@ -1,5 +1,5 @@
--- How an interrupt is triggered: as the first line `trigger` of its source says. Where none does, a link's is a level, as its
--- line `link` has it, and others are as PCI's are.
+-- How an interrupt is triggered: as the first line `trigger` of its source says. Where none does, a link's is a
+-- level, as its line `link` has it, and others are as PCI's are.
 use Rattle.std.specs.Prelude.{ℕ, ◌==◌, Bool, true, false, List, [], ◌∷◌, if◌then◌else◌}
 use Rattle.aml_path.specs.declared.segment.Seg.{Seg}
 use Rattle.aml_path.specs.Paths.{path_eq}

@@ -1,4 +1,5 @@
--- The offered interrupts in ascending order, what the links offer by places among them, and how many sources are wired to each.
+-- The offered interrupts in ascending order, what the links offer by places among them, and how many sources are
+-- wired to each.
 use Rattle.std.specs.Prelude.{◌≡◌, ◌==◌, ◌<◌, ℕ, Bool, true, List, length, map, slice_index_or}
 use Rattle.std.specs.List.{list_any}
 use Rattle.std.specs.Global.{Vec}
@@ -13,8 +14,8 @@ has xs n = list_any (λ m. m == n) xs
 abbrev pub is_offered : List (List ℕ) → ℕ → Bool
 is_offered offers n = list_any (λ o. has o n) offers
 
--- the offered interrupts, and no other
-pub record HasOffered (offers : List (List ℕ)) (numbers : List ℕ) : Type 0 where
+-- some numbers are the offered interrupts: each of them, and no other
+pub record AreTheOffered (offers : List (List ℕ)) (numbers : List ℕ) : Type 0 where
   pub all : (l n : ℕ) → Offers offers l n → has numbers n ≡ true
   pub none : (n : ℕ) → has numbers n ≡ true → is_offered offers n ≡ true
 

@@ -1,5 +1,5 @@
-//! The interrupts that links offer, in ascending order: each is known by its place among them. The solvers begin with
-//! these, and end with the numbers at places.
+//! The interrupts that links offer, in ascending order: each is known by its place among them. The solvers work with
+//! places (from 0), and turn them back into interrupts at the end (`all_numbers` does so for a whole list).
 //!
 //! From the bottom: whether numbers ascend, and putting them in order (`ascending`); where a number may be found at
 //! once (`hints`); all that links offer (`offered`); the place of a number, and the number at a place (`places`).

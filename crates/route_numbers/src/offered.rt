@@ -2,7 +2,7 @@
 ghost use Rattle.std.specs.Prelude.{◌≡◌, ◌<◌, ◌⊎◌, ℕ, Contains, IfOk, IfSome, OnOk, length, slice_index_or};
 ghost use Rattle.std.specs.List.Sorted.{IsStrictlyIncreasing};
 ghost use Rattle.route_model.specs.Links.{offers_of};
-ghost use Rattle.route_numbers.specs.Numbers.{HasOffered};
+ghost use Rattle.route_numbers.specs.Numbers.{AreTheOffered};
 
 use crate::ascending::put_in_order;
 use crate::hints::{HINTS, hinted};
@@ -90,7 +90,7 @@ fn add_and_sort(
 /// All interrupts that a link offers, ascending.
 pub fn all_offered(alloc: Global, links: &[Link]) -> Result<Vec<u32>, AllocError>
     ensures ascending { IfOk result (λ numbers. IsStrictlyIncreasing numbers.items) }
-    ensures all { IfOk result (λ numbers. HasOffered (offers_of links.now) numbers.items) }
+    ensures all { IfOk result (λ numbers. AreTheOffered (offers_of links.now) numbers.items) }
 {
     let mut numbers = Vec::with_capacity(alloc, HINTS)?;
     let mut hints = [0usize; HINTS];

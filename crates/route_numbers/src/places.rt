@@ -2,13 +2,13 @@
 ghost use Rattle.std.specs.Prelude.{◌≡◌, ◌<◌, ℕ, Contains, IfOk, MatchOption, length, map, slice_index_or};
 ghost use Rattle.std.specs.List.Sorted.{IsStrictlyIncreasing};
 ghost use Rattle.route_model.specs.Links.{offers_of};
-ghost use Rattle.route_numbers.specs.Numbers.{lists_of, HasOffered, IsNumbered};
+ghost use Rattle.route_numbers.specs.Numbers.{lists_of, AreTheOffered, IsNumbered};
 
 use crate::hints::{HINTS, keep_hints};
 use route_model::Link;
 use std::alloc::{AllocError, Global};
 
-/// The place of a number among ascending ones, found by halves.
+/// The place of a number among ascending ones, by binary search; none where it isn't there.
 pub fn place_among(numbers: &[u32], n: u32) -> Option<usize>
     requires { IsStrictlyIncreasing numbers.now }
     ensures { MatchOption result (Contains numbers.now n → ⊥) (λ i. (i < length numbers.now) ×
@@ -30,7 +30,8 @@ pub fn place_among(numbers: &[u32], n: u32) -> Option<usize>
     None
 }
 
-/// The place of a number among ascending ones, which is looked at one place first.
+/// The place of a number among ascending ones: looks at the place `from` first, then searches; none where it isn't
+/// there.
 pub fn place_from(numbers: &[u32], from: usize, n: u32) -> Option<usize>
     requires { IsStrictlyIncreasing numbers.now }
     ensures { MatchOption result (Contains numbers.now n → ⊥) (λ i. (i < length numbers.now) ×
@@ -42,7 +43,7 @@ pub fn place_from(numbers: &[u32], from: usize, n: u32) -> Option<usize>
     place_among(numbers, n)
 }
 
-/// The places of what a link offers.
+/// The places of what a link offers: each has to be among `numbers`.
 fn places_of(
     alloc: Global,
     numbers: &[u32],
@@ -72,7 +73,7 @@ pub fn all_places_offered(
     links: &[Link],
 ) -> Result<Vec<Vec<usize>>, AllocError>
     requires ascending { IsStrictlyIncreasing numbers.now }
-    requires all { HasOffered (offers_of links.now) numbers.now }
+    requires all { AreTheOffered (offers_of links.now) numbers.now }
     ensures { IfOk result (λ places. IsNumbered (offers_of links.now) numbers.now (lists_of places.items)) }
 {
     let mut places = Vec::with_capacity(alloc, links.len())?;
@@ -84,7 +85,7 @@ pub fn all_places_offered(
     Ok(places)
 }
 
-/// The places of what a choice gives the links.
+/// The places of the interrupts that a choice gives the links: each has to be among `numbers`.
 pub fn all_places_chosen(
     alloc: Global,
     numbers: &[u32],

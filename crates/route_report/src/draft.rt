@@ -11,16 +11,11 @@ use crate::report::Rule;
 use crate::version::Version;
 use crate::words::bad_line;
 use aml_path::Path;
-use ar_space::Refusal;
+use ar_space::{MAX_LINKS, MAX_PINS, Refusal};
 use route_check::{Bound, Claim};
 use route_model::Link;
 use std::alloc::Global;
 use std::marker::Model;
-
-/// How many links a report may have.
-const MAX_LINKS: usize = 256;
-/// How many wired interrupts a report may have.
-const MAX_WIRED: usize = 4096;
 
 /// A claim that isn't whole yet. Of a bound, and of the interrupt that the System Control Interrupt is wired to, that
 /// there is none is said too. Of devices whose interrupts are spared, that lines may tell of them.
@@ -83,7 +78,7 @@ impl Draft {
     pub(crate) fn add_wired(&mut self, n: usize, wired: (u32, u32)) -> Result<(), Refusal>
         ensures { Answers (seen (λ _. self.new) result) (with_wired n wired self.old) }
     {
-        if self.wired.len() < MAX_WIRED {
+        if self.wired.len() < MAX_PINS {
             self.wired.push(wired)?;
             Ok(())
         } else {

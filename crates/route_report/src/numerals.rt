@@ -49,7 +49,8 @@ fn of_up_to_three_digits(word: &[u8]) -> Option<u32>
     Some((first * 10 + second) * 10 + third)
 }
 
-/// The same of any length, by a text that is made to compare it with.
+/// The number below 2^32 that a word of any length writes in decimal, without leading zeros. The number that is
+/// parsed is written again, and that text compared with the word: so one with leading zeros or a sign is none.
 fn of_any_length(word: &[u8]) -> Option<u32>
     ensures { MatchOption result ((n : ℕ) → n < 2 ^ 32 → word.now ≢ decimal n) (λ n. word.now ≡ decimal n) }
 {

@@ -1,10 +1,11 @@
 //! Claims: their parts, what they say, and what `check` says of them.
-use crate::answers::{say_numbers, say_path};
+use crate::answers::say_numbers;
 use crate::generated::add_links;
-use crate::words::{add, add_give, add_wired, number, numbers, path_of, set_bound, source};
+use crate::words::{add_give, add_wired, number, numbers, set_bound, source};
 use aml_path::Path;
 use route_check::{Bound, Claim, Flaw, check};
 use route_model::Link;
+use row_words::{add, path_of, say_path};
 use std::alloc::Global;
 use test_rows::Exchange;
 

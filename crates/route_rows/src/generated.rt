@@ -1,7 +1,8 @@
 //! Links and reports that are too large to be written out.
 use crate::texts::put;
-use crate::words::{add, number, number_of, numbers_of, path_of};
+use crate::words::{number, number_of, numbers_of};
 use route_model::Link;
+use row_words::{add, path_of};
 use std::alloc::AllocError;
 use test_rows::Exchange;
 

@@ -2,9 +2,9 @@
 ghost use Rattle.std.specs.Prelude.{◌<◌};
 
 use crate::random::Random;
-use crate::words::{add, path_of};
 use route_model::Link;
 use route_solve::Problem;
+use row_words::{add, path_of};
 use test_rows::Exchange;
 
 /// How a problem is generated.

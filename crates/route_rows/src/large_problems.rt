@@ -1,9 +1,9 @@
 //! Problems of 256 links and 255 interrupts that are generated from a seed.
 use crate::generated_problems::add_link;
 use crate::random::Random;
-use crate::words::add;
 use route_model::Link;
 use route_solve::Problem;
+use row_words::add;
 use test_rows::Exchange;
 
 /// How many links a problem has.

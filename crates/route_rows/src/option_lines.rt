@@ -1,9 +1,10 @@
 //! The lines that a report has in version 3 alone.
-use crate::words::{add, named, number, numbers, path};
+use crate::words::{named, number, numbers};
 use route_report::{
     BusLine, BusState, InterruptSource, OptionLines, Polarity, Report, Rule, SparedLine, Trigger,
     TriggerLine, UnreadLine,
 };
+use row_words::{add, path};
 use std::alloc::Global;
 use test_rows::Exchange;
 

@@ -1,7 +1,8 @@
 //! The lines of a report that tell of pins, and of what came of setting links.
 use crate::reports::setting;
-use crate::words::{add, named, number_of, path, path_of};
+use crate::words::{named, number_of};
 use route_report::{After, AfterLine, PinLine, PinName, PinRoute, Report, SetLine, SetOutcome};
+use row_words::{add, path, path_of};
 use test_rows::Exchange;
 
 /// The pins of a device.

@@ -1,10 +1,11 @@
 //! Problems: the links and the wired interrupts of a row, and what `route_solve` says of them.
-use crate::answers::{say_numbers, say_path};
+use crate::answers::say_numbers;
 use crate::words::number;
 use route_check::Claim;
 use route_model::Link;
 use route_solve::{Answer, Problem, Solver, fits, solve};
 use route_try::first_least;
+use row_words::say_path;
 use std::alloc::AllocError;
 use std::mem;
 use test_rows::Exchange;

@@ -2,9 +2,10 @@
 use crate::option_lines::{self, add_option};
 use crate::pins::{add_after, add_pin, add_set};
 use crate::words::{
-    add, add_give, add_wired, named, number, numbers, numbers_of, pass, path, set_bound, source,
+    add_give, add_wired, named, number, numbers, numbers_of, pass, set_bound, source,
 };
 use route_report::{Form, IoApicLine, LinkLine, Mode, OverrideLine, Polarity, Report};
+use row_words::{add, path};
 use std::alloc::Global;
 use test_rows::Exchange;
 

@@ -1,9 +1,9 @@
 //! Both solvers on all small problems: up to three links that offer some of three interrupts each, and up to two
 //! sources wired to these or to a fourth one.
 use crate::problems::{solved, tried};
-use crate::words::{add, path_of};
 use route_model::Link;
 use route_solve::{Answer, Problem};
+use row_words::{add, path_of};
 use test_rows::Exchange;
 
 /// Those of three interrupts whose bits are set.

@@ -1,9 +1,9 @@
 //! Texts of reports: written by a row or printed, and read.
-use crate::answers::refuse;
 use crate::generated::crowd;
 use crate::words::number;
 use route_check::Claim;
 use route_report::{Report, print, read};
+use row_words::refuse;
 use test_rows::Exchange;
 
 /// Puts bytes behind a text.

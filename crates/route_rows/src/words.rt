@@ -1,7 +1,7 @@
 //! The words of a question: numbers, paths, and lists of them.
-use crate::answers::refuse;
 use aml_path::Path;
 use route_check::Bound;
+use row_words::{add, path, path_of};
 use test_rows::Exchange;
 
 /// Passes over a word.
@@ -15,13 +15,6 @@ pub fn pass(asked: &mut Exchange, word: &str) {
 pub fn named<T: Copy>(asked: &mut Exchange, names: &[(&str, T)], other: T) -> T {
     let name = asked.word();
     asked.one_of(names, name, other)
-}
-
-/// Adds to a list, where all was understood so far.
-pub fn add<T: Drop>(asked: &mut Exchange, items: &mut Vec<T>, item: T) {
-    if asked.is_well() && items.push(item).is_err() {
-        asked.run_out();
-    }
 }
 
 /// A number below 2^32.
@@ -68,23 +61,6 @@ pub fn source(asked: &mut Exchange) -> Option<u32> {
     } else {
         Some(number(asked))
     }
-}
-
-/// An absolute path.
-pub fn path_of(asked: &mut Exchange, text: &str) -> Path {
-    match Path::from_text(asked.alloc(), text.as_bytes()) {
-        Ok(path) => path,
-        Err(refusal) => {
-            refuse(asked, refusal);
-            Path::root(asked.alloc())
-        }
-    }
-}
-
-/// The next word as an absolute path.
-pub fn path(asked: &mut Exchange) -> Path {
-    let text = asked.word();
-    path_of(asked, text)
 }
 
 /// Absolute paths; `-` for none.

@@ -7,7 +7,7 @@ use Rattle.std.proofs.lemmas.List.{get_or_past}
 use Rattle.route_model.specs.Placement.{is_reached}
 use Rattle.route_model.proofs.Counting.{one_if}
 use Rattle.route_solve.specs.Marks.{is_offered_by}
-use Rattle.route_numbers.specs.Numbers.{has, number_at, HasOffered}
+use Rattle.route_numbers.specs.Numbers.{has, number_at, AreTheOffered}
 use Rattle.route_solve.specs.Rows.{bit_of, HasBit, HasRows}
 use Rattle.route_numbers.proofs.Numbered.{offers_within}
 use Rattle.route_solve.proofs.Filtered.{any_contains, contains_any, offered_from, offered_to}
@@ -34,7 +34,7 @@ not_true : (b : Bool) → (b ≡ true → ⊥) → b ≡ false
 not_true true h = absurd (h refl)
 not_true false h = refl
 
-pub unoffered : (offers : List (List ℕ)) (marks : List Bool) (numbers : List ℕ) (n : ℕ) → HasOffered offers numbers → (Contains numbers n → ⊥) → is_offered_by offers marks n ≡ false
+pub unoffered : (offers : List (List ℕ)) (marks : List Bool) (numbers : List ℕ) (n : ℕ) → AreTheOffered offers numbers → (Contains numbers n → ⊥) → is_offered_by offers marks n ≡ false
 unoffered offers marks numbers n all none = not_true (is_offered_by offers marks n) (λ h. let w = offered_from offers marks n h in none (any_contains n numbers (all.all w.0 n w.2)))
 
 module _ (offers : List (List ℕ)) (marks : List Bool) (numbers rows row : List ℕ) (few : length offers ≤ 256) (bits : HasRows offers numbers rows) (four : length row ≡ 4) (all : (l : ℕ) → is_reached marks l ≡ true → bit_of row 0 l ≡ 1) (only : (l : ℕ) → l < 256 → bit_of row 0 l ≡ 1 → is_reached marks l ≡ true) (n i : ℕ) (within : i < length numbers) (is : number_at numbers i ≡ n) where

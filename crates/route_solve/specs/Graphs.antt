@@ -15,7 +15,7 @@ use Rattle.route_solve.specs.Certificate.{IsCertificate, IsWithinLeast}
 use Rattle.route_solve.specs.Floor.{IsFloor}
 use Rattle.route_solve.specs.Capacities.{at, capacity_at, IsCounted}
 use Rattle.route_solve.specs.Levels.{IsTrail, IsQueue, IsKept, IsLonger, AreClosed, AreDone, IsFound}
-use Rattle.route_numbers.specs.Numbers.{lists_of, AreSources, HasOffered, IsNumbered}
+use Rattle.route_numbers.specs.Numbers.{lists_of, AreSources, AreTheOffered, IsNumbered}
 use Rattle.route_solve.specs.Problems.{RoutingProblem}
 use Rattle.route_solve.specs.Ready.{AreReady, IsFurther, IsSearch}
 use Rattle.route_solve.specs.Rows.{AreRows, HasRows}
@@ -46,7 +46,7 @@ IsGraph g = AreEdges g.offers.now g.rows.now (interrupts_in g)
 -- The problem's graph: the places of its interrupts are those of their numbers.
 pub record IsNumbering (p : RoutingProblem) (numbers : List ℕ) (offers : List (Vec ℕ)) (rows sources : List ℕ) : Type 0 where
   pub ascending : IsStrictlyIncreasing numbers
-  pub offered : HasOffered (offers_of p.links) numbers
+  pub offered : AreTheOffered (offers_of p.links) numbers
   pub long : length offers ≡ length p.links
   pub numbered : IsNumbered (offers_of p.links) numbers (lists_of offers)
   pub wired : AreSources numbers p.wired sources
@@ -58,7 +58,7 @@ Represents g o = IsNumbering o.problem.now o.numbers.now g.offers.now g.rows.now
 -- the offered interrupts by their numbers, and their rows
 pub record HasNumbers (o : Offered) : Type 0 where
   pub ascending : IsStrictlyIncreasing o.numbers.now
-  pub offered : HasOffered (offers_of o.problem.now.links) o.numbers.now
+  pub offered : AreTheOffered (offers_of o.problem.now.links) o.numbers.now
   pub bits : HasRows (offers_of o.problem.now.links) o.numbers.now o.rows.now
 
 -- the greatest number of sources that are wired to one interrupt
@@ -193,9 +193,9 @@ pub record IsLeastLimit (g : Graph) (limit : ℕ) (reached : List Bool) : Type 0
   pub small : limit ≤ g.limit + 256
   pub shown : (limit ≡ g.limit) ⊎ ((g.limit < limit) × IsCertificate (edges g) (capacity_at (limit - 1) g.sources.now) reached)
 
--- the same for a problem, from its greatest wired count on: a placement within the limit, and the links that were reached for a
--- limit of one less
-pub record IsLeastWithin (p : RoutingProblem) (floor limit : ℕ) (reached : List Bool) : Type 0 where
+-- the same for a problem, from a floor on, its greatest wired count: a placement within the limit, and the links
+-- that were reached for a limit of one less
+pub record IsLeastLimitFor (p : RoutingProblem) (floor limit : ℕ) (reached : List Bool) : Type 0 where
   pub small : limit ≤ 4352
   pub marks : length reached ≡ length p.links
   pub placement : List (Option ℕ)

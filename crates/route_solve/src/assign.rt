@@ -4,7 +4,8 @@ ghost use Rattle.route_model.specs.Links.{offers_of};
 ghost use Rattle.route_model.specs.Routing.{busiest, IsFirstLeast};
 ghost use Rattle.route_model.specs.Placement.{placement_of, place_of, IsWhole};
 ghost use Rattle.route_solve.specs.Fits.{IsSolvable};
-ghost use Rattle.route_solve.specs.Graphs.{AreBuffers, AreSized, IsEmpty, IsGreatestWired, IsLeastWithin, Represents};
+ghost use Rattle.route_solve.specs.Graphs.{AreBuffers, AreSized, IsEmpty, IsGreatestWired, IsLeastLimitFor};
+ghost use Rattle.route_solve.specs.Graphs.{Represents};
 ghost use Rattle.route_solve.specs.Named.{name_of, named};
 
 use crate::fill::place_all;
@@ -94,7 +95,7 @@ pub(crate) fn assign(
     ensures first_least { IsFirstLeast (offers_of offered.now.problem.now.links)
         offered.now.problem.now.wired given.new }
     ensures busiest { busiest offered.now.problem.now.wired given.new ≡ result }
-    ensures limit { IsLeastWithin offered.now.problem.now graph.now.limit result buffers.new.hall.reached.items }
+    ensures limit { IsLeastLimitFor offered.now.problem.now graph.now.limit result buffers.new.hall.reached.items }
 {
     let limit = place_all(graph, matching, buffers);
     let within = Graph { limit, ..*graph };

@@ -14,7 +14,7 @@ pub(crate) struct Matching {
     pub counts: Vec<usize>,
 }
 
-/// One link more has an interrupt.
+/// Counts one link more at interrupt `i`.
 pub(crate) fn count_one(counts: &mut [usize], i: usize)
     requires known { i < length counts.old }
     requires few { at counts.old i ≤ 256 }

@@ -69,8 +69,8 @@ fn way_of(ways: &[Way], i: usize) -> usize
     0
 }
 
-/// Gives a link that has no interrupt the first of its offers that is ready, and gives the place of that among its
-/// offers.
+/// Gives a link that has no interrupt the first of its offers that is ready. Answers the index of that interrupt
+/// among the link's offers, or none where none of them is ready.
 pub(crate) fn place_ready(
     graph: &Graph<'_>,
     matching: &mut Matching,

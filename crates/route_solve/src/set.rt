@@ -8,9 +8,9 @@ ghost use Rattle.route_model.specs.Links.{offers_of};
 ghost use Rattle.route_model.specs.Routing.{wired_to};
 ghost use Rattle.route_model.specs.Placement.{is_reached};
 ghost use Rattle.route_solve.specs.Fits.{IsSolvable};
-ghost use Rattle.route_solve.specs.Graphs.{HasNumbers, IsGreatestWired, IsLeastWithin};
+ghost use Rattle.route_solve.specs.Graphs.{HasNumbers, IsGreatestWired, IsLeastLimitFor};
 ghost use Rattle.route_solve.specs.Marks.{is_offered_by, HasAll};
-ghost use Rattle.route_numbers.specs.Numbers.{HasOffered};
+ghost use Rattle.route_numbers.specs.Numbers.{AreTheOffered};
 ghost use Rattle.route_solve.specs.Rows.{bit_of, HasBit, HasRows};
 ghost use Rattle.route_model.specs.Bound.{IsLowerBound};
 ghost use Rattle.route_solve.specs.Shown.{Shown};
@@ -158,7 +158,7 @@ pub(crate) fn show(
     requires fits { IsSolvable offered.now.problem.now }
     requires numbers { HasNumbers offered.now }
     requires floor { IsGreatestWired offered.now.problem.now.wired floor }
-    requires limit { IsLeastWithin offered.now.problem.now floor limit reached.now }
+    requires limit { IsLeastLimitFor offered.now.problem.now floor limit reached.now }
     requires places { places.old.items ≡ range_with_len 0 (length offered.now.problem.now.links) }
     requires ascending { IsStrictlyIncreasing interrupts.old.items }
     requires all { HasAll (offers_of offered.now.problem.now.links) offered.now.problem.now.wired interrupts.old.items }

@@ -49,7 +49,7 @@ impl Search {
         self.found += 1;
     }
 
-    /// Visits the interrupt of a link, which can go to that of a way.
+    /// Visits the interrupt that holds a link, which can go to the interrupt of the way at `pos`.
     fn visit_link(&mut self, graph: &Graph<'_>, matching: &Matching, pos: usize, link: usize)
         requires graph { IsGraph graph.now }
         requires matching { IsMatching graph.now matching.now }
@@ -76,7 +76,7 @@ impl Search {
         }
     }
 
-    /// Visits the interrupts of the links of a word that can go to that of a way.
+    /// The same for the links of one word of the bits: visits each interrupt that holds such a link.
     fn visit_word(
         &mut self,
         graph: &Graph<'_>,
@@ -102,7 +102,8 @@ impl Search {
         }
     }
 
-    /// Visits the interrupts of all links that can go to that of a way.
+    /// Visits each interrupt that holds a link which may be moved, and which can go to the interrupt of the way at
+    /// `pos`.
     pub(crate) fn visit_from(&mut self, graph: &Graph<'_>, matching: &Matching, pos: usize)
         requires graph { IsGraph graph.now }
         requires matching { IsMatching graph.now matching.now }

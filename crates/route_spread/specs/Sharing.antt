@@ -3,7 +3,7 @@ use Rattle.std.specs.Prelude.{◌≡◌, ℕ, ◌+◌, ◌-◌, ◌<◌, ◌≤�
 use Rattle.route_model.specs.Routing.{given, load, IsAssignment}
 use Rattle.route_model.specs.Placement.{Offers}
 
--- the sources above k on an interrupt, some interrupts together
+-- the sum over some interrupts of max(0, load - k): their sources above k
 abbrev pub excess : List (ℕ × ℕ) → List ℕ → List ℕ → ℕ → ℕ
 excess wired numbers a k = sum_by (λ n. load wired a n - k) numbers
 
@@ -11,7 +11,8 @@ excess wired numbers a k = sum_by (λ n. load wired a n - k) numbers
 abbrev pub HasOffered : List (List ℕ) → List ℕ → Type 0
 HasOffered offers numbers = (l n : ℕ) → Offers offers l n → given numbers n ≡ 1
 
--- At each k no assignment has fewer sources above k, over all interrupts that are offered and any others.
+-- For each k, the sum over interrupts of max(0, load - k) is the least of any assignment: over all that are offered,
+-- and any others.
 pub record IsLeastShared (offers : List (List ℕ)) (wired : List (ℕ × ℕ)) (a : List ℕ) : Type 0 where
   pub offered : IsAssignment offers a
   pub least : (numbers b : List ℕ) (k : ℕ) → HasOffered offers numbers → IsAssignment offers b → excess wired numbers a k ≤ excess wired numbers b k

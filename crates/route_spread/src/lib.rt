@@ -4,10 +4,14 @@
 //! Links and interrupts are a bipartite graph, with an edge where a link offers an interrupt (`Offers`). An assignment
 //! is a semi-matching in it: each link has one interrupt, and an interrupt may have many links. The load of an
 //! interrupt is the number of its links and of the sources that are wired to it. Least shared is what is known as an
-//! optimal semi-matching, here with these wired base loads (`IsLeastShared`): for each k no assignment has fewer
-//! sources above k, those of all interrupts added up. Proved is (`laws`) that an assignment is least shared exactly
-//! where the loads of no other come first, both sorted from the greatest down; that its busiest interrupt is then no
-//! busier than that of any other; and that one is least shared wherever there is an assignment.
+//! optimal semi-matching, here with these wired base loads (`IsLeastShared`): for each k, the sum over interrupts of
+//! max(0, load - k) is the least of any assignment.
+//!
+//! Laws (`laws`) say what follows. Where an assignment is least shared, the loads of no other come first, both sorted
+//! from the greatest down (`a_least_sharing_is_first_by_sorted_loads`); where those of no other do, it is least
+//! shared (`the_first_by_sorted_loads_is_a_least_sharing`). Its busiest interrupt is then no busier than that of any
+//! other (`a_least_sharing_is_least`). Wherever there is an assignment, one is least shared
+//! (`there_is_a_least_sharing`).
 //!
 //! An assignment that isn't least shared has a cost-reducing path: links of which each can go to the interrupt of the
 //! next, and the last one (`Way`) to an interrupt that serves at least two sources less than that of the first. Where
@@ -15,7 +19,8 @@
 //! interrupts from the highest down, and raises what their links offer to the height of the link, by one at most; an
 //! offer that is lower by two at least ends a path, and links move along it. Then comes another search, until there is
 //! no path. What the last search raised is the certificate (`IsLevelled`): with some interrupts counted as one source
-//! higher, no link offers one that is lower than its own. A check is one search.
+//! higher, no link offers one that is lower than its own. It shows that the assignment is least shared
+//! (`laws::raised_loads_show_a_least_sharing`). A check is one search.
 //!
 //! From the bottom: how many sources each offered interrupt serves (`sources`), the interrupts being known by their
 //! places (`route_numbers`); the links of each interrupt (`holders`); the interrupts in the order of a search

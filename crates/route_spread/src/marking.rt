@@ -58,7 +58,8 @@ impl Marks {
         }
     }
 
-    /// Raises an interrupt that is lower than a link which offers it, and notes the link.
+    /// Raises interrupt `i` by one where its load is below `top`, and notes `link`, which offers it. `top` is the
+    /// height of the interrupt that `link` has. One that was raised before stays as it is.
     fn raise(&mut self, loads: &[u128], link: usize, top: u128, i: usize)
         requires within { i < length loads.now }
         requires room { HasRoomFor (length loads.now) self.old }
@@ -78,7 +79,8 @@ impl Marks {
         self.order.promote(i);
     }
 
-    /// Raises what a link offers to its height, up to an interrupt that is lower by two at least.
+    /// Raises by one each interrupt that `link` offers and whose load is below `top`, the height of the interrupt
+    /// that `link` has. Stops at the first that is lower than `top` by two at least, and answers it.
     fn raise_all(
         &mut self,
         loads: &[u128],

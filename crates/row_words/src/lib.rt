@@ -8,9 +8,10 @@ mod places;
 mod refusals;
 
 pub use accesses::say_accesses;
-pub use lists::{add, count, extend, object_number, say_of};
+pub use lists::{add, count, extend, object_number, say_word_and_number};
 pub use paths::{path, path_of, path_or_root, push_path, say_path};
 pub use places::{
-    SpaceKind, place, place_in, put, put_from, say_byte, say_place, short, tiny, width,
+    SpaceKind, hexadecimal8, hexadecimal16, place, place_in, put, put_from, say_byte, say_place,
+    width,
 };
 pub use refusals::{refuse, say_done};

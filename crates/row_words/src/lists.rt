@@ -1,18 +1,18 @@
 //! Numbers, and lists that are filled.
 use test_rows::Exchange;
 
-/// A number of things in decimal digits, or the place of one.
+/// Reads a number of things in decimal digits, or the place of one.
 pub fn count(asked: &mut Exchange) -> usize {
     asked.number(u64::MAX) as usize
 }
 
-/// The number of an object in decimal digits.
+/// Reads the number of an object in decimal digits.
 pub fn object_number(asked: &mut Exchange) -> u32 {
     asked.number(0xFFFF_FFFF) as u32
 }
 
 /// Answers a number in decimal digits behind a word.
-pub fn say_of(asked: &mut Exchange, word: &str, number: u64) {
+pub fn say_word_and_number(asked: &mut Exchange, word: &str, number: u64) {
     asked.say(word);
     asked.say_number(number);
 }

@@ -21,7 +21,7 @@ pub fn path_of(asked: &mut Exchange, text: &str) -> Path {
     path_or_root(asked, read)
 }
 
-/// The path that the next word is.
+/// Reads the next word as a path.
 pub fn path(asked: &mut Exchange) -> Path {
     let text = asked.word();
     path_of(asked, text)

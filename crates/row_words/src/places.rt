@@ -6,8 +6,11 @@ use test_rows::Exchange;
 /// An address space.
 #[derive(Clone, Copy)]
 pub enum SpaceKind {
+    /// The ports of the processor: a place is a port of 16 bits.
     Io,
+    /// Physical memory: a place is an address of 64 bits.
     Memory,
+    /// The configuration space of PCI: a place is a segment, a bus, a device, a function and a register.
     Pci,
 }
 
@@ -26,38 +29,38 @@ const WIDTHS: [(&str, Width); 4] = [
     ("64", Width::W64),
 ];
 
-/// A width of accesses.
+/// Reads a width of accesses, by its bits.
 pub fn width(asked: &mut Exchange) -> Width {
     let bits = asked.word();
     asked.one_of(&WIDTHS, bits, Width::W8)
 }
 
-/// A number of 16 bits in hexadecimal digits.
-pub fn short(asked: &mut Exchange) -> u16 {
+/// Reads a number of 16 bits in hexadecimal digits.
+pub fn hexadecimal16(asked: &mut Exchange) -> u16 {
     asked.hexadecimal(0xFFFF) as u16
 }
 
-/// A number of 8 bits in hexadecimal digits.
-pub fn tiny(asked: &mut Exchange) -> u8 {
+/// Reads a number of 8 bits in hexadecimal digits.
+pub fn hexadecimal8(asked: &mut Exchange) -> u8 {
     asked.hexadecimal(0xFF) as u8
 }
 
-/// A place in an address space: `PORT`, `ADDRESS`, or `SEGMENT BUS DEVICE FUNCTION REGISTER`.
+/// Reads a place in an address space: `PORT`, `ADDRESS`, or `SEGMENT BUS DEVICE FUNCTION REGISTER`.
 pub fn place_in(asked: &mut Exchange, space: SpaceKind) -> Place {
     match space {
-        SpaceKind::Io => Place::Io(short(asked)),
+        SpaceKind::Io => Place::Io(hexadecimal16(asked)),
         SpaceKind::Memory => Place::Memory(asked.hexadecimal(u64::MAX)),
         SpaceKind::Pci => Place::Pci {
-            seg: short(asked),
-            bus: tiny(asked),
-            dev: tiny(asked),
-            func: tiny(asked),
-            reg: short(asked),
+            seg: hexadecimal16(asked),
+            bus: hexadecimal8(asked),
+            dev: hexadecimal8(asked),
+            func: hexadecimal8(asked),
+            reg: hexadecimal16(asked),
         },
     }
 }
 
-/// A place: `io PORT`, `memory ADDRESS`, or `pci SEGMENT BUS DEVICE FUNCTION REGISTER`.
+/// Reads a place: `io PORT`, `memory ADDRESS`, or `pci SEGMENT BUS DEVICE FUNCTION REGISTER`.
 pub fn place(asked: &mut Exchange) -> Place {
     let word = asked.word();
     let space = asked.one_of(&SPACES, word, SpaceKind::Memory);
@@ -97,7 +100,7 @@ pub fn say_place(asked: &mut Exchange, place: Place) {
     }
 }
 
-/// `BYTES`: puts bytes into registers from a place on.
+/// Reads `BYTES`, and puts them into registers from a place on.
 pub fn put_from(asked: &mut Exchange, space: &mut Sparse, first: Place) {
     let mut next = Some(first);
     let bytes = asked.bytes();
@@ -112,7 +115,7 @@ pub fn put_from(asked: &mut Exchange, space: &mut Sparse, first: Place) {
     }
 }
 
-/// `PLACE: BYTES`: puts bytes into registers from a place on.
+/// Reads `PLACE: BYTES`, and puts the bytes into registers from the place on.
 pub fn put(asked: &mut Exchange, space: &mut Sparse) {
     let first = place(asked);
     put_from(asked, space, first);

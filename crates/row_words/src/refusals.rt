@@ -1,5 +1,5 @@
 //! Refusals.
-use ar_space::{EvaluationFault, InputFault, Refusal, ResourceFault};
+use ar_space::{EvaluationFault, InputFault, Refusal, ReportFault, ResourceFault};
 use test_rows::Exchange;
 
 /// Answers that a term is not evaluated: by the refusal's number, and by the opcode.
@@ -15,6 +15,7 @@ fn named_place(refusal: &Refusal) -> Option<(&'static str, u64)> {
     match refusal {
         Refusal::Term(_, offset) => Some(("at", *offset as u64)),
         Refusal::Input(InputFault::MachineLine(line)) => Some(("at line", *line as u64)),
+        Refusal::Report(ReportFault::BadLine(line)) => Some(("at line", *line as u64)),
         Refusal::Resource(ResourceFault::Descriptor(tag)) => {
             Some(("at descriptor", u64::from(*tag)))
         }

@@ -7,7 +7,7 @@ use crate::structures::{Structure, image_of};
 use ar_tables::{
     Image, IntegerWidth, MadtEntry, Ssdts, Table, Tables, find_tables, madt_entries, sci_source,
 };
-use row_words::{add, count, say_byte, say_done};
+use row_words::{add, count, say_byte, say_done, say_word_and_number};
 use test_rows::Exchange;
 
 /// `image-put ADDRESS: BYTE`: puts a byte into a plain image.
@@ -110,12 +110,6 @@ fn bytes_of_table(asked: &mut Exchange, tables: &Tables) {
     }
 }
 
-/// Answers a number behind a word.
-fn say_of(asked: &mut Exchange, word: &str, number: u64) {
-    asked.say(word);
-    asked.say_number(number);
-}
-
 /// Answers a structure of a MADT.
 fn say_entry(asked: &mut Exchange, entry: MadtEntry) {
     match entry {
@@ -124,10 +118,10 @@ fn say_entry(asked: &mut Exchange, entry: MadtEntry) {
             address,
             gsi_base,
         } => {
-            say_of(asked, "io apic", u64::from(id));
+            say_word_and_number(asked, "io apic", u64::from(id));
             asked.say("at");
             asked.say_hexadecimal(u64::from(address));
-            say_of(asked, "base", u64::from(gsi_base));
+            say_word_and_number(asked, "base", u64::from(gsi_base));
         }
         MadtEntry::SourceOverride {
             bus,
@@ -135,9 +129,9 @@ fn say_entry(asked: &mut Exchange, entry: MadtEntry) {
             gsi,
             flags,
         } => {
-            say_of(asked, "override bus", u64::from(bus));
-            say_of(asked, "source", u64::from(source));
-            say_of(asked, "to", u64::from(gsi));
+            say_word_and_number(asked, "override bus", u64::from(bus));
+            say_word_and_number(asked, "source", u64::from(source));
+            say_word_and_number(asked, "to", u64::from(gsi));
             asked.say("flags");
             asked.say_bytes(&flags.to_be_bytes());
         }

@@ -2,7 +2,7 @@
 
 use aml_fields::AddressSpace;
 use aml_objects::UpdateRule;
-use row_words::{short, tiny};
+use row_words::{hexadecimal8, hexadecimal16};
 use test_rows::Exchange;
 
 /// What a write does with the other bits of a unit, by its name in ASL.
@@ -18,10 +18,10 @@ pub fn address_space(asked: &mut Exchange) -> AddressSpace {
         "memory" => AddressSpace::Memory,
         "io" => AddressSpace::Io,
         "pci" => AddressSpace::Pci {
-            seg: short(asked),
-            bus: tiny(asked),
-            dev: tiny(asked),
-            func: tiny(asked),
+            seg: hexadecimal16(asked),
+            bus: hexadecimal8(asked),
+            dev: hexadecimal8(asked),
+            func: hexadecimal8(asked),
         },
         _ => {
             asked.misunderstand();

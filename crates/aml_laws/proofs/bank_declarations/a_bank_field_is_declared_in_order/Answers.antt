@@ -1,4 +1,4 @@
-use Rattle.aml_laws.proofs.BanksDeclared.{region_refused, other_region_refused, bank_refused, other_bank_refused, banked_bank_refused, indexed_bank_refused, value_refused, no_integer_refused, fields_declared}
+use Rattle.aml_laws.proofs.BanksDeclared.{region_refused, other_region_refused, bank_refused, other_bank_refused, banked_bank_refused, indexed_bank_refused, value_refused, nothing_refused, no_integer_refused, fields_declared}
 use Rattle.aml_laws.proofs.bank_declarations.a_bank_field_is_declared_in_order.Goals as goal
 
 pub returns-clause-no_region : goal.returns-clause-no_region
@@ -15,6 +15,9 @@ returns-clause-indexed g c = λ accesses scope depth region bank value flags fie
 
 pub returns-clause-no_value : goal.returns-clause-no_value
 returns-clause-no_value g c = λ accesses scope depth region bank value flags fields s after n r b q e wide there f is. value_refused accesses scope depth region bank value flags fields s wide n r there b q f e after is
+
+pub returns-clause-nothing_given : goal.returns-clause-nothing_given
+returns-clause-nothing_given g c = λ accesses scope depth region bank value flags fields s after n r b q wide there f is. nothing_refused accesses scope depth region bank value flags fields s wide n r there b q f after is
 
 pub returns-clause-no_integer : goal.returns-clause-no_integer
 returns-clause-no_integer g c = λ accesses scope depth region bank value flags fields s after n r b q v e wide there f is none. no_integer_refused accesses scope depth region bank value flags fields s wide n r there b q f v e after is none

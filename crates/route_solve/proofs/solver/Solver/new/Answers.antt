@@ -6,7 +6,7 @@ use Rattle.route_model.specs.Placement.{Offers}
 use Rattle.route_model.proofs.Offers.{offers_length}
 use Rattle.route_model.specs.Routing.{wired_to}
 use Rattle.route_solve.specs.Marks.{HasAll}
-use Rattle.route_numbers.specs.Numbers.{has, lists_of, number_at, AreSources, HasOffered, IsNumbered}
+use Rattle.route_numbers.specs.Numbers.{has, lists_of, number_at, AreSources, AreTheOffered, IsNumbered}
 use Rattle.route_solve.specs.Rows.{AreRows}
 use Rattle.route_numbers.proofs.Numbered.{lists_length}
 use Rattle.route_solve.proofs.RowsOf.{has_rows}
@@ -25,7 +25,7 @@ numbered links links' ns ns' ps e f h = subst (λ (ms : List ℕ). IsNumbered (o
 long : (links : List OfferingLink) (ns : List ℕ) (vs : List (Vec ℕ)) → IsNumbered (offers_of links) ns (lists_of vs) → length vs ≡ length links
 long links ns vs h = let a = lists_length vs in let b = length-map (lists_of vs) (map (number_at ns)) in let d = ap length h.named in let e = offers_length links in omega arith
 
-all_of : (links links' : List OfferingLink) (ws ws' : List (ℕ × ℕ)) (ns ns' xs : List ℕ) → links ≡ links' → ws ≡ ws' → ns' ≡ ns → HasOffered (offers_of links) ns → ((n : ℕ) → has ns' n ≡ true → has xs n ≡ true) → ((n : ℕ) → 0 < wired_to ws n → has xs n ≡ true) → HasAll (offers_of links') ws' xs
+all_of : (links links' : List OfferingLink) (ws ws' : List (ℕ × ℕ)) (ns ns' xs : List ℕ) → links ≡ links' → ws ≡ ws' → ns' ≡ ns → AreTheOffered (offers_of links) ns → ((n : ℕ) → has ns' n ≡ true → has xs n ≡ true) → ((n : ℕ) → 0 < wired_to ws n → has xs n ≡ true) → HasAll (offers_of links') ws' xs
 all_of links links' ws ws' ns ns' xs e f g h a b = record {
   offered = λ l n o. a n (subst (λ (ms : List ℕ). has ms n ≡ true) (sym g) (h.all l n (subst (λ (ls : List OfferingLink). Offers (offers_of ls) l n) (sym e) o)));
   sources = λ n m. b n (subst (λ (us : List (ℕ × ℕ)). 0 < wired_to us n) (sym f) m);

@@ -7,12 +7,12 @@ use Rattle.route_model.specs.Placement.{Offers}
 use Rattle.route_model.proofs.Assignments.{length_assignment, assignment_at}
 use Rattle.route_model.proofs.Filtered.{any_contains}
 use Rattle.route_spread.specs.Marks.{at}
-use Rattle.route_numbers.specs.Numbers.{lists_of, number_at, HasOffered, IsNumbered}
+use Rattle.route_numbers.specs.Numbers.{lists_of, number_at, AreTheOffered, IsNumbered}
 use Rattle.route_spread.proofs.Shared.{placed_all}
 use Rattle.route_spread.proofs.sharing.Sharing.new.Goals as goal
 
 pub all_places_offered-requires-clause-all : goal.all_places_offered-requires-clause-all
-all_places_offered-requires-clause-all c = subst (λ (xs : List ℕ). HasOffered (offers_of c.args.links.now) xs) (sym c.deref.ensures.value) c.in_ok-numbers.ensures.all
+all_places_offered-requires-clause-all c = subst (λ (xs : List ℕ). AreTheOffered (offers_of c.args.links.now) xs) (sym c.deref.ensures.value) c.in_ok-numbers.ensures.all
 
 pub all_places_chosen-requires-clause-all : goal.all_places_chosen-requires-clause-all
 all_places_chosen-requires-clause-all c n h =

@@ -1,5 +1,0 @@
-use Rattle.aml_frames.proofs.ShortOperators.{behind_by_operator}
-use Rattle.aml_frames.proofs.short_operations.operation.Goals as goal
-
-pub returns-in-Some-operator_integer-clause-behind : goal.returns-in-Some-operator_integer-clause-behind
-returns-in-Some-operator_integer-clause-behind g c = behind_by_operator _ c.args.act.now c.take_operator.new.act c.args.levels c.in-Some.kind c.in-Some.ensures.kind c.in-Some.ensures.deep c.in-Some.ensures.over c.in-Some-operator_integer.ensures.behind

@@ -1,0 +1,17 @@
+use Rattle.std.proofs.Common.{◌∙◌, arith, refl, rules}
+use Rattle.aml_marked.specs.Marked.{first}
+use Rattle.aml_objects.specs.declared.value.Value.TheVariants as values
+use Rattle.aml_frames.specs.declared.short_terms.Short.TheVariants as shorts
+use Rattle.aml_frames.specs.ShortTerms.{row_alone, IsShort}
+use Rattle.aml_frames.proofs.ShortTerms.{does_put_slot, behind_slot_target}
+use Rattle.aml_frames.proofs.short_terms.put_integer_to_slot.Goals as goal
+
+pub returns-clause-done : goal.returns-clause-done
+returns-clause-done g c done =
+    let short : IsShort (shorts.Slot c.in-Slot.slot) (row_alone (first c.args.act.now.place.rest)) = search rules in
+    rw (← c.run.view_is) (does_put_slot g.S.Space.accesses c.args.act.now c.args.levels c.run.inside.steps c.in-Slot.slot (values.Integer c.args.number) (omega (arith, c.if-levels-eq0.false)) short (c.if-not-put_slot_integer.ensures.change refl))
+
+pub returns-clause-behind : goal.returns-clause-behind
+returns-clause-behind g c done =
+    let short : IsShort (shorts.Slot c.in-Slot.slot) (row_alone (first c.args.act.now.place.rest)) = search rules in
+    c.over.ensures ∙ behind_slot_target g.S.Space.accesses c.args.act.now c.args.levels (omega (arith, c.if-levels-eq0.false)) short.1.1
