@@ -16,7 +16,7 @@ SHARED = {
 SHARED_USE = ("TargetUse", "Store")
 # A function: how far it stands in, its name, its head with the contract, and its body.
 FUNCTION = re.compile(r"(?ms)^( *)(?:pub(?:\(\w+\))? )?fn (\w+)(.*?)(?:^\1| )\{\n(.*?)^\1\}")
-STEP = re.compile(r"-> (?:Result<(?:Next|Flow), Refusal>|Next)\s")
+STEP = re.compile(r"-> (?:Result<(?:Next|Flow)>|Next)\s")
 # An arm of a match for a variant of an enum: how far it stands in, its pattern, and what it does.
 ARM = re.compile(r"(?ms)^( *)(\w+::\w[^\n;]*?) =>(.*?)(?=^\1\w|^(?!\1|\n))")
 VARIANT = re.compile(r"\b(\w+)::(\w+)\b")

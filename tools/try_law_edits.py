@@ -24,7 +24,8 @@ edit comes to one of these:
     NOT TRIED     the check was killed, or ended without a verdict
 
 --others   checks all laws of the crate, and lists which others an edit refuses too: those that rest on a refused lemma that rests on what this
-           edit changes and on nothing that another one of its group does; `perhaps` stands before those that may be refused by either
+           edit changes and on nothing that another one of its group does; `perhaps` stands before those that may be refused by either. These
+           are the most that can be refused: laws share lemmas, so one whose proof breaks may still hold of the changed definition
 --code     where an edit changes code, so that it agrees with the definition: checks that just the functions with changed text are proved. Then
            only the laws stand in the way of the wrong definition
 --check    tries nothing: tells which edits can't be applied, and which laws have none

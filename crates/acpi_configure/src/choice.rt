@@ -11,7 +11,7 @@ use crate::finding::{Found, find};
 use crate::options::Options;
 use acpi_links::Gathered;
 use acpi_machine::Machine;
-use ar_space::{Refusal, Space};
+use ar_space::{Result, Space};
 use route_solve::Answer;
 use std::alloc::Global;
 
@@ -38,7 +38,7 @@ pub fn choose_with<S: Space>(
     alloc: Global,
     machine: &mut Machine<S>,
     options: &Options<'_>,
-) -> Result<Choice, Refusal>
+) -> Result<Choice>
     ensures choice { IfOk result (λ c. IsChoice S.accesses options.now machine.old machine.new c.gathered c.answer) }
     ensures evaluated { StopsInFinding S.accesses options.now machine.old machine.new }
     ensures each { IfOk result (λ c. length c.answer.choice ≡ length c.gathered.links) }

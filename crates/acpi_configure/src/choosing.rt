@@ -8,7 +8,7 @@ ghost use Rattle.acpi_configure.specs.Chosen.{Spreads, IsChosen};
 ghost use Rattle.acpi_configure.specs.Configured.{Solves};
 
 use crate::laws::a_problem_has_one_answer;
-use ar_space::Refusal;
+use ar_space::Result;
 use route_solve::{Answer, Problem, solve};
 use route_spread::laws::a_least_sharing_is_least;
 use route_spread::solve_spread;
@@ -16,7 +16,7 @@ use std::alloc::Global;
 
 /// The answer to a problem: an assignment under which links share interrupts as little as they can, where they are to
 /// `spread`, and else the first least one.
-pub(crate) fn choose(alloc: Global, problem: &Problem, spread: bool) -> Result<Answer, Refusal>
+pub(crate) fn choose(alloc: Global, problem: &Problem, spread: bool) -> Result<Answer>
     requires { Fits problem.now }
     ensures chosen { IfOk result (λ answer. IsChosen spread problem.now answer) }
     ensures bound { IfOk result (λ answer. (answer.busiest ≡ 0) ⊎
@@ -32,7 +32,7 @@ pub(crate) fn choose(alloc: Global, problem: &Problem, spread: bool) -> Result<A
 
 /// The first least answer to a problem.
 #[tactic(auto, using(crate::proofs::Reported::solved))]
-pub(crate) fn answer_to(alloc: Global, problem: &Problem) -> Result<Answer, Refusal>
+pub(crate) fn answer_to(alloc: Global, problem: &Problem) -> Result<Answer>
     requires { Fits problem.now }
     ensures solves { IfOk result (λ answer. Solves problem.now answer) }
     ensures bound { IfOk result (λ answer. (answer.busiest ≡ 0) ⊎
@@ -43,7 +43,7 @@ pub(crate) fn answer_to(alloc: Global, problem: &Problem) -> Result<Answer, Refu
 }
 
 /// The answer from which links are moved until they share interrupts as little as they can.
-fn spread_from(alloc: Global, problem: &Problem, first: Answer) -> Result<Answer, Refusal>
+fn spread_from(alloc: Global, problem: &Problem, first: Answer) -> Result<Answer>
     requires solves { Solves problem.now first }
     requires bound { (first.busiest ≡ 0) ⊎ IsLowerBound (offers_of problem.now.links) problem.now.wired first.busiest
         first.links first.interrupts }

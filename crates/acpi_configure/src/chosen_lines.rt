@@ -5,18 +5,14 @@ ghost use Rattle.route_check.specs.Claimed.{gives_of, paths_at, bound_for};
 ghost use Rattle.route_model.specs.Links.{paths_of};
 
 use aml_path::Path;
-use ar_space::Refusal;
+use ar_space::Result;
 use route_check::Bound;
 use route_model::Link;
 use route_solve::Answer;
 use std::alloc::Global;
 
 /// Each link with what it is given.
-pub(crate) fn gives_of(
-    alloc: Global,
-    links: &[Link],
-    choice: &[u32],
-) -> Result<Vec<(Path, u32)>, Refusal>
+pub(crate) fn gives_of(alloc: Global, links: &[Link], choice: &[u32]) -> Result<Vec<(Path, u32)>>
     requires { length choice.now ≡ length links.now }
     ensures { Answers (seen (λ list. list.items) result) (Ok (gives_of links.now choice.now)) }
 {
@@ -30,11 +26,7 @@ pub(crate) fn gives_of(
 
 /// The set that shows why no assignment is less busy, where that has to be shown.
 #[tactic(auto, using(crate::proofs::Bounds::bounds))]
-pub(crate) fn bound_for(
-    alloc: Global,
-    links: &[Link],
-    answer: &Answer,
-) -> Result<Option<Bound>, Refusal>
+pub(crate) fn bound_for(alloc: Global, links: &[Link], answer: &Answer) -> Result<Option<Bound>>
     requires { All (λ k. k < length links.now) answer.now.links }
     ensures { Answers result (Ok
         (bound_for answer.now.busiest (record {
@@ -54,7 +46,7 @@ fn some_bound(
     links: &[Link],
     places: &[usize],
     interrupts: &[u32],
-) -> Result<Option<Bound>, Refusal>
+) -> Result<Option<Bound>>
     requires { All (λ k. k < length links.now) places.now }
     ensures { Answers result (Ok
         (Some (record { links = paths_at links.now places.now; interrupts = interrupts.now }))) }
@@ -64,7 +56,7 @@ fn some_bound(
     Ok(Some(Bound { links, interrupts }))
 }
 
-fn paths_at(alloc: Global, links: &[Link], places: &[usize]) -> Result<Vec<Path>, Refusal>
+fn paths_at(alloc: Global, links: &[Link], places: &[usize]) -> Result<Vec<Path>>
     requires { All (λ k. k < length links.now) places.now }
     ensures { Answers (seen (λ list. list.items) result) (Ok (paths_at links.now places.now)) }
 {
@@ -77,7 +69,7 @@ fn paths_at(alloc: Global, links: &[Link], places: &[usize]) -> Result<Vec<Path>
 }
 
 /// The path of the link at a place.
-fn path_at(alloc: Global, links: &[Link], place: usize) -> Result<Path, Refusal>
+fn path_at(alloc: Global, links: &[Link], place: usize) -> Result<Path>
     requires { place < length links.now }
     ensures { Answers result (Ok (slice_index_or (paths_of links.now) place [])) }
 {

@@ -26,7 +26,7 @@ use acpi_links::laws::{
 };
 use acpi_links::{Gathered, gather, pin_counts, set_of};
 use acpi_machine::Machine;
-use ar_space::{Refusal, Space};
+use ar_space::{Result, Space};
 use route_check::laws::an_assignment_with_its_bound_is_valid;
 use route_report::laws::{a_claim_in_order_stays, the_claim_of_an_assignment_is_in_order};
 use route_report::{OptionLines, Report};
@@ -60,7 +60,7 @@ pub fn configure<S: Space>(
     machine: &mut Machine<S>,
     dry: bool,
     avoid: &[u32],
-) -> Result<Report, Refusal>
+) -> Result<Report>
     ensures report { IfOk result (λ report. IsReport S.accesses dry avoid.now machine.old machine.new report) }
     ensures evaluated { StopsInRun S.accesses dry avoid.now machine.old machine.new }
     ensures refusal { IfErr result (λ refusal. refusal ≢ OutOfMemory →
@@ -86,7 +86,7 @@ pub(crate) fn configure_plainly<S: Space>(
     alloc: Global,
     machine: &mut Machine<S>,
     options: &Options<'_>,
-) -> Result<Report, Refusal>
+) -> Result<Report>
     ensures report { IfOk result (λ report. IsReportWith S.accesses options.now machine.old machine.new report) }
     ensures evaluated { StopsInRunWith S.accesses options.now machine.old machine.new }
     ensures refusal { IfErr result (λ refusal. refusal ≢ OutOfMemory →
@@ -115,7 +115,7 @@ fn all_lines<S: Space>(
     options: &Options<'_>,
     found: &Found,
     answer: &Answer,
-) -> Result<Report, Refusal>
+) -> Result<Report>
     requires pins { length found.now.gathering.pins ≤ 4096 }
     requires each { length answer.now.choice ≡ length found.now.gathering.problem.links }
     requires placed { All (λ k. k < length found.now.gathering.problem.links) answer.now.links }
@@ -154,7 +154,7 @@ fn settle_answer<S: Space>(
     dry: bool,
     gathered: &Gathered,
     answer: &Answer,
-) -> Result<Settings, Refusal>
+) -> Result<Settings>
     requires each { length answer.now.choice ≡ length gathered.now.links }
     requires offered { AllZip Contains (map (λ link. link.1.numbers) gathered.now.links) answer.now.choice }
     ensures value { Does (seen (λ x. (x.0.items, x.1.items)) result) machine.new
@@ -173,7 +173,7 @@ fn report_of<S: Space>(
     avoid: &[u32],
     gathered: &Gathered,
     answer: &Answer,
-) -> Result<Report, Refusal>
+) -> Result<Report>
     requires pins { length gathered.now.pins ≤ 4096 }
     requires each { length answer.now.choice ≡ length gathered.now.problem.links }
     requires placed { All (λ k. k < length gathered.now.problem.links) answer.now.links }

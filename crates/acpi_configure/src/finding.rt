@@ -16,7 +16,7 @@ use crate::other_lines::barred;
 use crate::others::ask_others;
 use acpi_links::{Gathered, avoid_more, gather};
 use acpi_machine::Machine;
-use ar_space::{Refusal, Space};
+use ar_space::{Result, Space};
 use route_report::AfterLine;
 use std::alloc::Global;
 use std::marker::Model;
@@ -45,7 +45,7 @@ pub(crate) fn find<S: Space>(
     machine: &mut Machine<S>,
     sci: Option<u32>,
     options: &Options<'_>,
-) -> Result<Found, Refusal>
+) -> Result<Found>
     requires { sci ≡ sci_of machine.old }
     ensures value { Does result machine.new (found_by S.accesses options.now sci) machine.old }
     ensures evaluated { StopsInFinding S.accesses options.now machine.old machine.new }
@@ -68,7 +68,7 @@ fn narrow(
     sci: Option<u32>,
     asked: &[AfterLine],
     first: Gathered,
-) -> Result<Gathered, Refusal>
+) -> Result<Gathered>
     requires sources { length first.pins + length (option_to_list sci) ≤ 4096 }
     requires few { length first.links ≤ 256 }
     requires in_order { IsStrictlySortedBy path_cmp (map (λ link. link.0) first.links) }
@@ -94,7 +94,7 @@ fn spare_all(
     sci: Option<u32>,
     asked: &[AfterLine],
     first: Gathered,
-) -> Result<Gathered, Refusal>
+) -> Result<Gathered>
     requires sources { length first.pins + length (option_to_list sci) ≤ 4096 }
     requires few { length first.links ≤ 256 }
     requires in_order { IsStrictlySortedBy path_cmp (map (λ link. link.0) first.links) }

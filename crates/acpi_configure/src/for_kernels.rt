@@ -19,7 +19,7 @@ use crate::triggers::triggers_of;
 use acpi_links::list_devices;
 use acpi_machine::{Machine, PciBus, prt};
 use aml_path::Path;
-use ar_space::{Refusal, Space};
+use ar_space::{Refusal, Result, Space};
 use route_report::laws::lines_for_a_kernel_claim_nothing;
 use route_report::{BusLine, BusState, OptionLines, Report, Rule, TriggerLine};
 use std::alloc::Global;
@@ -55,7 +55,7 @@ pub fn configure_with<S: Space>(
     alloc: Global,
     machine: &mut Machine<S>,
     options: &Options<'_>,
-) -> Result<Report, Refusal>
+) -> Result<Report>
     ensures report { IfOk result (λ report. IsReportFor S.accesses options.now machine.old machine.new report) }
     ensures evaluated { StopsInRunFor S.accesses options.now machine.old machine.new }
     ensures refusal { IfErr result (λ refusal. refusal ≢ OutOfMemory →
@@ -74,7 +74,7 @@ fn tell_if<S: Space>(
     machine: &mut Machine<S>,
     kernel: bool,
     report: Report,
-) -> Result<Report, Refusal>
+) -> Result<Report>
     ensures value { Does result machine.new (told_if S.accesses kernel report) machine.old }
     ensures evaluated { StopsInTelling S.accesses kernel machine.old machine.new }
     ensures memory { IfErr result (λ refusal. refusal ≡ OutOfMemory) }
@@ -87,11 +87,7 @@ fn tell_if<S: Space>(
 
 /// The report with the lines for a kernel.
 #[tactic(auto, unfolding(crate::specs::ForKernels::kernel_told))]
-fn tell_kernel<S: Space>(
-    alloc: Global,
-    machine: &mut Machine<S>,
-    report: Report,
-) -> Result<Report, Refusal>
+fn tell_kernel<S: Space>(alloc: Global, machine: &mut Machine<S>, report: Report) -> Result<Report>
     ensures value { Does result machine.new (kernel_told S.accesses report) machine.old }
     ensures evaluated { StopsInTelling S.accesses true machine.old machine.new }
     ensures memory { IfErr result (λ refusal. refusal ≡ OutOfMemory) }
@@ -109,7 +105,7 @@ fn tell_lines<S: Space>(
     devices: &[Path],
     own: u16,
     report: Report,
-) -> Result<Report, Refusal>
+) -> Result<Report>
     ensures value { Does result machine.new (lines_told S.accesses devices.now own report) machine.old }
     ensures evaluated { StopsInBuses S.accesses devices.now machine.old machine.new }
     ensures memory { IfErr result (λ refusal. refusal ≡ OutOfMemory) }
@@ -161,7 +157,7 @@ fn with_kernel_lines(
 
 /// The paths of the devices that have a routing table, in path order.
 #[tactic(auto, using(ar_space::proofs::Outcomes::answering), unfolding(crate::specs::ForKernels::devices_with_tables))]
-fn devices_with_tables<S: Space>(alloc: Global, machine: &Machine<S>) -> Result<Vec<Path>, Refusal>
+fn devices_with_tables<S: Space>(alloc: Global, machine: &Machine<S>) -> Result<Vec<Path>>
     ensures value { Answers (seen (λ list. list.items) result) (Ok (devices_with_tables machine.now)) }
     ensures memory { IfErr result (λ refusal. refusal ≡ OutOfMemory) }
 {
@@ -175,7 +171,7 @@ fn with_tables<S: Space>(
     alloc: Global,
     machine: &Machine<S>,
     devices: Vec<Path>,
-) -> Result<Vec<Path>, Refusal>
+) -> Result<Vec<Path>>
     ensures value { Answers (seen (λ list. list.items) result) (Ok (filter (has_table machine.now) devices.items)) }
     ensures memory { IfErr result (λ refusal. refusal ≡ OutOfMemory) }
 {
@@ -193,7 +189,7 @@ fn ask_buses<S: Space>(
     alloc: Global,
     machine: &mut Machine<S>,
     devices: &[Path],
-) -> Result<Vec<BusLine>, Refusal>
+) -> Result<Vec<BusLine>>
     ensures value { Does (seen (λ list. list.items) result) machine.new
         (buses_asked S.accesses devices.now) machine.old }
     ensures evaluated { StopsInBuses S.accesses devices.now machine.old machine.new }
@@ -209,11 +205,7 @@ fn ask_buses<S: Space>(
 
 /// The bus of the routing table of one device: a refusal is told, but for want of memory.
 #[tactic(auto, using(ar_space::proofs::Changes::changing), unfolding(crate::specs::ForKernels::bus_asked))]
-fn ask_bus<S: Space>(
-    alloc: Global,
-    machine: &mut Machine<S>,
-    device: &Path,
-) -> Result<BusLine, Refusal>
+fn ask_bus<S: Space>(alloc: Global, machine: &mut Machine<S>, device: &Path) -> Result<BusLine>
     ensures value { Does result machine.new (bus_asked S.accesses device.now) machine.old }
     ensures evaluated { AllOrNone (bus_asked S.accesses device.now) machine.old machine.new }
     ensures memory { IfErr result (λ refusal. refusal ≡ OutOfMemory) }
@@ -223,11 +215,7 @@ fn ask_bus<S: Space>(
 }
 
 #[tactic(auto, using(crate::proofs::Settled::does_attempted))]
-fn try_to_find<S: Space>(
-    alloc: Global,
-    machine: &mut Machine<S>,
-    device: &Path,
-) -> Result<BusState, Refusal>
+fn try_to_find<S: Space>(alloc: Global, machine: &mut Machine<S>, device: &Path) -> Result<BusState>
     ensures value { Does result machine.new (attempted bus_told (bus_found S.accesses device.now)) machine.old }
     ensures evaluated { AllOrNone (attempted bus_told (bus_found S.accesses device.now)) machine.old machine.new }
     ensures memory { IfErr result (λ refusal. refusal ≡ OutOfMemory) }
@@ -236,7 +224,7 @@ fn try_to_find<S: Space>(
     bus_state(bus)
 }
 
-fn bus_line(alloc: Global, device: &Path, state: BusState) -> Result<BusLine, Refusal>
+fn bus_line(alloc: Global, device: &Path, state: BusState) -> Result<BusLine>
     ensures value { Answers result (Ok (record { device = device.now; state = state })) }
     ensures memory { IfErr result (λ refusal. refusal ≡ OutOfMemory) }
 {
@@ -247,7 +235,7 @@ fn bus_line(alloc: Global, device: &Path, state: BusState) -> Result<BusLine, Re
 }
 
 /// What is told of a bus; want of memory is no outcome.
-fn bus_state(bus: Result<PciBus, Refusal>) -> Result<BusState, Refusal>
+fn bus_state(bus: Result<PciBus>) -> Result<BusState>
     ensures told { NotMemory bus → Answers result (Ok (bus_told bus)) }
     ensures plain { NotMemory bus → NotMemory result }
     ensures memory { bus ≡ Err OutOfMemory → result ≡ Err OutOfMemory }

@@ -7,12 +7,12 @@ ghost use Rattle.acpi_configure.specs.Lines.{row_of};
 use acpi_links::PresentLink;
 use acpi_resources::{InterruptNumbers, Offer};
 use aml_path::Path;
-use ar_space::Refusal;
+use ar_space::Result;
 use route_report::LinkLine;
 use std::alloc::{AllocError, Global};
 
 /// A line for each present link.
-pub(crate) fn link_lines(alloc: Global, links: &[PresentLink]) -> Result<Vec<LinkLine>, Refusal>
+pub(crate) fn link_lines(alloc: Global, links: &[PresentLink]) -> Result<Vec<LinkLine>>
     ensures lines { Answers (seen (λ list. list.items) result) (Ok (map row_of links.now)) }
     ensures offers { IfOk result (λ list. All (λ l. IsReadableOffer l.offers) list.items) }
 {
@@ -30,7 +30,7 @@ fn link_line(
     path: &Path,
     offer: &Offer,
     now: &Option<InterruptNumbers>,
-) -> Result<LinkLine, Refusal>
+) -> Result<LinkLine>
     ensures line { Answers result (Ok (row_of (path.now, offer.now, now.now))) }
     ensures offers { IfOk result (λ line. IsReadableOffer line.offers) }
 {

@@ -8,7 +8,7 @@ ghost use Rattle.acpi_configure.specs.Others.{unread_line, rule_if, all_options,
 
 use acpi_links::set_of;
 use aml_path::Path;
-use ar_space::Refusal;
+use ar_space::Result;
 use route_report::{After, AfterLine, OptionLines, Rule, SparedLine, UnreadLine};
 use std::alloc::{AllocError, Global};
 
@@ -47,7 +47,7 @@ pub(crate) fn barred(
 }
 
 /// The line of a device that has interrupts.
-fn spared_line(alloc: Global, line: &AfterLine) -> Result<Option<SparedLine>, Refusal>
+fn spared_line(alloc: Global, line: &AfterLine) -> Result<Option<SparedLine>>
     ensures { Answers result (Ok (spared_line line.now)) }
 {
     let numbers = numbers_at(&line.state);
@@ -58,11 +58,7 @@ fn spared_line(alloc: Global, line: &AfterLine) -> Result<Option<SparedLine>, Re
     }
 }
 
-fn spared_device(
-    alloc: Global,
-    device: &Path,
-    numbers: &[u32],
-) -> Result<Option<SparedLine>, Refusal>
+fn spared_device(alloc: Global, device: &Path, numbers: &[u32]) -> Result<Option<SparedLine>>
     requires { 0 < length numbers.now }
     ensures { Answers result (Ok (spared_device device.now numbers.now)) }
 {
@@ -72,7 +68,7 @@ fn spared_device(
 }
 
 /// The lines of the devices that have interrupts.
-fn spared_lines(alloc: Global, asked: &[AfterLine]) -> Result<Vec<SparedLine>, Refusal>
+fn spared_lines(alloc: Global, asked: &[AfterLine]) -> Result<Vec<SparedLine>>
     ensures { Answers (seen (λ list. list.items) result) (Ok (filter_map spared_line asked.now)) }
 {
     let mut list = Vec::new(alloc);
@@ -85,7 +81,7 @@ fn spared_lines(alloc: Global, asked: &[AfterLine]) -> Result<Vec<SparedLine>, R
 }
 
 /// The line of a device that refused.
-fn unread_line(alloc: Global, line: &AfterLine) -> Result<Option<UnreadLine>, Refusal>
+fn unread_line(alloc: Global, line: &AfterLine) -> Result<Option<UnreadLine>>
     ensures { Answers result (Ok (unread_line line.now)) }
 {
     match &line.state {
@@ -98,7 +94,7 @@ fn unread_line(alloc: Global, line: &AfterLine) -> Result<Option<UnreadLine>, Re
 }
 
 /// The lines of the devices that refused.
-fn unread_lines(alloc: Global, asked: &[AfterLine]) -> Result<Vec<UnreadLine>, Refusal>
+fn unread_lines(alloc: Global, asked: &[AfterLine]) -> Result<Vec<UnreadLine>>
     ensures { Answers (seen (λ list. list.items) result) (Ok (filter_map unread_line asked.now)) }
 {
     let mut list = Vec::new(alloc);
@@ -119,7 +115,7 @@ fn rule_if(spread: bool) -> Rule
     }
 }
 
-fn all_options(alloc: Global, spread: bool, asked: &[AfterLine]) -> Result<OptionLines, Refusal>
+fn all_options(alloc: Global, spread: bool, asked: &[AfterLine]) -> Result<OptionLines>
     ensures { Answers result (Ok (all_options spread asked.now)) }
 {
     let spared = spared_lines(alloc, asked)?;
@@ -139,7 +135,7 @@ pub(crate) fn option_lines(
     spare: bool,
     spread: bool,
     asked: &[AfterLine],
-) -> Result<Option<OptionLines>, Refusal>
+) -> Result<Option<OptionLines>>
     ensures { Answers result (Ok (options_if spare spread asked.now)) }
 {
     if spare || spread {

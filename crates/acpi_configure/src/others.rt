@@ -14,7 +14,7 @@ use acpi_links::{PresentLink, crs, get_current_resources, is_present, list_devic
 use acpi_machine::Machine;
 use acpi_resources::InterruptNumbers;
 use aml_path::Path;
-use ar_space::{Refusal, Space};
+use ar_space::{Result, Space};
 use route_report::{After, AfterLine};
 use std::alloc::Global;
 
@@ -26,7 +26,7 @@ pub(crate) fn ask_others<S: Space>(
     machine: &mut Machine<S>,
     spare: bool,
     links: &[PresentLink],
-) -> Result<Vec<AfterLine>, Refusal>
+) -> Result<Vec<AfterLine>>
     ensures value { Does (seen (λ list. list.items) result) machine.new
         (others_asked S.accesses spare links.now) machine.old }
     ensures evaluated { StopsInOthers S.accesses spare links.now machine.old machine.new }
@@ -43,7 +43,7 @@ fn ask_devices_beside<S: Space>(
     alloc: Global,
     machine: &mut Machine<S>,
     links: &[PresentLink],
-) -> Result<Vec<AfterLine>, Refusal>
+) -> Result<Vec<AfterLine>>
     ensures value { Does (seen (λ list. list.items) result) machine.new
         (devices_asked S.accesses (other_devices links.now machine.old)) machine.old }
     ensures evaluated { StopsInDevices S.accesses (other_devices links.now machine.old) machine.old machine.new }
@@ -58,7 +58,7 @@ fn other_devices<S: Space>(
     alloc: Global,
     machine: &Machine<S>,
     links: &[PresentLink],
-) -> Result<Vec<Path>, Refusal>
+) -> Result<Vec<Path>>
     ensures { Answers (seen (λ list. list.items) result) (Ok (other_devices links.now machine.now)) }
 {
     let devices = list_devices(alloc, machine)?;
@@ -66,7 +66,7 @@ fn other_devices<S: Space>(
 }
 
 /// Those of some paths at which no link stands.
-fn beside(alloc: Global, paths: Vec<Path>, links: &[PresentLink]) -> Result<Vec<Path>, Refusal>
+fn beside(alloc: Global, paths: Vec<Path>, links: &[PresentLink]) -> Result<Vec<Path>>
     ensures { Answers (seen (λ list. list.items) result) (Ok (filter (λ p. not (is_link links.now p)) paths.items)) }
 {
     let mut list = Vec::new(alloc);
@@ -90,7 +90,7 @@ fn ask_devices<S: Space>(
     alloc: Global,
     machine: &mut Machine<S>,
     devices: &[Path],
-) -> Result<Vec<AfterLine>, Refusal>
+) -> Result<Vec<AfterLine>>
     ensures value { Does (seen (λ list. list.items) result) machine.new
         (devices_asked S.accesses devices.now) machine.old }
     ensures evaluated { StopsInDevices S.accesses devices.now machine.old machine.new }
@@ -105,11 +105,7 @@ fn ask_devices<S: Space>(
 
 /// What a device has: a refusal is told, but for want of memory.
 #[tactic(auto, using(ar_space::proofs::Changes::changing), unfolding(crate::specs::Others::device_asked))]
-fn ask_device<S: Space>(
-    alloc: Global,
-    machine: &mut Machine<S>,
-    device: &Path,
-) -> Result<AfterLine, Refusal>
+fn ask_device<S: Space>(alloc: Global, machine: &mut Machine<S>, device: &Path) -> Result<AfterLine>
     ensures value { Does result machine.new (device_asked S.accesses device.now) machine.old }
     ensures evaluated { StopsInDevice S.accesses device.now machine.old machine.new }
 {
@@ -118,11 +114,7 @@ fn ask_device<S: Space>(
 }
 
 #[tactic(auto, using(crate::proofs::Settled::does_attempted))]
-fn try_to_ask<S: Space>(
-    alloc: Global,
-    machine: &mut Machine<S>,
-    device: &Path,
-) -> Result<After, Refusal>
+fn try_to_ask<S: Space>(alloc: Global, machine: &mut Machine<S>, device: &Path) -> Result<After>
     ensures value { Does (seen after_state result) machine.new (attempted state_told
         (device_resources S.accesses device.now)) machine.old }
     ensures evaluated { StopsInDevice S.accesses device.now machine.old machine.new }
@@ -137,7 +129,7 @@ fn device_resources<S: Space>(
     alloc: Global,
     machine: &mut Machine<S>,
     device: &Path,
-) -> Result<Option<InterruptNumbers>, Refusal>
+) -> Result<Option<InterruptNumbers>>
     ensures value { Does result machine.new (device_resources S.accesses device.now) machine.old }
     ensures evaluated { StopsInDevice S.accesses device.now machine.old machine.new }
 {
@@ -155,7 +147,7 @@ fn present_resources<S: Space>(
     alloc: Global,
     machine: &mut Machine<S>,
     device: &Path,
-) -> Result<Option<InterruptNumbers>, Refusal>
+) -> Result<Option<InterruptNumbers>>
     ensures value { Does result machine.new (present_resources S.accesses device.now) machine.old }
     ensures evaluated { StopsInPresent S.accesses device.now machine.old machine.new }
 {
@@ -169,7 +161,7 @@ fn resources_if<S: Space>(
     machine: &mut Machine<S>,
     present: bool,
     device: &Path,
-) -> Result<Option<InterruptNumbers>, Refusal>
+) -> Result<Option<InterruptNumbers>>
     ensures value { Does result machine.new (resources_if S.accesses present device.now) machine.old }
     ensures evaluated { StopsIfPresent S.accesses present device.now machine.old machine.new }
 {

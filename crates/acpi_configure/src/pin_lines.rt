@@ -6,7 +6,7 @@ ghost use Rattle.acpi_configure.specs.Lines.{given_to, way_of, pin_route, pin_li
 use crate::pin_names::letter_of;
 use acpi_prt::{Pin, Route};
 use aml_path::Path;
-use ar_space::Refusal;
+use ar_space::Result;
 use route_report::{PinLine, PinRoute};
 use std::alloc::Global;
 
@@ -15,7 +15,7 @@ pub(crate) fn pin_lines(
     alloc: Global,
     gives: &[(Path, u32)],
     pins: &[(Path, Pin)],
-) -> Result<Vec<PinLine>, Refusal>
+) -> Result<Vec<PinLine>>
     ensures { Answers (seen (λ list. list.items) result) (Ok (map (pin_line gives.now) pins.now)) }
 {
     let mut list = Vec::new(alloc);
@@ -26,12 +26,7 @@ pub(crate) fn pin_lines(
     Ok(list)
 }
 
-fn pin_line(
-    alloc: Global,
-    gives: &[(Path, u32)],
-    device: &Path,
-    pin: &Pin,
-) -> Result<PinLine, Refusal>
+fn pin_line(alloc: Global, gives: &[(Path, u32)], device: &Path, pin: &Pin) -> Result<PinLine>
     ensures { Answers result (Ok (pin_line gives.now (device.now, pin.now))) }
 {
     let device = device.copy(alloc)?;
@@ -44,7 +39,7 @@ fn pin_line(
     })
 }
 
-fn pin_route(alloc: Global, gives: &[(Path, u32)], route: &Route) -> Result<PinRoute, Refusal>
+fn pin_route(alloc: Global, gives: &[(Path, u32)], route: &Route) -> Result<PinRoute>
     ensures { Answers result (Ok (pin_route gives.now route.now)) }
 {
     match route {
@@ -53,7 +48,7 @@ fn pin_route(alloc: Global, gives: &[(Path, u32)], route: &Route) -> Result<PinR
     }
 }
 
-fn way_of(alloc: Global, path: &Path, given: Option<u32>) -> Result<PinRoute, Refusal>
+fn way_of(alloc: Global, path: &Path, given: Option<u32>) -> Result<PinRoute>
     ensures { Answers result (Ok (way_of path.now given)) }
 {
     match given {

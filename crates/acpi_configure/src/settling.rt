@@ -18,7 +18,7 @@ use acpi_links::{PresentLink, get_current_resources, set_current_resources};
 use acpi_machine::Machine;
 use acpi_resources::InterruptNumbers;
 use aml_path::Path;
-use ar_space::{Refusal, Space};
+use ar_space::{Refusal, Result, Space};
 use route_report::{After, AfterLine, SetLine, SetOutcome};
 use std::alloc::Global;
 
@@ -35,7 +35,7 @@ pub(crate) fn settle_unless<S: Space>(
     dry: bool,
     links: &[PresentLink],
     choice: &[u32],
-) -> Result<Settings, Refusal>
+) -> Result<Settings>
     requires each { length choice.now ≡ length links.now }
     requires offered { AllZip Contains (map (λ link. link.1.numbers) links.now) choice.now }
     ensures value { Does (seen (λ x. (x.0.items, x.1.items)) result) machine.new
@@ -55,7 +55,7 @@ fn settle<S: Space>(
     machine: &mut Machine<S>,
     links: &[PresentLink],
     choice: &[u32],
-) -> Result<Settings, Refusal>
+) -> Result<Settings>
     requires each { length choice.now ≡ length links.now }
     requires offered { AllZip Contains (map (λ link. link.1.numbers) links.now) choice.now }
     ensures value { Does (seen (λ x. (x.0.items, x.1.items)) result) machine.new
@@ -74,7 +74,7 @@ fn set_links<S: Space>(
     machine: &mut Machine<S>,
     links: &[PresentLink],
     choice: &[u32],
-) -> Result<Vec<SetLine>, Refusal>
+) -> Result<Vec<SetLine>>
     requires each { length choice.now ≡ length links.now }
     requires offered { AllZip Contains (map (λ link. link.1.numbers) links.now) choice.now }
     ensures value { Does (seen (λ list. list.items) result) machine.new
@@ -97,7 +97,7 @@ fn set_link<S: Space>(
     machine: &mut Machine<S>,
     link: &PresentLink,
     number: u32,
-) -> Result<SetLine, Refusal>
+) -> Result<SetLine>
     requires { Contains link.now.1.numbers number }
     ensures value { Does result machine.new (link_set S.accesses link.now number) machine.old }
     ensures evaluated { AllOrNone (link_set S.accesses link.now number) machine.old machine.new }
@@ -113,7 +113,7 @@ fn try_to_set<S: Space>(
     machine: &mut Machine<S>,
     link: &PresentLink,
     number: u32,
-) -> Result<SetOutcome, Refusal>
+) -> Result<SetOutcome>
     requires { Contains link.now.1.numbers number }
     ensures value { Does result machine.new
         (attempted set_told (resources_set S.accesses link.now.0 link.now.1 number)) machine.old }
@@ -125,7 +125,7 @@ fn try_to_set<S: Space>(
     set_outcome(outcome)
 }
 
-fn set_line(alloc: Global, path: &Path, outcome: SetOutcome) -> Result<SetLine, Refusal>
+fn set_line(alloc: Global, path: &Path, outcome: SetOutcome) -> Result<SetLine>
     ensures value { Answers result (Ok (record { path = path.now; outcome = outcome })) }
     ensures memory { IfErr result (λ refusal. refusal ≡ OutOfMemory) }
 {
@@ -136,7 +136,7 @@ fn set_line(alloc: Global, path: &Path, outcome: SetOutcome) -> Result<SetLine, 
 }
 
 /// What is told of setting a link; want of memory is no outcome.
-fn set_outcome(outcome: Result<bool, Refusal>) -> Result<SetOutcome, Refusal>
+fn set_outcome(outcome: Result<bool>) -> Result<SetOutcome>
     ensures told { NotMemory outcome → Answers result (Ok (set_told outcome)) }
     ensures plain { NotMemory outcome → NotMemory result }
     ensures memory { outcome ≡ Err OutOfMemory → result ≡ Err OutOfMemory }
@@ -155,7 +155,7 @@ fn read_links<S: Space>(
     alloc: Global,
     machine: &mut Machine<S>,
     links: &[PresentLink],
-) -> Result<Vec<AfterLine>, Refusal>
+) -> Result<Vec<AfterLine>>
     ensures value { Does (seen (λ list. list.items) result) machine.new (links_read S.accesses links.now) machine.old }
     ensures evaluated { StopsInReads S.accesses links.now machine.old machine.new }
     ensures memory { IfErr result (λ refusal. refusal ≡ OutOfMemory) }
@@ -174,7 +174,7 @@ fn read_link<S: Space>(
     alloc: Global,
     machine: &mut Machine<S>,
     link: &PresentLink,
-) -> Result<AfterLine, Refusal>
+) -> Result<AfterLine>
     ensures value { Does result machine.new (link_read S.accesses link.now) machine.old }
     ensures evaluated { AllOrNone (link_read S.accesses link.now) machine.old machine.new }
     ensures memory { IfErr result (λ refusal. refusal ≡ OutOfMemory) }
@@ -188,7 +188,7 @@ fn try_to_read<S: Space>(
     alloc: Global,
     machine: &mut Machine<S>,
     link: &PresentLink,
-) -> Result<After, Refusal>
+) -> Result<After>
     ensures value { Does (seen after_state result) machine.new (attempted state_told
         (current_resources S.accesses link.now.0)) machine.old }
     ensures evaluated { AllOrNone (attempted state_told (current_resources S.accesses link.now.0))
@@ -199,7 +199,7 @@ fn try_to_read<S: Space>(
     state_of(alloc, state)
 }
 
-pub(crate) fn after_line(alloc: Global, path: &Path, state: After) -> Result<AfterLine, Refusal>
+pub(crate) fn after_line(alloc: Global, path: &Path, state: After) -> Result<AfterLine>
     ensures value { Answers result (Ok (record { path = path.now; state = after_state state })) }
     ensures memory { IfErr result (λ refusal. refusal ≡ OutOfMemory) }
 {
@@ -210,10 +210,7 @@ pub(crate) fn after_line(alloc: Global, path: &Path, state: After) -> Result<Aft
 }
 
 /// What is told of reading a link; want of memory is no outcome.
-pub(crate) fn state_of(
-    alloc: Global,
-    state: Result<Option<InterruptNumbers>, Refusal>,
-) -> Result<After, Refusal>
+pub(crate) fn state_of(alloc: Global, state: Result<Option<InterruptNumbers>>) -> Result<After>
     ensures told { NotMemory state → Answers (seen after_state result) (Ok (state_told state)) }
     ensures plain { (e : Refusal) → state ≡ Err e → e ≢ OutOfMemory → NotMemory (seen after_state result) }
     ensures memory { state ≡ Err OutOfMemory → seen after_state result ≡ Err OutOfMemory }

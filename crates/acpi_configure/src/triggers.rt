@@ -7,7 +7,7 @@ ghost use Rattle.acpi_configure.specs.Triggers.{overrides_used, link_trigger, wi
 ghost use Rattle.acpi_configure.specs.Triggers.{triggers_with, triggers_of};
 
 use acpi_resources::Polarity;
-use ar_space::Refusal;
+use ar_space::Result;
 use ar_tables::Mode;
 use route_report::{InterruptSource, LinkLine, OverrideLine, Report, Trigger, TriggerLine};
 use std::alloc::{AllocError, Global};
@@ -79,7 +79,7 @@ fn overrides_used(mode: Mode, overrides: &[OverrideLine]) -> &[OverrideLine]
     }
 }
 
-fn link_trigger(alloc: Global, link: &LinkLine) -> Result<TriggerLine, Refusal>
+fn link_trigger(alloc: Global, link: &LinkLine) -> Result<TriggerLine>
     ensures value { Answers result (Ok (link_trigger link.entry.now)) }
     ensures memory { IfErr result (λ refusal. refusal ≡ OutOfMemory) }
 {
@@ -91,7 +91,7 @@ fn link_trigger(alloc: Global, link: &LinkLine) -> Result<TriggerLine, Refusal>
 }
 
 /// How those of links are triggered.
-fn link_triggers(alloc: Global, links: &[LinkLine]) -> Result<Vec<TriggerLine>, Refusal>
+fn link_triggers(alloc: Global, links: &[LinkLine]) -> Result<Vec<TriggerLine>>
     ensures value { Answers (seen (λ list. list.items) result) (Ok (map link_trigger links.now)) }
     ensures memory { IfErr result (λ refusal. refusal ≡ OutOfMemory) }
 {
@@ -148,7 +148,7 @@ fn triggers_with(
     overrides: &[OverrideLine],
     own: u32,
     report: &Report,
-) -> Result<Vec<TriggerLine>, Refusal>
+) -> Result<Vec<TriggerLine>>
     ensures value { Answers (seen (λ list. list.items) result) (Ok (triggers_with overrides.now own report.now)) }
     ensures memory { IfErr result (λ refusal. refusal ≡ OutOfMemory) }
 {
@@ -163,11 +163,7 @@ fn triggers_with(
 /// How the interrupts of a report are triggered: those of links, of wired pins, and the System Control Interrupt,
 /// whose own source is the one before an override.
 #[tactic(auto, unfolding(crate::specs::Triggers::triggers_of))]
-pub(crate) fn triggers_of(
-    alloc: Global,
-    own: u32,
-    report: &Report,
-) -> Result<Vec<TriggerLine>, Refusal>
+pub(crate) fn triggers_of(alloc: Global, own: u32, report: &Report) -> Result<Vec<TriggerLine>>
     ensures value { Answers (seen (λ list. list.items) result) (Ok (triggers_of own report.now)) }
     ensures memory { IfErr result (λ refusal. refusal ≡ OutOfMemory) }
 {

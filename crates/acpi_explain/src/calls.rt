@@ -12,7 +12,7 @@ use acpi_machine::{Machine, Mode, mode_number};
 use acpi_prt::child_named;
 use aml_meaning::Datum;
 use aml_path::Path;
-use ar_space::{Refusal, Space};
+use ar_space::{Result, Space};
 use std::alloc::{AllocError, Global};
 
 /// The one argument of `\_PIC` for a mode, as a list.
@@ -52,7 +52,7 @@ fn call_at<S: Space>(
     machine: &mut Machine<S>,
     path: &Path,
     arguments: Vec<Datum>,
-) -> Result<(), Refusal>
+) -> Result<()>
     ensures { machine.old.spent ≡ false → Does result machine.new (called_where_it_stands S.accesses path.now
         (map given_of arguments.items)) machine.old }
 {
@@ -61,7 +61,7 @@ fn call_at<S: Space>(
     }
     match machine.evaluate_object(alloc, path, arguments) {
         Ok(_) => Ok(()),
-        Err(refusal) => machine.pass_call_over(alloc, path, refusal),
+        Err(refusal) => machine.pass_call_over(path, refusal),
     }
 }
 

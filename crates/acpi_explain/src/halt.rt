@@ -4,7 +4,7 @@ ghost use Rattle.acpi_explain.specs.declared.halt.Halt.TheVariants as halts;
 ghost use Rattle.acpi_explain.specs.Refused.{TellsRefused, is_memory};
 
 use crate::stage::Stage;
-use ar_space::Refusal;
+use ar_space::{Refusal, Result};
 use std::alloc::AllocError;
 
 /// Where a run that is made again ends.
@@ -43,7 +43,7 @@ pub(crate) fn is_memory(refusal: &Refusal) -> bool
 }
 
 /// Whether a call was refused; only want of memory is handed on.
-pub(crate) fn is_refused<A: Drop>(outcome: Result<A, Refusal>) -> Result<bool, AllocError>
+pub(crate) fn is_refused<A: Drop>(outcome: Result<A>) -> Result<bool, AllocError>
     ensures { IfOk result (TellsRefused outcome) }
 {
     match outcome {

@@ -21,7 +21,7 @@ use acpi_machine::Machine;
 use acpi_resources::InterruptNumbers;
 use acpiroute_words::Evaluation;
 use aml_path::Path;
-use ar_space::{Refusal, Space};
+use ar_space::{Refusal, Result, Space};
 use std::alloc::{AllocError, Global};
 use watched_space::LastAccess;
 
@@ -84,7 +84,7 @@ fn set_lines<S: Space>(
     alloc: Global,
     machine: &Machine<LastAccess<S>>,
     path: &Path,
-    came: Result<bool, Refusal>,
+    came: Result<bool>,
     evaluation: Evaluation,
 ) -> Result<Vec<u8>, AllocError>
     ensures told { IfOk result (λ text. IsSetTold S.accesses evaluation.steps path.now came machine.now text.items) }
@@ -140,7 +140,7 @@ fn read_back_lines<S: Space>(
     machine: &Machine<LastAccess<S>>,
     given: u32,
     path: &Path,
-    came: Result<Option<InterruptNumbers>, Refusal>,
+    came: Result<Option<InterruptNumbers>>,
     evaluation: Evaluation,
 ) -> Result<Vec<u8>, AllocError>
     ensures told { IfOk result (λ text. IsReadTold S.accesses evaluation.steps given path.now came machine.now
@@ -269,7 +269,7 @@ pub fn explain_links<S: Space>(
     machine: &mut Machine<LastAccess<S>>,
     options: &Options<'_>,
     evaluation: Evaluation,
-) -> Result<Vec<u8>, Refusal>
+) -> Result<Vec<u8>>
     ensures lines { IfOk result (λ text. AreLinksExplained S.accesses evaluation.steps options.now machine.old
         machine.new text.items) }
     ensures refusal { IfErr result (λ refusal. refusal ≢ OutOfMemory →

@@ -21,7 +21,7 @@ use acpi_machine::Machine;
 use acpi_prt::{Pin, child_named};
 use acpi_resources::{InterruptNumbers, Offer};
 use aml_path::Path;
-use ar_space::{Refusal, Space};
+use ar_space::{Refusal, Result, Space};
 use std::alloc::{AllocError, Global};
 
 /// A copy of a path, or want of memory.
@@ -62,7 +62,7 @@ fn object_halt(alloc: Global, refusal: &Refusal, link: &Path, name: [u8; 4]) -> 
 }
 
 /// The halt where what was found is refused, and no object has a part in that.
-fn together(outcome: Result<(), Refusal>) -> Result<(), Halt>
+fn together(outcome: Result<()>) -> Result<(), Halt>
     ensures is { IfOk result (λ _. outcome ≡ Ok tt) }
     ensures halted { IfErr result (IsHaltOf outcome) }
 {

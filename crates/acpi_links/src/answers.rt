@@ -7,11 +7,11 @@ ghost use Rattle.acpi_links.specs.Answered.{bytes_in, numbers_in, numbers_of};
 use acpi_resources::{InterruptNumbers, current};
 use aml_meaning::Datum;
 use aml_objects::Octets;
-use ar_space::{Refusal, ValueFault};
+use ar_space::{Refusal, Result, ValueFault};
 use std::alloc::Global;
 
 /// The bytes of a buffer; `WrongType` for any other value.
-pub(crate) fn bytes_in(answer: Datum) -> Result<Octets, Refusal>
+pub(crate) fn bytes_in(answer: Datum) -> Result<Octets>
     ensures value { Answers result (bytes_in (given_of answer)) }
     ensures memory { NotMemory result }
 {
@@ -22,10 +22,7 @@ pub(crate) fn bytes_in(answer: Datum) -> Result<Octets, Refusal>
 }
 
 /// The numbers in the buffer of resource descriptors that was answered, if one was.
-pub(crate) fn numbers_of(
-    alloc: Global,
-    answer: Option<Datum>,
-) -> Result<Option<InterruptNumbers>, Refusal>
+pub(crate) fn numbers_of(alloc: Global, answer: Option<Datum>) -> Result<Option<InterruptNumbers>>
     ensures { Answers result (numbers_of (option_map given_of answer)) }
 {
     match answer {
@@ -36,7 +33,7 @@ pub(crate) fn numbers_of(
 
 /// The numbers in a buffer of resource descriptors.
 #[tactic(auto, using(ar_space::proofs::Outcomes::answering), unfolding(crate::specs::Answered::numbers_in))]
-fn numbers_in(alloc: Global, answer: Datum) -> Result<Option<InterruptNumbers>, Refusal>
+fn numbers_in(alloc: Global, answer: Datum) -> Result<Option<InterruptNumbers>>
     ensures { Answers result (numbers_in (given_of answer)) }
 {
     let bytes = bytes_in(answer)?;

@@ -11,19 +11,19 @@ ghost use Rattle.acpi_links.specs.Devices.{pins_of_each};
 use acpi_machine::{Kind, Machine, prt};
 use acpi_prt::{Pin, get_irq_routing_table};
 use aml_path::Path;
-use ar_space::{Refusal, Space};
+use ar_space::{Result, Space};
 use std::alloc::Global;
 
 /// The paths of all devices, in path order.
 #[tactic(auto, using(ar_space::proofs::Outcomes::answering), unfolding(crate::specs::Devices::devices))]
-pub fn list_devices<S: Space>(alloc: Global, machine: &Machine<S>) -> Result<Vec<Path>, Refusal>
+pub fn list_devices<S: Space>(alloc: Global, machine: &Machine<S>) -> Result<Vec<Path>>
     ensures { Answers (seen (λ list. list.items) result) (Ok (devices machine.now)) }
 {
     only_devices(alloc, machine.walk_namespace(alloc)?)
 }
 
 /// The paths of the devices among some names.
-fn only_devices(alloc: Global, nodes: Vec<(Path, Kind<'_>)>) -> Result<Vec<Path>, Refusal>
+fn only_devices(alloc: Global, nodes: Vec<(Path, Kind<'_>)>) -> Result<Vec<Path>>
     ensures { Answers (seen (λ list. list.items) result)
         (Ok (filter_map device_path (map (λ node. (node.0, kind_seen node.1)) nodes.entry.items))) }
 {
@@ -47,7 +47,7 @@ pub(crate) fn pins_of_each<S: Space>(
     alloc: Global,
     machine: &mut Machine<S>,
     devices: &[Path],
-) -> Result<Vec<(Path, Pin)>, Refusal>
+) -> Result<Vec<(Path, Pin)>>
     ensures value { Does (seen (λ list. list.items) result) machine.new
         (pins_of_each S.accesses devices.now) machine.old }
     ensures evaluated { StopsInTables S.accesses devices.now machine.old machine.new }
@@ -66,7 +66,7 @@ pub fn pins_of_device<S: Space>(
     alloc: Global,
     machine: &mut Machine<S>,
     device: &Path,
-) -> Result<Vec<(Path, Pin)>, Refusal>
+) -> Result<Vec<(Path, Pin)>>
     ensures value { Does (seen (λ list. list.items) result) machine.new
         (pins_of_device S.accesses device.now) machine.old }
     ensures evaluated { StopsInDevice S.accesses device.now machine.old machine.new }
@@ -77,11 +77,7 @@ pub fn pins_of_device<S: Space>(
 
 /// The pins of the routing table of a device, if it has one.
 #[tactic(auto, using(crate::proofs::Stopped::tables, ar_space::proofs::Changes::changing))]
-fn pins_at<S: Space>(
-    alloc: Global,
-    machine: &mut Machine<S>,
-    device: &Path,
-) -> Result<Vec<Pin>, Refusal>
+fn pins_at<S: Space>(alloc: Global, machine: &mut Machine<S>, device: &Path) -> Result<Vec<Pin>>
     ensures value { Does (seen (λ list. list.items) result) machine.new (pins_at S.accesses device.now) machine.old }
     ensures evaluated { StopsInDevice S.accesses device.now machine.old machine.new }
 {
@@ -94,7 +90,7 @@ fn pins_at<S: Space>(
 }
 
 /// Each pin with the device that has the routing table.
-fn with_device(alloc: Global, device: &Path, pins: Vec<Pin>) -> Result<Vec<(Path, Pin)>, Refusal>
+fn with_device(alloc: Global, device: &Path, pins: Vec<Pin>) -> Result<Vec<(Path, Pin)>>
     ensures { Answers (seen (λ list. list.items) result) (Ok (with_device device.now pins.items)) }
 {
     let mut list = Vec::new(alloc);

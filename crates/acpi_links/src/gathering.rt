@@ -19,7 +19,7 @@ use crate::problem::problem_of;
 use acpi_machine::Machine;
 use acpi_prt::Pin;
 use aml_path::Path;
-use ar_space::{Refusal, Space};
+use ar_space::{Result, Space};
 use std::alloc::Global;
 
 /// The pins of all routing tables, the present link devices that they lead to, and the routing problem that these pose.
@@ -35,11 +35,7 @@ use std::alloc::Global;
 /// In the problem no link offers an interrupt that is avoided, and the System Control Interrupt is one more wired
 /// source. Sources that are wired to an avoided interrupt count as others do.
 #[tactic(auto, using(ar_space::proofs::Changes::changing, acpi_machine::proofs::Stopping::making), unfolding(crate::specs::Gatherings::gathered))]
-pub fn gather<S: Space>(
-    alloc: Global,
-    machine: &mut Machine<S>,
-    avoid: &[u32],
-) -> Result<Gathered, Refusal>
+pub fn gather<S: Space>(alloc: Global, machine: &mut Machine<S>, avoid: &[u32]) -> Result<Gathered>
     ensures value { Does result machine.new (gathered S.accesses avoid.now) machine.old }
     ensures evaluated { StopsInGathering S.accesses avoid.now machine.old machine.new }
     ensures posed { IfOk result (λ g. g.problem ≡ problem_of avoid.now (sci_of machine.old) g.links g.pins) }
@@ -58,7 +54,7 @@ pub fn gather<S: Space>(
 
 /// The source of the System Control Interrupt, in the machine's mode.
 #[tactic(auto, unfolding(crate::specs::Gatherings::sci_shown))]
-fn sci_shown<S: Space>(machine: &Machine<S>) -> Result<Option<u32>, Refusal>
+fn sci_shown<S: Space>(machine: &Machine<S>) -> Result<Option<u32>>
     ensures value { Does result machine.now sci_shown machine.now }
     ensures sci { result ≡ Ok (sci_of machine.now) }
 {
@@ -71,7 +67,7 @@ fn pins_found<S: Space>(
     alloc: Global,
     machine: &mut Machine<S>,
     sci: Option<u32>,
-) -> Result<Vec<(Path, Pin)>, Refusal>
+) -> Result<Vec<(Path, Pin)>>
     ensures value { Does (seen (λ list. list.items) result) machine.new (pins_found S.accesses sci) machine.old }
     ensures evaluated { StopsInTables S.accesses (devices machine.old) machine.old machine.new }
     ensures few { IfOk result (λ list. length list.items + length (option_to_list sci) ≤ 4096) }
@@ -83,7 +79,7 @@ fn pins_found<S: Space>(
 }
 
 #[tactic(auto, unfolding(crate::specs::Devices::devices_listed))]
-fn devices_listed<S: Space>(alloc: Global, machine: &Machine<S>) -> Result<Vec<Path>, Refusal>
+fn devices_listed<S: Space>(alloc: Global, machine: &Machine<S>) -> Result<Vec<Path>>
     ensures { Does (seen (λ list. list.items) result) machine.now devices_listed machine.now }
 {
     list_devices(alloc, machine)
@@ -96,7 +92,7 @@ fn links_found<S: Space>(
     machine: &mut Machine<S>,
     avoid: &[u32],
     pins: &[(Path, Pin)],
-) -> Result<Vec<PresentLink>, Refusal>
+) -> Result<Vec<PresentLink>>
     ensures value { Does (seen (λ list. list.items) result) machine.new
         (links_found S.accesses avoid.now pins.now) machine.old }
     ensures evaluated { StopsInFew S.accesses avoid.now (links_named pins.now) machine.old machine.new }
@@ -118,7 +114,7 @@ pub(crate) fn gathering(
     sci: Option<u32>,
     pins: Vec<(Path, Pin)>,
     links: Vec<PresentLink>,
-) -> Result<Gathered, Refusal>
+) -> Result<Gathered>
     requires pins { length pins.items + length (option_to_list sci) ≤ 4096 }
     requires few { length links.items ≤ 256 }
     requires in_order { IsStrictlySortedBy path_cmp (map (λ link. link.0) links.items) }

@@ -22,7 +22,7 @@ use acpi_machine::Machine;
 use acpi_prt::{Pin, Route};
 use acpi_resources::{InterruptNumbers, Offer, Polarity};
 use aml_path::Path;
-use ar_space::{MAX_LINKS, MAX_PINS, PathText, Refusal, RoutingFault, Space};
+use ar_space::{MAX_LINKS, MAX_PINS, PathText, Refusal, Result, RoutingFault, Space};
 use route_model::are_all_avoided;
 use std::alloc::{AllocError, Global};
 use std::collections::BTreeSet;
@@ -31,7 +31,7 @@ use std::collections::BTreeSet;
 pub type PresentLink = (Path, Offer, Option<InterruptNumbers>);
 
 /// More than 4,096 pins, the source of the System Control Interrupt counted as one, are refused as `TooMany`.
-pub fn few_pins(sci: Option<u32>, pins: &[(Path, Pin)]) -> Result<(), Refusal>
+pub fn few_pins(sci: Option<u32>, pins: &[(Path, Pin)]) -> Result<()>
     ensures value { Answers result (few_pins sci pins.now) }
     ensures memory { NotMemory result }
     ensures few { IfOk result (λ _. length pins.now + length (option_to_list sci) ≤ 4096) }
@@ -49,7 +49,7 @@ pub fn few_pins(sci: Option<u32>, pins: &[(Path, Pin)]) -> Result<(), Refusal>
 }
 
 /// The links that some pins lead to, in path order, each once.
-pub fn links_named(alloc: Global, pins: &[(Path, Pin)]) -> Result<Vec<Path>, Refusal>
+pub fn links_named(alloc: Global, pins: &[(Path, Pin)]) -> Result<Vec<Path>>
     ensures value { Answers (seen (λ list. list.items) result) (Ok (links_named pins.now)) }
     ensures ascending { IfOk result (λ list. IsStrictlySortedBy path_cmp list.items) }
 {
@@ -69,7 +69,7 @@ fn in_order(alloc: Global, links: BTreeSet<Path>) -> Result<Vec<Path>, AllocErro
 }
 
 /// Adds the link that a route leads to, if it leads to one.
-fn add_route(alloc: Global, links: &mut BTreeSet<Path>, route: &Route) -> Result<(), Refusal>
+fn add_route(alloc: Global, links: &mut BTreeSet<Path>, route: &Route) -> Result<()>
     ensures ok { OnOk result (links.new.keys ≡ with_route links.old.keys route.now) }
     ensures memory { IsOkUnless result OutOfMemory }
 {
@@ -83,7 +83,7 @@ fn add_route(alloc: Global, links: &mut BTreeSet<Path>, route: &Route) -> Result
 }
 
 /// More than 256 links are refused as `TooMany`.
-pub fn few_links(links: &[Path]) -> Result<(), Refusal>
+pub fn few_links(links: &[Path]) -> Result<()>
     ensures value { Answers result (few_links links.now) }
     ensures memory { NotMemory result }
     ensures few { IfOk result (λ _. length links.now ≤ 256) }
@@ -101,7 +101,7 @@ pub(crate) fn links_of_each<S: Space>(
     machine: &mut Machine<S>,
     avoid: &[u32],
     links: &[Path],
-) -> Result<Vec<PresentLink>, Refusal>
+) -> Result<Vec<PresentLink>>
     ensures value { Does (seen (λ list. list.items) result) machine.new
         (links_of_each S.accesses avoid.now links.now) machine.old }
     ensures evaluated { StopsInLinks S.accesses avoid.now links.now machine.old machine.new }
@@ -135,7 +135,7 @@ fn link_asked<S: Space>(
     machine: &mut Machine<S>,
     avoid: &[u32],
     link: &Path,
-) -> Result<Option<PresentLink>, Refusal>
+) -> Result<Option<PresentLink>>
     ensures value { Does result machine.new (link_asked S.accesses avoid.now link.now) machine.old }
     ensures evaluated { StopsInLink S.accesses avoid.now link.now machine.old machine.new }
     ensures path { IfOk result (λ found. IsAt link.now found) }
@@ -152,7 +152,7 @@ fn link_if<S: Space>(
     avoid: &[u32],
     present: bool,
     link: &Path,
-) -> Result<Option<PresentLink>, Refusal>
+) -> Result<Option<PresentLink>>
     ensures value { Does result machine.new (link_if S.accesses avoid.now present link.now) machine.old }
     ensures evaluated { StopsIfPresent S.accesses avoid.now present link.now machine.old machine.new }
     ensures path { IfOk result (λ found. IsAt link.now found) }
@@ -171,7 +171,7 @@ fn link_found<S: Space>(
     machine: &mut Machine<S>,
     avoid: &[u32],
     link: &Path,
-) -> Result<Option<PresentLink>, Refusal>
+) -> Result<Option<PresentLink>>
     ensures value { Does result machine.new (link_found S.accesses avoid.now link.now) machine.old }
     ensures evaluated { StopsInOffer S.accesses avoid.now link.now machine.old machine.new }
     ensures path { IfOk result (λ found. IsAt link.now found) }
@@ -184,7 +184,7 @@ fn link_found<S: Space>(
 }
 
 /// A link all of whose possible settings are avoided is refused as `Avoided`, with its path.
-pub fn some_left(alloc: Global, avoid: &[u32], link: &Path, offer: &Offer) -> Result<(), Refusal>
+pub fn some_left(alloc: Global, avoid: &[u32], link: &Path, offer: &Offer) -> Result<()>
     ensures value { Answers result (some_left avoid.now link.now offer.now) }
     ensures left { IfOk result (λ _. are_all_avoided avoid.now offer.now.numbers ≡ false) }
     ensures memory { are_all_avoided avoid.now offer.now.numbers ≡ false → NotMemory result }
@@ -197,7 +197,7 @@ pub fn some_left(alloc: Global, avoid: &[u32], link: &Path, offer: &Offer) -> Re
 }
 
 /// A link of whose offer nothing is left, with its path.
-pub(crate) fn all_avoided(alloc: Global, link: &Path) -> Result<(), Refusal>
+pub(crate) fn all_avoided(alloc: Global, link: &Path) -> Result<()>
     ensures value { Answers result (Err (refusals.Routing (routing.Avoided (text_of link.now)))) }
     ensures refused { IsErr result }
 {
@@ -210,7 +210,7 @@ fn present_link(
     link: &Path,
     offer: Offer,
     now: Option<InterruptNumbers>,
-) -> Result<Option<PresentLink>, Refusal>
+) -> Result<Option<PresentLink>>
     ensures value { Answers result (Ok (Some (link.now, offer, now))) }
     ensures path { IfOk result (λ found. IsAt link.now found) }
     ensures same { IfOk result (λ found. found ≡ Some (link.now, offer, now)) }
@@ -219,7 +219,7 @@ fn present_link(
 }
 
 /// Links of both polarities are refused as `MixedPolarity`.
-pub(crate) fn one_polarity(links: &[PresentLink]) -> Result<(), Refusal>
+pub(crate) fn one_polarity(links: &[PresentLink]) -> Result<()>
     ensures value { Answers result (one_polarity links.now) }
     ensures memory { NotMemory result }
 {

@@ -10,18 +10,14 @@ use crate::object_names::sta;
 use acpi_machine::Machine;
 use aml_meaning::Datum;
 use aml_path::Path;
-use ar_space::{Refusal, Space, ValueFault};
+use ar_space::{Refusal, Result, Space, ValueFault};
 use std::alloc::Global;
 
 /// Whether a device is present: bit 0 of the integer that its `_STA` answers; one without `_STA` is.
 ///
 /// An answer that is no integer is refused as `WrongType`; a refusal of the evaluation is handed on.
 #[tactic(auto, using(ar_space::proofs::Changes::changing), unfolding(crate::specs::Presence::is_present))]
-pub fn is_present<S: Space>(
-    alloc: Global,
-    machine: &mut Machine<S>,
-    link: &Path,
-) -> Result<bool, Refusal>
+pub fn is_present<S: Space>(alloc: Global, machine: &mut Machine<S>, link: &Path) -> Result<bool>
     ensures value { Does result machine.new (is_present S.accesses link.now) machine.old }
     ensures evaluated { AllOrNone (is_present S.accesses link.now) machine.old machine.new }
 {
@@ -29,7 +25,7 @@ pub fn is_present<S: Space>(
     presence_of(answer)
 }
 
-fn presence_of(answer: Option<Datum>) -> Result<bool, Refusal>
+fn presence_of(answer: Option<Datum>) -> Result<bool>
     ensures value { Answers result (presence_of (option_map given_of answer)) }
     ensures memory { NotMemory result }
 {

@@ -18,7 +18,7 @@ use crate::links::PresentLink;
 use acpi_prt::{Pin, Route};
 use acpi_resources::Offer;
 use aml_path::Path;
-use ar_space::Refusal;
+use ar_space::Result;
 use route_model::{Link, without};
 use route_solve::Problem;
 use std::alloc::{AllocError, Global};
@@ -32,7 +32,7 @@ pub(crate) fn problem_of(
     sci: Option<u32>,
     links: &[PresentLink],
     pins: &[(Path, Pin)],
-) -> Result<Problem, Refusal>
+) -> Result<Problem>
     requires pins { length pins.now + length (option_to_list sci) ≤ 4096 }
     requires few { length links.now ≤ 256 }
     requires in_order { IsStrictlySortedBy path_cmp (map (λ link. link.0) links.now) }
@@ -60,7 +60,7 @@ pub fn pin_counts(alloc: Global, pins: &[(Path, Pin)]) -> Result<Vec<(u32, u32)>
 }
 
 /// Each link with what it offers of the interrupts that aren't avoided.
-fn offering_links(alloc: Global, avoid: &[u32], links: &[PresentLink]) -> Result<Vec<Link>, Refusal>
+fn offering_links(alloc: Global, avoid: &[u32], links: &[PresentLink]) -> Result<Vec<Link>>
     requires { All (HasLeft avoid.now) links.now }
     ensures value { Answers (seen (λ list. list.items) result) (Ok (map (offering avoid.now) links.now)) }
     ensures offers { IfOk result (λ list. All (λ link. IsOffer link.offers) list.items) }
@@ -72,7 +72,7 @@ fn offering_links(alloc: Global, avoid: &[u32], links: &[PresentLink]) -> Result
     Ok(list)
 }
 
-fn offering(alloc: Global, avoid: &[u32], path: &Path, offer: &Offer) -> Result<Link, Refusal>
+fn offering(alloc: Global, avoid: &[u32], path: &Path, offer: &Offer) -> Result<Link>
     requires { are_all_avoided avoid.now offer.now.numbers ≡ false }
     ensures value { Answers result (Ok (record { path = path.now; offers = without avoid.now offer.now.numbers })) }
     ensures offer { IfOk result (λ link. IsOffer link.offers) }

@@ -19,7 +19,7 @@ use acpi_resources::{Exclusives, InterruptNumbers, Offer, possible_as, setting};
 use aml_meaning::Datum;
 use aml_objects::Octets;
 use aml_path::Path;
-use ar_space::{PathText, Refusal, RoutingFault, Space};
+use ar_space::{PathText, Refusal, Result, RoutingFault, Space};
 use std::alloc::Global;
 
 /// What a link device may be set to, by the buffer that its `_PRS` answers (ACPI 6.5, 6.2.12).
@@ -32,7 +32,7 @@ pub fn get_possible_resources<S: Space>(
     alloc: Global,
     machine: &mut Machine<S>,
     link: &Path,
-) -> Result<Offer, Refusal>
+) -> Result<Offer>
     ensures value { Does result machine.new (possible_resources S.accesses link.now) machine.old }
     ensures evaluated { AllOrNone (possible_resources S.accesses link.now) machine.old machine.new }
 {
@@ -42,7 +42,7 @@ pub fn get_possible_resources<S: Space>(
 }
 
 /// The bytes that `_PRS` answered; a link device without `_PRS` offers nothing.
-fn offered_bytes(alloc: Global, link: &Path, answer: Option<Datum>) -> Result<Octets, Refusal>
+fn offered_bytes(alloc: Global, link: &Path, answer: Option<Datum>) -> Result<Octets>
     ensures { Answers result (offered_bytes link.now (option_map given_of answer)) }
 {
     match answer {
@@ -52,7 +52,7 @@ fn offered_bytes(alloc: Global, link: &Path, answer: Option<Datum>) -> Result<Oc
 }
 
 /// A link device offers nothing.
-fn no_offer(alloc: Global, link: &Path) -> Result<Octets, Refusal>
+fn no_offer(alloc: Global, link: &Path) -> Result<Octets>
     ensures { Answers result (Err (refusals.Routing (routing.NoOffer (text_of link.now)))) }
 {
     let text = link.text(alloc)?;
@@ -71,7 +71,7 @@ fn exclusives_in(profile: Profile) -> Exclusives
 
 /// The offer that bytes are, in the machine's profile.
 #[tactic(auto, unfolding(crate::specs::Resources::offer_in))]
-fn offer_in<S: Space>(alloc: Global, machine: &Machine<S>, bytes: &[u8]) -> Result<Offer, Refusal>
+fn offer_in<S: Space>(alloc: Global, machine: &Machine<S>, bytes: &[u8]) -> Result<Offer>
     ensures { Does result machine.now (offer_in bytes.now) machine.now }
 {
     possible_as(alloc, exclusives_in(machine.profile()), bytes)
@@ -86,7 +86,7 @@ pub fn get_current_resources<S: Space>(
     alloc: Global,
     machine: &mut Machine<S>,
     link: &Path,
-) -> Result<Option<InterruptNumbers>, Refusal>
+) -> Result<Option<InterruptNumbers>>
     ensures value { Does result machine.new (current_resources S.accesses link.now) machine.old }
     ensures evaluated { AllOrNone (current_resources S.accesses link.now) machine.old machine.new }
 {
@@ -106,7 +106,7 @@ pub fn set_current_resources<S: Space>(
     link: &Path,
     offer: &Offer,
     number: u32,
-) -> Result<bool, Refusal>
+) -> Result<bool>
     requires { Contains offer.now.numbers number }
     ensures value { Does result machine.new (resources_set S.accesses link.now offer.now number) machine.old }
     ensures evaluated { AllOrNone (resources_set S.accesses link.now offer.now number) machine.old machine.new }
@@ -117,7 +117,7 @@ pub fn set_current_resources<S: Space>(
 }
 
 /// A setting, as the one argument.
-fn arguments_of(alloc: Global, offer: &Offer, number: u32) -> Result<Vec<Datum>, Refusal>
+fn arguments_of(alloc: Global, offer: &Offer, number: u32) -> Result<Vec<Datum>>
     requires { Contains offer.now.numbers number }
     ensures { Answers (seen (λ list. map given_of list.items) result) (Ok (Bytes (setting_of offer.now number) ∷ [])) }
 {

@@ -11,12 +11,12 @@ ghost use Rattle.acpi_links.specs.Sparing.{all_left, avoiding};
 use crate::gathered::Gathered;
 use crate::gathering::gathering;
 use crate::links::{PresentLink, all_avoided};
-use ar_space::Refusal;
+use ar_space::Result;
 use route_model::are_all_avoided;
 use std::alloc::Global;
 
 /// The first of some links of whose offer nothing is left is refused as `Avoided`, with its path.
-fn all_left(alloc: Global, avoid: &[u32], links: &[PresentLink]) -> Result<(), Refusal>
+fn all_left(alloc: Global, avoid: &[u32], links: &[PresentLink]) -> Result<()>
     ensures value { Answers result (all_left avoid.now links.now) }
     ensures left { IfOk result (λ _. All (HasLeft avoid.now) links.now) }
 {
@@ -39,7 +39,7 @@ pub fn avoid_more(
     avoid: &[u32],
     sci: Option<u32>,
     gathered: Gathered,
-) -> Result<Gathered, Refusal>
+) -> Result<Gathered>
     requires pins { length gathered.pins + length (option_to_list sci) ≤ 4096 }
     requires few { length gathered.links ≤ 256 }
     requires in_order { IsStrictlySortedBy path_cmp (map (λ link. link.0) gathered.links) }

@@ -5,7 +5,6 @@ ghost use Rattle.ar_space.specs.Change.{Does};
 ghost use Rattle.ar_space.specs.Outcome.{Answers, NotMemory, seen};
 ghost use Rattle.aml_meaning.specs.Calling.{ending, with_steps};
 ghost use Rattle.aml_meaning.specs.Fields.{bus_behind, bus_behind_all, inherited};
-ghost use Rattle.aml_meaning.specs.PciFunctions.{or_behind, behind_asked};
 ghost use Rattle.acpi_machine.specs.Stops.{Made};
 ghost use Rattle.acpi_machine.specs.Buses.{prt, is_itself, bridges_down_to, bus_numbered};
 ghost use Rattle.acpi_machine.specs.Buses.{address_part, bus_of_table, bus_answered, bus_found};
@@ -13,9 +12,9 @@ ghost use Rattle.acpi_machine.specs.Buses.{address_part, bus_of_table, bus_answe
 use crate::calls::SPENT;
 use crate::machine::Machine;
 use aml_frames::ask_integer;
-use aml_meaning::{Profile, Running, Sought, World, WorldState, adr, base_bus, segment_group};
+use aml_meaning::{Running, Sought, World, WorldState, adr, base_bus, segment_group};
 use aml_path::{Path, Seg};
-use ar_space::{EvaluationFault, FieldFault, Refusal, Space};
+use ar_space::{FieldFault, Refusal, Result, Space};
 use std::alloc::Global;
 use std::collections::VecDeque;
 
@@ -54,7 +53,7 @@ impl<S: Space> Machine<S> {
     /// println!(rt; "{} {}", bus.segment, bus.bus)?;
     /// ```
     #[tactic(auto, using(crate::proofs::Noticed::spending), unfolding(crate::specs::Buses::bus_found))]
-    pub fn find_bus(&mut self, alloc: Global, device: &Path) -> Result<PciBus, Refusal>
+    pub fn find_bus(&mut self, alloc: Global, device: &Path) -> Result<PciBus>
         ensures answer { Does result self.new (bus_found S.accesses device.now) self.old }
         ensures memory { IfErr result (λ refusal. refusal ≡ OutOfMemory → self.new.spent ≡ true) }
         ensures evaluated { Made (bus_found S.accesses device.now) self.old self.new }
@@ -66,7 +65,7 @@ impl<S: Space> Machine<S> {
     }
 
     #[tactic(auto, using(crate::proofs::Noticed::noticing))]
-    fn bus_noticed(&mut self, alloc: Global, device: &Path) -> Result<PciBus, Refusal>
+    fn bus_noticed(&mut self, alloc: Global, device: &Path) -> Result<PciBus>
         ensures answer { Does result self.new (bus_answered S.accesses device.now) self.old }
         ensures memory { IfErr result (λ refusal. refusal ≡ OutOfMemory → self.new.spent ≡ true) }
     {
@@ -76,7 +75,7 @@ impl<S: Space> Machine<S> {
     }
 
     #[tactic(auto, using(crate::proofs::Noticed::worlds))]
-    fn bus_answered(&mut self, alloc: Global, device: &Path) -> Result<PciBus, Refusal>
+    fn bus_answered(&mut self, alloc: Global, device: &Path) -> Result<PciBus>
         ensures { Does result self.new (bus_answered S.accesses device.now) self.old }
     {
         ask_bus(alloc, &mut self.world, device, self.steps)
@@ -90,19 +89,20 @@ fn ask_bus<S: Space>(
     world: &mut World<S>,
     device: &Path,
     steps: u64,
-) -> Result<PciBus, Refusal>
+) -> Result<PciBus>
     ensures { Does result world.new (ending (with_steps steps (bus_of_table S.accesses device.now))) world.old }
 {
     let run = &mut world.running;
+    run.world.alloc = alloc;
     run.world.begin_trace(steps);
-    let outcome = with_steps(alloc, run, device, steps);
+    let outcome = with_steps(run, device, steps);
     tell_steps(run, &outcome);
     run.world.release_mutexes();
     outcome
 }
 
 /// Where an evaluation is refused, its trace tells how many steps were left.
-fn tell_steps<S, A>(run: &mut Running<S>, outcome: &Result<A, Refusal>)
+fn tell_steps<S, A>(run: &mut Running<S>, outcome: &Result<A>)
     ensures { run.new ≡ run.old }
 {
     if outcome.is_err() {
@@ -111,82 +111,45 @@ fn tell_steps<S, A>(run: &mut Running<S>, outcome: &Result<A, Refusal>)
 }
 
 #[tactic(auto, using(aml_meaning::proofs::Runs::calling))]
-fn with_steps<S: Space>(
-    alloc: Global,
-    run: &mut Running<S>,
-    device: &Path,
-    steps: u64,
-) -> Result<PciBus, Refusal>
+fn with_steps<S: Space>(run: &mut Running<S>, device: &Path, steps: u64) -> Result<PciBus>
     ensures { Does result run.new.0 (with_steps steps (bus_of_table S.accesses device.now)) run.old.0 }
 {
     run.steps = steps;
-    bus_of_table(alloc, run, device)
+    bus_of_table(run, device)
 }
 
 #[tactic(auto, using(aml_meaning::proofs::Runs::running), unfolding(crate::specs::Buses::bus_of_table))]
-fn bus_of_table<S: Space>(
-    alloc: Global,
-    run: &mut Running<S>,
-    device: &Path,
-) -> Result<PciBus, Refusal>
+fn bus_of_table<S: Space>(run: &mut Running<S>, device: &Path) -> Result<PciBus>
     ensures { Does result run.new (bus_of_table S.accesses device.now) run.old }
 {
-    let bridge = run.world.nearest(alloc, Sought::Bridge, device)?;
-    ask_behind(&run.world, bridge)?;
-    let bridges = bridges_down_to(alloc, &run.world, device)?;
-    let segment = inherited(alloc, run, segment_group(), device)?;
-    let bus = inherited(alloc, run, base_bus(), device)?;
-    let behind = bus_behind_all(alloc, run, segment, bus, bridges)?;
+    let bridge = run.world.nearest(Sought::Bridge, device)?;
+    run.world.ask_behind(bridge)?;
+    let bridges = bridges_down_to(&run.world, device)?;
+    let segment = inherited(run, segment_group(), device)?;
+    let bus = inherited(run, base_bus(), device)?;
+    let behind = bus_behind_all(run, segment, bus, bridges)?;
     bus_numbered(segment, behind)
-}
-
-/// Asks whether what lies behind this bridge is reached, if there is one.
-#[tactic(auto, unfolding(aml_meaning::specs::PciFunctions::behind_asked))]
-fn ask_behind<S>(world: &WorldState<S>, bridge: Option<Path>) -> Result<(), Refusal>
-    ensures { Does result world.now (behind_asked bridge) world.now }
-{
-    or_behind(world.profile(), bridge)
-}
-
-fn or_behind(profile: Profile, bridge: Option<Path>) -> Result<(), Refusal>
-    ensures { Answers result (or_behind profile bridge) }
-{
-    match profile {
-        Profile::Wide => Ok(()),
-        Profile::Core => match bridge {
-            None => Ok(()),
-            Some(_) => Err(Refusal::Evaluation(EvaluationFault::DeepPci)),
-        },
-    }
 }
 
 /// The bridges from the nearest base bus number down to a device, which is itself among them where it is one.
 #[tactic(auto, using(crate::proofs::DownToBuses::down))]
-fn bridges_down_to<S>(
-    alloc: Global,
-    world: &WorldState<S>,
-    device: &Path,
-) -> Result<VecDeque<Path>, Refusal>
+fn bridges_down_to<S>(world: &WorldState<S>, device: &Path) -> Result<VecDeque<Path>>
     ensures { Does (seen (λ v. v.items) result) world.now (bridges_down_to device.now) world.now }
 {
-    let based = world.nearest(alloc, Sought::Parent(base_bus()), device)?;
-    let bridge = world.nearest(alloc, Sought::Bridge, device)?;
-    let bridges = world.bridges_above(alloc, device)?;
+    let based = world.nearest(Sought::Parent(base_bus()), device)?;
+    let bridge = world.nearest(Sought::Bridge, device)?;
+    let bridges = world.bridges_above(device)?;
     if is_itself(based, device) {
         return Ok(bridges);
     }
     if is_itself(bridge, device) {
-        return with_device(alloc, bridges, device);
+        return with_device(world.alloc, bridges, device);
     }
     Ok(bridges)
 }
 
 /// Bridges and a device below them.
-fn with_device(
-    alloc: Global,
-    bridges: VecDeque<Path>,
-    device: &Path,
-) -> Result<VecDeque<Path>, Refusal>
+fn with_device(alloc: Global, bridges: VecDeque<Path>, device: &Path) -> Result<VecDeque<Path>>
     ensures all { IfOk result (λ v. v.items ≡ bridges.items ++ device.now ∷ []) }
     ensures memory { IfErr result (λ e. e ≡ OutOfMemory) }
 {
@@ -207,60 +170,48 @@ fn is_itself(nearest: Option<Path>, device: &Path) -> bool
 
 /// What the nearest object of a name answers, from a device on upward; 0 where there is none.
 #[tactic(auto, using(aml_meaning::proofs::Runs::running), unfolding(aml_meaning::specs::Fields::inherited))]
-fn inherited<S: Space>(
-    alloc: Global,
-    run: &mut Running<S>,
-    name: Seg,
-    device: &Path,
-) -> Result<u64, Refusal>
+fn inherited<S: Space>(run: &mut Running<S>, name: Seg, device: &Path) -> Result<u64>
     ensures { Does result run.new (inherited S.accesses (address_part S.accesses) name device.now) run.old }
 {
-    match run.world.nearest(alloc, Sought::Parent(name), device)? {
+    match run.world.nearest(Sought::Parent(name), device)? {
         None => Ok(0),
         Some(scope) => {
-            let object = scope.child(alloc, name)?;
-            ask_integer(alloc, run, CALLS_OF_AN_ADDRESS, &object)
+            let object = scope.child(run.world.alloc, name)?;
+            ask_integer(run, CALLS_OF_AN_ADDRESS, &object)
         }
     }
 }
 
 /// The bus behind bridges that stand one below another, the outermost of them on a bus of a segment group.
 fn bus_behind_all<S: Space>(
-    alloc: Global,
     run: &mut Running<S>,
     segment: u64,
     bus: u64,
     bridges: VecDeque<Path>,
-) -> Result<u64, Refusal>
+) -> Result<u64>
     ensures { Does result run.new (bus_behind_all S.accesses (address_part S.accesses)
         segment bus bridges.items) run.old }
 {
     let mut left = bridges;
     let mut behind = bus;
     while let Some(bridge) = left.pop_front() {
-        behind = bus_behind(alloc, run, segment, behind, &bridge)?;
+        behind = bus_behind(run, segment, behind, &bridge)?;
     }
     Ok(behind)
 }
 
 /// The bus behind one bridge: its address is asked for, and its secondary bus is read.
 #[tactic(auto, using(aml_meaning::proofs::Runs::running), unfolding(aml_meaning::specs::Fields::bus_behind))]
-fn bus_behind<S: Space>(
-    alloc: Global,
-    run: &mut Running<S>,
-    segment: u64,
-    bus: u64,
-    bridge: &Path,
-) -> Result<u64, Refusal>
+fn bus_behind<S: Space>(run: &mut Running<S>, segment: u64, bus: u64, bridge: &Path) -> Result<u64>
     ensures { Does result run.new (bus_behind S.accesses (address_part S.accesses) segment bus bridge.now) run.old }
 {
-    let object = bridge.child(alloc, adr())?;
-    let address = ask_integer(alloc, run, CALLS_OF_AN_ADDRESS, &object)?;
+    let object = bridge.child(run.world.alloc, adr())?;
+    let address = ask_integer(run, CALLS_OF_AN_ADDRESS, &object)?;
     run.world.secondary_bus(segment, bus, address)
 }
 
 /// A segment group and a bus, where both are in range.
-fn bus_numbered(segment: u64, bus: u64) -> Result<PciBus, Refusal>
+fn bus_numbered(segment: u64, bus: u64) -> Result<PciBus>
     ensures answer { Answers result (bus_numbered segment bus) }
     ensures memory { NotMemory result }
 {

@@ -23,7 +23,7 @@ use aml_interp::answer;
 use aml_meaning::Datum;
 use aml_objects::Octets;
 use aml_path::{Path, Seg};
-use ar_space::{MachineFault, Refusal, Space};
+use ar_space::{MachineFault, Refusal, Result, Space};
 use ar_tables::Mode;
 use std::alloc::Global;
 
@@ -41,7 +41,7 @@ impl<S: Space> Machine<S> {
     /// machine.initialize(alloc, Mode::Apic)?;
     /// ```
     #[tactic(auto, using(crate::proofs::Noticed::spending), unfolding(crate::specs::Calls::initialized))]
-    pub fn initialize(&mut self, alloc: Global, mode: Mode) -> Result<(), Refusal>
+    pub fn initialize(&mut self, alloc: Global, mode: Mode) -> Result<()>
         ensures answer { Does result self.new (initialized S.accesses mode) self.old }
         ensures memory { IfErr result (λ refusal. refusal ≡ OutOfMemory → self.new.spent ≡ true) }
         ensures spent { self.old.spent ≡ true → (result ≡ Err (refusals.Machine Spent)) × (self.new ≡ self.old) }
@@ -70,7 +70,7 @@ impl<S: Space> Machine<S> {
         alloc: Global,
         path: &Path,
         arguments: Vec<Datum>,
-    ) -> Result<Datum, Refusal>
+    ) -> Result<Datum>
         ensures answer { Does (seen given_of result) self.new (evaluated_object S.accesses path.now
             (map given_of arguments.items)) self.old }
         ensures memory { IfErr result (λ refusal. refusal ≡ OutOfMemory → self.new.spent ≡ true) }
@@ -88,7 +88,7 @@ impl<S: Space> Machine<S> {
     /// `ObjectLimit`. `Spent` where an earlier call ran out of memory. Where it is refused nothing changes. It takes
     /// no memory.
     #[tactic(auto, using(crate::proofs::Noticed::spending), unfolding(crate::specs::Calls::osi_set))]
-    pub fn set_osi(&mut self, texts: Vec<Octets>) -> Result<(), Refusal>
+    pub fn set_osi(&mut self, texts: Vec<Octets>) -> Result<()>
         ensures answer { Does result self.new (osi_set texts.items) self.old }
         ensures memory { NotMemory result }
     {
@@ -99,7 +99,7 @@ impl<S: Space> Machine<S> {
     }
 
     #[tactic(auto, using(ar_space::proofs::Changes::changing), unfolding(crate::specs::Calls::few_texts_kept))]
-    fn set_texts_if_few(&mut self, texts: Vec<Octets>) -> Result<(), Refusal>
+    fn set_texts_if_few(&mut self, texts: Vec<Octets>) -> Result<()>
         ensures answer { Does result self.new (few_texts_kept texts.items) self.old }
         ensures memory { NotMemory result }
     {
@@ -108,7 +108,7 @@ impl<S: Space> Machine<S> {
     }
 
     #[tactic(auto, unfolding(crate::specs::Calls::texts_kept))]
-    fn set_texts(&mut self, texts: Vec<Octets>) -> Result<(), Refusal>
+    fn set_texts(&mut self, texts: Vec<Octets>) -> Result<()>
         ensures answer { Does result self.new (texts_kept texts.items) self.old }
         ensures memory { NotMemory result }
     {
@@ -117,7 +117,7 @@ impl<S: Space> Machine<S> {
     }
 
     #[tactic(auto, using(crate::proofs::Noticed::noticing))]
-    fn initialize_noticed(&mut self, alloc: Global, mode: Mode) -> Result<(), Refusal>
+    fn initialize_noticed(&mut self, alloc: Global, mode: Mode) -> Result<()>
         ensures answer { Does result self.new (started S.accesses mode) self.old }
         ensures memory { IfErr result (λ refusal. refusal ≡ OutOfMemory → self.new.spent ≡ true) }
     {
@@ -127,12 +127,7 @@ impl<S: Space> Machine<S> {
     }
 
     #[tactic(auto, using(crate::proofs::Noticed::noticing))]
-    fn answer_noticed(
-        &mut self,
-        alloc: Global,
-        path: &Path,
-        arguments: Vec<Datum>,
-    ) -> Result<Datum, Refusal>
+    fn answer_noticed(&mut self, alloc: Global, path: &Path, arguments: Vec<Datum>) -> Result<Datum>
         ensures answer { Does (seen given_of result) self.new (object_answered S.accesses path.now
             (map given_of arguments.items)) self.old }
         ensures memory { IfErr result (λ refusal. refusal ≡ OutOfMemory → self.new.spent ≡ true) }
@@ -143,7 +138,7 @@ impl<S: Space> Machine<S> {
     }
 
     /// The machine is spent from now on where a call ran out of memory.
-    pub(crate) fn notice<A>(&mut self, outcome: &Result<A, Refusal>)
+    pub(crate) fn notice<A>(&mut self, outcome: &Result<A>)
         ensures { self.new ≡ noticed outcome.now self.old }
     {
         if ran_out(outcome) {
@@ -152,7 +147,7 @@ impl<S: Space> Machine<S> {
     }
 
     #[tactic(auto, unfolding(crate::specs::Calls::started))]
-    fn set_mode_and_call(&mut self, alloc: Global, mode: Mode) -> Result<(), Refusal>
+    fn set_mode_and_call(&mut self, alloc: Global, mode: Mode) -> Result<()>
         ensures { Does result self.new (started S.accesses mode) self.old }
     {
         self.mode = mode;
@@ -160,7 +155,7 @@ impl<S: Space> Machine<S> {
     }
 
     #[tactic(auto, using(ar_space::proofs::Changes::changing), unfolding(crate::specs::Calls::initial_calls))]
-    fn call_methods(&mut self, alloc: Global, mode: Mode) -> Result<(), Refusal>
+    fn call_methods(&mut self, alloc: Global, mode: Mode) -> Result<()>
         ensures { Does result self.new (initial_calls S.accesses mode) self.old }
     {
         let root_ini = at_root(alloc, *b"_INI")?;
@@ -178,7 +173,7 @@ impl<S: Space> Machine<S> {
         alloc: Global,
         path: &Path,
         arguments: Vec<Datum>,
-    ) -> Result<(), Refusal>
+    ) -> Result<()>
         ensures { Does result self.new (called_where_it_stands S.accesses path.now
             (map given_of arguments.items)) self.old }
     {
@@ -191,41 +186,31 @@ impl<S: Space> Machine<S> {
 
     /// Calls what stands at a path. A refusal may be passed over in the wide profile.
     #[tactic(auto, using(crate::proofs::Passing::passing))]
-    fn call_passing(
-        &mut self,
-        alloc: Global,
-        path: &Path,
-        arguments: Vec<Datum>,
-    ) -> Result<(), Refusal>
+    fn call_passing(&mut self, alloc: Global, path: &Path, arguments: Vec<Datum>) -> Result<()>
         ensures { Does result self.new (call_passing path.now (object_called S.accesses path.now
             (map given_of arguments.items))) self.old }
     {
         match self.call(alloc, path, arguments) {
             Ok(()) => Ok(()),
-            Err(refusal) => self.pass_call_over(alloc, path, refusal),
+            Err(refusal) => self.pass_call_over(path, refusal),
         }
     }
 
     /// Passes over the refusal of a call at a path, as initializing does in the wide profile: it is noted. In the core
     /// profile, and where it isn't such a refusal as loading goes on behind, it is handed back, and nothing changes.
     #[tactic(auto, using(crate::proofs::Passing::passing))]
-    pub fn pass_call_over(
-        &mut self,
-        alloc: Global,
-        path: &Path,
-        refusal: Refusal,
-    ) -> Result<(), Refusal>
+    pub fn pass_call_over(&mut self, path: &Path, refusal: Refusal) -> Result<()>
         ensures { Does result self.new (refused_call path.now refusal) self.old }
     {
         if self.profile().is_wide() {
-            self.world.pass_over(alloc, path, refusal)
+            self.world.pass_over(path, refusal)
         } else {
             Err(refusal)
         }
     }
 
     #[tactic(auto, using(ar_space::proofs::Changes::changing), unfolding(crate::specs::Calls::object_called))]
-    fn call(&mut self, alloc: Global, path: &Path, arguments: Vec<Datum>) -> Result<(), Refusal>
+    fn call(&mut self, alloc: Global, path: &Path, arguments: Vec<Datum>) -> Result<()>
         ensures { Does result self.new (object_called S.accesses path.now (map given_of arguments.items)) self.old }
     {
         self.answer(alloc, path, arguments)?;
@@ -240,12 +225,7 @@ impl<S: Space> Machine<S> {
     }
 
     #[tactic(auto, using(crate::proofs::Noticed::worlds))]
-    fn answer(
-        &mut self,
-        alloc: Global,
-        path: &Path,
-        arguments: Vec<Datum>,
-    ) -> Result<Datum, Refusal>
+    fn answer(&mut self, alloc: Global, path: &Path, arguments: Vec<Datum>) -> Result<Datum>
         ensures { Does (seen given_of result) self.new (object_answered S.accesses path.now
             (map given_of arguments.items)) self.old }
     {
@@ -253,14 +233,14 @@ impl<S: Space> Machine<S> {
     }
 }
 
-fn ran_out<A>(outcome: &Result<A, Refusal>) -> bool
+fn ran_out<A>(outcome: &Result<A>) -> bool
     ensures { result ≡ ran_out outcome.now }
 {
     matches!(outcome, Err(Refusal::OutOfMemory))
 }
 
 #[tactic(auto, using(ar_space::proofs::Outcomes::answering), unfolding(crate::specs::FixedPaths::at_root))]
-fn at_root(alloc: Global, name: [u8; 4]) -> Result<Path, Refusal>
+fn at_root(alloc: Global, name: [u8; 4]) -> Result<Path>
     ensures { Answers result (at_root name) }
 {
     let segment = segment(name)?;
@@ -268,7 +248,7 @@ fn at_root(alloc: Global, name: [u8; 4]) -> Result<Path, Refusal>
 }
 
 #[tactic(auto, using(ar_space::proofs::Outcomes::answering), unfolding(crate::specs::FixedPaths::below_root))]
-fn below_root(alloc: Global, parent: [u8; 4], name: [u8; 4]) -> Result<Path, Refusal>
+fn below_root(alloc: Global, parent: [u8; 4], name: [u8; 4]) -> Result<Path>
     ensures { Answers result (below_root parent name) }
 {
     let above = segment(parent)?;
@@ -276,25 +256,25 @@ fn below_root(alloc: Global, parent: [u8; 4], name: [u8; 4]) -> Result<Path, Ref
     path_of_two(alloc, above, segment)
 }
 
-fn segment(name: [u8; 4]) -> Result<Seg, Refusal>
+fn segment(name: [u8; 4]) -> Result<Seg>
     ensures { Answers result (seg_of name) }
 {
     Seg::new(name)
 }
 
-fn path_of_one(alloc: Global, segment: Seg) -> Result<Path, Refusal>
+fn path_of_one(alloc: Global, segment: Seg) -> Result<Path>
     ensures { Answers result (Ok (segment ∷ [])) }
 {
     Path::root(alloc).child(alloc, segment)
 }
 
-fn path_of_two(alloc: Global, above: Seg, segment: Seg) -> Result<Path, Refusal>
+fn path_of_two(alloc: Global, above: Seg, segment: Seg) -> Result<Path>
     ensures { Answers result (Ok (above ∷ segment ∷ [])) }
 {
     Ok(Path::from_vec(Vec::from_slice(alloc, &[above, segment])?))
 }
 
-fn one_integer(alloc: Global, number: u64) -> Result<Vec<Datum>, Refusal>
+fn one_integer(alloc: Global, number: u64) -> Result<Vec<Datum>>
     ensures { Answers (seen (λ list. list.items) result) (Ok (datum.Integer number ∷ [])) }
 {
     let mut list = Vec::new(alloc);

@@ -10,12 +10,12 @@ ghost use Rattle.acpi_machine.specs.Children.{stands, has_child, some_answer, an
 use crate::machine::Machine;
 use aml_meaning::Datum;
 use aml_path::{Path, Seg};
-use ar_space::{Refusal, Space};
+use ar_space::{Result, Space};
 use std::alloc::Global;
 
 impl<S: Space> Machine<S> {
     /// Whether a name stands one level below a path. Refused only as `OutOfMemory`.
-    pub fn has_child(&self, alloc: Global, parent: &Path, name: Seg) -> Result<bool, Refusal>
+    pub fn has_child(&self, alloc: Global, parent: &Path, name: Seg) -> Result<bool>
         ensures value { Answers result (Ok (has_child parent.now name self.now)) }
         ensures memory { IfErr result (λ refusal. refusal ≡ OutOfMemory) }
     {
@@ -39,7 +39,7 @@ impl<S: Space> Machine<S> {
         parent: &Path,
         name: Seg,
         arguments: Vec<Datum>,
-    ) -> Result<Option<Datum>, Refusal>
+    ) -> Result<Option<Datum>>
         ensures answer { Does (seen (option_map given_of) result) self.new (child_evaluated S.accesses parent.now name
             (map given_of arguments.items)) self.old }
         ensures evaluated { AllOrNone (child_evaluated S.accesses parent.now name
@@ -56,7 +56,7 @@ impl<S: Space> Machine<S> {
         alloc: Global,
         path: &Path,
         arguments: Vec<Datum>,
-    ) -> Result<Option<Datum>, Refusal>
+    ) -> Result<Option<Datum>>
         ensures answer { Does (seen (option_map given_of) result) self.new (answer_if_any S.accesses path.now
             (map given_of arguments.items)) self.old }
         ensures evaluated { AllOrNone (answer_if_any S.accesses path.now
@@ -76,7 +76,7 @@ impl<S: Space> Machine<S> {
         alloc: Global,
         path: &Path,
         arguments: Vec<Datum>,
-    ) -> Result<Option<Datum>, Refusal>
+    ) -> Result<Option<Datum>>
         ensures answer { Does (seen (option_map given_of) result) self.new (some_answer S.accesses path.now
             (map given_of arguments.items)) self.old }
         ensures evaluated { AllOrNone (some_answer S.accesses path.now

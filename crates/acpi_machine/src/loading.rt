@@ -12,7 +12,7 @@ use crate::machine::Machine;
 use aml_interp::load;
 use aml_meaning::{EvaluationSettings, PassedOver, Profile, Trace, World};
 use aml_objects::Octets;
-use ar_space::{EvaluationFault, MAX_TEXTS, Refusal, Space};
+use ar_space::{EvaluationFault, MAX_TEXTS, Refusal, Result, Space};
 use ar_tables::{Mode, Table, Tables};
 use std::alloc::Global;
 
@@ -127,7 +127,7 @@ pub fn load_tables_traced<S: Space>(
 }
 
 /// `_OSI` may know so many texts; more are refused as `ObjectLimit`.
-pub(crate) fn few_texts(texts: &[Octets]) -> Result<(), Refusal>
+pub(crate) fn few_texts(texts: &[Octets]) -> Result<()>
     ensures value { Answers result (few_texts texts.now) }
     ensures memory { NotMemory result }
 {
@@ -145,7 +145,7 @@ fn load_all<S: Space>(
     world: &mut World<S>,
     tables: &Tables,
     steps: u64,
-) -> Result<(), Refusal>
+) -> Result<()>
     ensures { Does result world.new (all_loaded S.accesses tables.now steps) world.old }
 {
     load_table(alloc, world, &tables.dsdt, steps)?;
@@ -159,7 +159,7 @@ fn load_each<S: Space>(
     world: &mut World<S>,
     tables: &[Table],
     steps: u64,
-) -> Result<(), Refusal>
+) -> Result<()>
     ensures { Does result world.new (each_loaded S.accesses steps tables.now) world.old }
 {
     for table in tables {
@@ -176,7 +176,7 @@ pub fn load_table<S: Space>(
     world: &mut World<S>,
     table: &Table,
     steps: u64,
-) -> Result<(), Refusal>
+) -> Result<()>
     ensures { Does result world.new (table_loaded S.accesses steps table.now) world.old }
 {
     load(alloc, world, table.body(), steps)

@@ -8,7 +8,7 @@ use crate::kind::{Kind, kind_of};
 use crate::machine::Machine;
 use aml_namespace::Names;
 use aml_path::Path;
-use ar_space::{Refusal, Space};
+use ar_space::{Result, Space};
 use std::alloc::Global;
 
 impl<S: Space> Machine<S> {
@@ -21,7 +21,7 @@ impl<S: Space> Machine<S> {
 
     /// All names but the root, in path order, and what stands there. An alias is shown, and not followed.
     #[tactic(auto, unfolding(crate::specs::Kinds::kinds_walked))]
-    pub fn walk_namespace(&self, alloc: Global) -> Result<Vec<(Path, Kind<'_>)>, Refusal>
+    pub fn walk_namespace(&self, alloc: Global) -> Result<Vec<(Path, Kind<'_>)>>
         ensures { Answers (seen (λ list. map (λ node. (node.0, kind_seen node.1)) list.items) result)
             (Ok (kinds_walked self.now.world.names.map)) }
     {
@@ -41,11 +41,7 @@ fn kind_at<'a>(names: &'a Names, path: &Path) -> Option<Kind<'a>>
 }
 
 /// What stands at each of some paths where something does.
-fn with_kinds(
-    alloc: Global,
-    names: &Names,
-    paths: Vec<Path>,
-) -> Result<Vec<(Path, Kind<'_>)>, Refusal>
+fn with_kinds(alloc: Global, names: &Names, paths: Vec<Path>) -> Result<Vec<(Path, Kind<'_>)>>
     ensures { Answers (seen (λ list. map (λ node. (node.0, kind_seen node.1)) list.items) result)
         (Ok (filter_map (with_kind names.now.map) paths.items)) }
 {

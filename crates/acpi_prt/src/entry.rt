@@ -6,7 +6,7 @@ ghost use Rattle.acpi_prt.specs.Entries.{word_of, fits_word, pin_tested, source_
 ghost use Rattle.acpi_prt.specs.Entries.{entries_of};
 
 use aml_meaning::Datum;
-use ar_space::{Refusal, RoutingTableFault};
+use ar_space::{Refusal, Result, RoutingTableFault};
 
 pub(crate) const NOT_PACKAGE: Refusal = Refusal::RoutingTable(RoutingTableFault::NotPackage);
 
@@ -14,7 +14,7 @@ pub(crate) const BAD_ENTRY: Refusal = Refusal::RoutingTable(RoutingTableFault::B
 
 /// The entries of a routing table, which is a package: else `NotPackage`.
 #[tactic(auto, using(crate::proofs::Rows::rows))]
-pub(crate) fn entries_of(table: &Datum) -> Result<&[Datum], Refusal>
+pub(crate) fn entries_of(table: &Datum) -> Result<&[Datum]>
     ensures { Answers (seen (λ list. map given_of list.now) result) (entries_of (given_of table.now)) }
 {
     match table {
@@ -24,7 +24,7 @@ pub(crate) fn entries_of(table: &Datum) -> Result<&[Datum], Refusal>
 }
 
 /// An integer of at most 32 bits: else `BadEntry`.
-pub(crate) fn word_of(part: &Datum) -> Result<u32, Refusal>
+pub(crate) fn word_of(part: &Datum) -> Result<u32>
     ensures { Answers result (word_of (given_of part.now)) }
 {
     match part {
@@ -33,7 +33,7 @@ pub(crate) fn word_of(part: &Datum) -> Result<u32, Refusal>
     }
 }
 
-fn fits_word(number: u64) -> Result<u32, Refusal>
+fn fits_word(number: u64) -> Result<u32>
     ensures { Answers result (fits_word number) }
 {
     if number < 0x1_0000_0000 {
@@ -44,7 +44,7 @@ fn fits_word(number: u64) -> Result<u32, Refusal>
 }
 
 /// A source is a name, or the integer 0: else `BadEntry`.
-pub(crate) fn source_tested(part: &Datum) -> Result<(), Refusal>
+pub(crate) fn source_tested(part: &Datum) -> Result<()>
     ensures { Answers result (source_tested (given_of part.now)) }
 {
     match part {
@@ -55,7 +55,7 @@ pub(crate) fn source_tested(part: &Datum) -> Result<(), Refusal>
 }
 
 /// A pin is 0 to 3, for A to D: else `BadPin`.
-pub(crate) fn pin_tested(pin: u32) -> Result<u8, Refusal>
+pub(crate) fn pin_tested(pin: u32) -> Result<u8>
     ensures { Answers result (pin_tested pin) }
 {
     if pin > 3 {
@@ -66,7 +66,7 @@ pub(crate) fn pin_tested(pin: u32) -> Result<u8, Refusal>
 }
 
 /// The source index at a link device is 0: else `SourceIndex`.
-pub(crate) fn no_index(index: u32) -> Result<(), Refusal>
+pub(crate) fn no_index(index: u32) -> Result<()>
     ensures { Answers result (no_index index) }
 {
     if index == 0 {

@@ -5,7 +5,7 @@ ghost use Rattle.acpi_prt.specs.FirstPins.{place_of};
 ghost use Rattle.acpi_prt.specs.Pins.{taken, taken_new};
 
 use crate::pin::Pin;
-use ar_space::Refusal;
+use ar_space::Result;
 use std::alloc::Global;
 use std::collections::BTreeSet;
 use std::marker::Model;
@@ -58,7 +58,7 @@ impl FirstPins {
     }
 
     /// A pin more, unless it is none, or one of the same device number and pin stands already.
-    pub(crate) fn take(self, pin: Option<Pin>) -> Result<FirstPins, Refusal>
+    pub(crate) fn take(self, pin: Option<Pin>) -> Result<FirstPins>
         ensures { Answers result (Ok (taken self pin)) }
     {
         match pin {
@@ -67,7 +67,7 @@ impl FirstPins {
         }
     }
 
-    fn take_new(self, pin: Pin) -> Result<FirstPins, Refusal>
+    fn take_new(self, pin: Pin) -> Result<FirstPins>
         ensures { Answers result (Ok (taken_new self pin)) }
     {
         let FirstPins {

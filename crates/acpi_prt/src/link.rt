@@ -13,7 +13,7 @@ ghost use Rattle.acpi_prt.specs.Links.{device_at, id_at, is_link_id, link_id_or_
 use acpi_machine::{Kind, Machine, Profile};
 use aml_meaning::Datum;
 use aml_path::{Path, Seg};
-use ar_space::{Refusal, RoutingTableFault, Space};
+use ar_space::{Refusal, Result, RoutingTableFault, Space};
 use std::alloc::Global;
 
 const NOT_A_LINK: Refusal = Refusal::RoutingTable(RoutingTableFault::NotALink);
@@ -27,7 +27,7 @@ pub(crate) fn link_at<S: Space>(
     alloc: Global,
     machine: &mut Machine<S>,
     path: &Path,
-) -> Result<Path, Refusal>
+) -> Result<Path>
     ensures value { Does result machine.new (link_at S.accesses path.now) machine.old }
     ensures evaluated { AllOrNone (link_at S.accesses path.now) machine.old machine.new }
 {
@@ -41,14 +41,14 @@ pub(crate) fn link_at<S: Space>(
 
 /// The path of the device that stands at a path, or that an alias there leads to.
 #[tactic(auto, unfolding(crate::specs::Links::device_at))]
-fn device_at<S: Space>(alloc: Global, machine: &Machine<S>, path: &Path) -> Result<Path, Refusal>
+fn device_at<S: Space>(alloc: Global, machine: &Machine<S>, path: &Path) -> Result<Path>
     ensures { Does result machine.now (device_at path.now) machine.now }
 {
     device_in(alloc, machine, path)
 }
 
 #[tactic(auto, using(ar_space::proofs::Outcomes::answering), unfolding(crate::specs::Finding::device_in))]
-fn device_in<S: Space>(alloc: Global, machine: &Machine<S>, path: &Path) -> Result<Path, Refusal>
+fn device_in<S: Space>(alloc: Global, machine: &Machine<S>, path: &Path) -> Result<Path>
     ensures { Answers result (device_in machine.now.world.names.map path.now) }
 {
     let found = followed(alloc, machine, path)?;
@@ -56,7 +56,7 @@ fn device_in<S: Space>(alloc: Global, machine: &Machine<S>, path: &Path) -> Resu
     Ok(found)
 }
 
-fn device_or_not(kind: Option<Kind<'_>>) -> Result<(), Refusal>
+fn device_or_not(kind: Option<Kind<'_>>) -> Result<()>
     ensures { Answers result (device_or_not (option_map kind_seen kind.entry)) }
 {
     match kind {
@@ -68,14 +68,14 @@ fn device_or_not(kind: Option<Kind<'_>>) -> Result<(), Refusal>
 /// The path of the name that holds an integer or a string and stands at a path, or that an alias there leads to; in
 /// the wide profile also that of a control method.
 #[tactic(auto, unfolding(crate::specs::Links::id_at))]
-fn id_at<S: Space>(alloc: Global, machine: &Machine<S>, path: &Path) -> Result<Path, Refusal>
+fn id_at<S: Space>(alloc: Global, machine: &Machine<S>, path: &Path) -> Result<Path>
     ensures { Does result machine.now (id_at path.now) machine.now }
 {
     id_in(alloc, machine, path)
 }
 
 #[tactic(auto, using(ar_space::proofs::Outcomes::answering), unfolding(crate::specs::Finding::id_in))]
-fn id_in<S: Space>(alloc: Global, machine: &Machine<S>, path: &Path) -> Result<Path, Refusal>
+fn id_in<S: Space>(alloc: Global, machine: &Machine<S>, path: &Path) -> Result<Path>
     ensures { Answers result (id_in machine.now.world.profile machine.now.world.names.map path.now) }
 {
     let found = followed(alloc, machine, path)?;
@@ -83,7 +83,7 @@ fn id_in<S: Space>(alloc: Global, machine: &Machine<S>, path: &Path) -> Result<P
     Ok(found)
 }
 
-fn id_or_not(profile: Profile, kind: Option<Kind<'_>>) -> Result<(), Refusal>
+fn id_or_not(profile: Profile, kind: Option<Kind<'_>>) -> Result<()>
     ensures { Answers result (id_or_not profile (option_map kind_seen kind.entry)) }
 {
     match kind {
@@ -94,7 +94,7 @@ fn id_or_not(profile: Profile, kind: Option<Kind<'_>>) -> Result<(), Refusal>
     }
 }
 
-fn method_or_not(profile: Profile) -> Result<(), Refusal>
+fn method_or_not(profile: Profile) -> Result<()>
     ensures { Answers result (method_or_not profile) }
 {
     match profile {
@@ -104,7 +104,7 @@ fn method_or_not(profile: Profile) -> Result<(), Refusal>
 }
 
 /// The target of the alias at a path, or the path itself where no alias stands.
-fn followed<S: Space>(alloc: Global, machine: &Machine<S>, path: &Path) -> Result<Path, Refusal>
+fn followed<S: Space>(alloc: Global, machine: &Machine<S>, path: &Path) -> Result<Path>
     ensures { Answers result (Ok (followed machine.now.world.names.map path.now)) }
 {
     match machine.find_node(path) {
@@ -125,7 +125,7 @@ fn is_link_id(id: &Datum) -> bool
 }
 
 /// Refuses any other hardware id as `NotALink`.
-fn link_id_or_not(id: &Datum) -> Result<(), Refusal>
+fn link_id_or_not(id: &Datum) -> Result<()>
     ensures { Answers result (link_id_or_not (given_of id.now)) }
 {
     if is_link_id(id) {
@@ -138,14 +138,14 @@ fn link_id_or_not(id: &Datum) -> Result<(), Refusal>
 /// The path of a name of four characters one level below another, or `BadName` where the characters are no name
 /// segment.
 #[tactic(auto, using(ar_space::proofs::Outcomes::answering), unfolding(crate::specs::Children::child_named))]
-pub fn child_named(alloc: Global, path: &Path, name: [u8; 4]) -> Result<Path, Refusal>
+pub fn child_named(alloc: Global, path: &Path, name: [u8; 4]) -> Result<Path>
     ensures { Answers result (child_named path.now name) }
 {
     let segment = segment(name)?;
     path.child(alloc, segment)
 }
 
-fn segment(name: [u8; 4]) -> Result<Seg, Refusal>
+fn segment(name: [u8; 4]) -> Result<Seg>
     ensures { Answers result (seg_of name) }
 {
     Seg::new(name)

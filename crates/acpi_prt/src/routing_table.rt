@@ -17,7 +17,7 @@ use crate::pin::{Pin, Route};
 use acpi_machine::{Machine, prt};
 use aml_meaning::Datum;
 use aml_path::Path;
-use ar_space::{Refusal, Space};
+use ar_space::{Result, Space};
 use std::alloc::Global;
 
 /// The pins that the routing table below a device names, in its order: what `_PRT` answers, entry by entry. The first
@@ -36,7 +36,7 @@ pub fn get_irq_routing_table<S: Space>(
     alloc: Global,
     machine: &mut Machine<S>,
     device: &Path,
-) -> Result<Vec<Pin>, Refusal>
+) -> Result<Vec<Pin>>
     ensures value { Does (seen (λ pins. pins.items) result) machine.new
         (routing_table S.accesses device.now) machine.old }
     ensures evaluated { StopsInTable S.accesses device.now machine.old machine.new }
@@ -48,7 +48,7 @@ pub fn get_irq_routing_table<S: Space>(
 }
 
 /// The path of the routing table below a device.
-fn table_path(alloc: Global, device: &Path) -> Result<Path, Refusal>
+fn table_path(alloc: Global, device: &Path) -> Result<Path>
     ensures { Answers result (Ok (device.now ++ prt ∷ [])) }
 {
     device.child(alloc, prt())
@@ -59,7 +59,7 @@ fn pins_from<S: Space>(
     alloc: Global,
     machine: &mut Machine<S>,
     entries: &[Datum],
-) -> Result<Vec<Pin>, Refusal>
+) -> Result<Vec<Pin>>
     ensures value { Does (seen (λ pins. pins.items) result) machine.new
         (pins_from S.accesses (map given_of entries.now) []) machine.old }
     ensures evaluated { StopsInEntries S.accesses (map given_of entries.now) machine.old machine.new }
@@ -74,11 +74,7 @@ fn pins_from<S: Space>(
 
 /// The pin of an entry; none of one that was left out.
 #[tactic(auto, using(ar_space::proofs::Changes::changing, acpi_machine::proofs::Stopping::making, crate::proofs::Rows::rows))]
-fn pin_of<S: Space>(
-    alloc: Global,
-    machine: &mut Machine<S>,
-    entry: &Datum,
-) -> Result<Option<Pin>, Refusal>
+fn pin_of<S: Space>(alloc: Global, machine: &mut Machine<S>, entry: &Datum) -> Result<Option<Pin>>
     ensures value { Does result machine.new (pin_of S.accesses (given_of entry.now)) machine.old }
     ensures evaluated { AllOrNone (pin_of S.accesses (given_of entry.now)) machine.old machine.new }
 {
@@ -95,7 +91,7 @@ fn pin_among<S: Space>(
     alloc: Global,
     machine: &mut Machine<S>,
     parts: &[Datum],
-) -> Result<Option<Pin>, Refusal>
+) -> Result<Option<Pin>>
     ensures value { Does result machine.new (pin_among S.accesses (map given_of parts.now)) machine.old }
     ensures evaluated { AllOrNone (pin_among S.accesses (map given_of parts.now)) machine.old machine.new }
 {
@@ -114,7 +110,7 @@ fn pin_with<S: Space>(
     pin: &Datum,
     source: &Datum,
     index: &Datum,
-) -> Result<Option<Pin>, Refusal>
+) -> Result<Option<Pin>>
     ensures value { Does result machine.new (pin_with S.accesses (given_of address.now) (given_of pin.now)
         (given_of source.now) (given_of index.now)) machine.old }
     ensures evaluated { AllOrNone (pin_with S.accesses (given_of address.now) (given_of pin.now) (given_of source.now)
@@ -140,7 +136,7 @@ fn route_of<S: Space>(
     machine: &mut Machine<S>,
     source: &Datum,
     index: u32,
-) -> Result<Route, Refusal>
+) -> Result<Route>
     ensures value { Does result machine.new (route_of S.accesses (given_of source.now) index) machine.old }
     ensures evaluated { AllOrNone (route_of S.accesses (given_of source.now) index) machine.old machine.new }
 {
@@ -161,7 +157,7 @@ fn linked<S: Space>(
     machine: &mut Machine<S>,
     path: &Path,
     index: u32,
-) -> Result<Route, Refusal>
+) -> Result<Route>
     ensures value { Does result machine.new (linked S.accesses path.now index) machine.old }
     ensures evaluated { AllOrNone (linked S.accesses path.now index) machine.old machine.new }
 {

@@ -5,7 +5,7 @@ ghost use Rattle.acpi_resources.specs.Current.{current_of};
 use crate::descriptor::Descriptor;
 use crate::interrupt_numbers::InterruptNumbers;
 use crate::item::Items;
-use ar_space::{Refusal, ResourceFault};
+use ar_space::{Refusal, ResourceFault, Result};
 use std::alloc::Global;
 use std::collections::BTreeSet;
 
@@ -15,7 +15,7 @@ use std::collections::BTreeSet;
 /// that ends past the bytes, or bytes that end where an item should begin; `Descriptor` an Extended Interrupt
 /// descriptor too short for its count. `OutOfMemory` where memory runs out.
 #[tactic(auto, using(ar_space::proofs::Outcomes::answering))]
-pub fn current(alloc: Global, bytes: &[u8]) -> Result<InterruptNumbers, Refusal>
+pub fn current(alloc: Global, bytes: &[u8]) -> Result<InterruptNumbers>
     ensures { Answers result (current_of bytes.now) }
 {
     let mut numbers = BTreeSet::new(alloc);

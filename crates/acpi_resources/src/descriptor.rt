@@ -5,7 +5,7 @@ ghost use Rattle.acpi_resources.specs.Descriptors.{descriptor_of, extended_inter
 use crate::flags::IrqFlags;
 use crate::interrupts::{Interrupts, Listed, NUMBER_BYTES};
 use crate::item::Item;
-use ar_space::{Refusal, ResourceFault};
+use ar_space::{Refusal, ResourceFault, Result};
 use bitflags::Flags;
 use byteorder::{ByteOrder, LittleEndian};
 
@@ -40,7 +40,7 @@ impl<'a> Descriptor<'a> {
     /// What an item means. It refuses `ResourceFault::Descriptor` where an Extended Interrupt descriptor is too short
     /// for its own count.
     #[tactic(auto, unfolding(crate::specs::Descriptors::descriptor_of))]
-    pub(crate) fn of(item: &Item<'a>) -> Result<Descriptor<'a>, Refusal>
+    pub(crate) fn of(item: &Item<'a>) -> Result<Descriptor<'a>>
         ensures { result ≡ descriptor_of item.now }
     {
         let body = item.body;
@@ -71,7 +71,7 @@ fn irq(body: &[u8], flags: u8) -> Interrupts<'_>
 
 /// An Extended Interrupt descriptor (ACPI 6.5, 6.4.3.6): flags, a count, so many numbers, and the resource source.
 #[tactic(auto, unfolding(crate::specs::Descriptors::extended_interrupt_descriptor))]
-fn extended_interrupt(body: &[u8]) -> Result<Descriptor<'_>, Refusal>
+fn extended_interrupt(body: &[u8]) -> Result<Descriptor<'_>>
     ensures { result ≡ extended_interrupt_descriptor body.now }
 {
     let [flags, count, bytes @ ..] = body else {

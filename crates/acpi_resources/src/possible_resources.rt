@@ -7,7 +7,7 @@ use crate::exclusives::Exclusives;
 use crate::interrupts::Interrupts;
 use crate::item::Items;
 use crate::offer::Offer;
-use ar_space::{Refusal, ResourceFault};
+use ar_space::{Refusal, ResourceFault, Result};
 use std::alloc::Global;
 
 /// The offer of the one interrupt descriptor up to the end tag; bytes behind the end tag don't count.
@@ -18,7 +18,7 @@ use std::alloc::Global;
 /// `Several` a second interrupt descriptor; `Edge`, `Exclusive`, `Source` a resource source; `NoInterrupt` where no
 /// interrupt is listed. `NoInterrupt` also where the end tag comes with no interrupt descriptor. `OutOfMemory` where
 /// memory runs out.
-pub fn possible(alloc: Global, bytes: &[u8]) -> Result<Offer, Refusal>
+pub fn possible(alloc: Global, bytes: &[u8]) -> Result<Offer>
     ensures { Answers result (possible_of bytes.now) }
 {
     possible_as(alloc, Exclusives::Refused, bytes)
@@ -26,7 +26,7 @@ pub fn possible(alloc: Global, bytes: &[u8]) -> Result<Offer, Refusal>
 
 /// The same, where the caller says what becomes of exclusive offers. Where they are taken, `Exclusive` is not refused
 /// and all other tests are made in their order; the offer has the descriptor's flags as they are.
-pub fn possible_as(alloc: Global, exclusives: Exclusives, bytes: &[u8]) -> Result<Offer, Refusal>
+pub fn possible_as(alloc: Global, exclusives: Exclusives, bytes: &[u8]) -> Result<Offer>
     ensures { Answers result (possible_as exclusives bytes.now) }
 {
     let mut found = None;
@@ -56,7 +56,7 @@ fn only_offer(
     exclusives: Exclusives,
     found: &Option<Offer>,
     interrupts: &Interrupts<'_>,
-) -> Result<Offer, Refusal>
+) -> Result<Offer>
     ensures { Answers result (the_offer exclusives found.now interrupts.now) }
 {
     match found {
@@ -67,11 +67,7 @@ fn only_offer(
 
 /// The offer of one interrupt descriptor.
 #[tactic(auto, using(ar_space::proofs::Outcomes::answering), unfolding(crate::specs::Offers::offer_of))]
-fn offer_of_one(
-    alloc: Global,
-    exclusives: Exclusives,
-    interrupts: &Interrupts<'_>,
-) -> Result<Offer, Refusal>
+fn offer_of_one(alloc: Global, exclusives: Exclusives, interrupts: &Interrupts<'_>) -> Result<Offer>
     ensures { Answers result (offer_of exclusives interrupts.now) }
 {
     let flags = interrupts.flags;

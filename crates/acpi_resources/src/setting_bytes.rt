@@ -9,7 +9,7 @@ ghost use Rattle.acpi_resources.specs.Settings.{offer_of_one, setting_bytes, set
 use crate::descriptor::{END_TAG, EXTENDED_INTERRUPT, IRQ};
 use crate::form::Form;
 use crate::offer::Offer;
-use ar_space::Refusal;
+use ar_space::Result;
 use byteorder::{ByteOrder, LittleEndian};
 use std::alloc::{AllocError, Global};
 
@@ -18,7 +18,7 @@ use std::alloc::{AllocError, Global};
 /// the form, polarity and flags of the offer; read where exclusive offers are refused too, unless the offer is
 /// exclusive. It refuses only `OutOfMemory`.
 #[tactic(auto, using(crate::proofs::ReadsBack::reads_back))]
-pub fn setting(alloc: Global, offer: &Offer, n: u32) -> Result<Vec<u8>, Refusal>
+pub fn setting(alloc: Global, offer: &Offer, n: u32) -> Result<Vec<u8>>
     requires { Contains offer.now.numbers n }
     ensures bytes { Answers (seen (λ v. v.items) result) (Ok (setting_of offer.now n)) }
     ensures reads_back { (exclusives : Exclusives) → is_barred exclusives offer.now.form offer.now.flags ≡ false →

@@ -5,7 +5,7 @@ ghost use Rattle.acpiroute_c.specs.RecordCalls.{IsToldReply, code_of_unmade};
 use crate::call_access::Unmade;
 use acpiroute_lib::{Growing, Reply};
 use acpiroute_words::{Answer, deliver_outcome};
-use ar_space::Refusal;
+use ar_space::Result;
 use recorded_route::WantedAccess;
 use std::alloc::{AllocError, Global};
 
@@ -17,7 +17,7 @@ pub(crate) enum Said {
 }
 
 /// The reply to an outcome, as the program would write it.
-pub(crate) fn reply_to(alloc: Global, outcome: Result<Answer, Refusal>) -> Result<Reply, AllocError>
+pub(crate) fn reply_to(alloc: Global, outcome: Result<Answer>) -> Result<Reply, AllocError>
     ensures { IfOk result (λ r. IsToldReply outcome r) }
 {
     let mut output = Growing::new(alloc);

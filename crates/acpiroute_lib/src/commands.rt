@@ -10,7 +10,7 @@ use crate::names_command::names_answer;
 use crate::route_command::route_answer;
 use crate::why_command::{registers_answer, why_answer};
 use acpiroute_words::{Answer, Request, check_answer};
-use ar_space::Refusal;
+use ar_space::Result;
 use std::alloc::Global;
 
 /// The answer to a request over the whole input. A machine text is given up as soon as it is read, before any table
@@ -21,7 +21,7 @@ pub(crate) fn answer_request(
     request: Request,
     input: Vec<u8>,
     told: &mut Vec<u8>,
-) -> Result<Answer, Refusal>
+) -> Result<Answer>
     ensures answer { NotMemory result → IsAnswer request input.items result }
     ensures told { NotMemory result → told.new.items ≡ told.old.items ++ request_passed request input.items }
 {

@@ -13,7 +13,7 @@ use acpiroute_words::{Answer, Argument, ArgumentBytes, Arguments, Completion, Ev
 use aml_meaning::Datum;
 use aml_objects::Octets;
 use aml_path::Path;
-use ar_space::{PathText, Refusal};
+use ar_space::{PathText, Result};
 use route_report::Mode;
 use std::alloc::{AllocError, Global};
 
@@ -47,7 +47,7 @@ pub(crate) fn data(alloc: Global, arguments: &[Argument]) -> Result<Vec<Datum>, 
 }
 
 /// A value on a line of its own, as `eval` writes it.
-pub fn value_answer(alloc: Global, value: &Datum) -> Result<Answer, Refusal>
+pub fn value_answer(alloc: Global, value: &Datum) -> Result<Answer>
     ensures { Answers result (Ok (value_written (given.given_of value.now))) }
 {
     Ok(Answer {
@@ -63,7 +63,7 @@ fn evaluated_text(
     machine: &mut Machine<Registers>,
     path: &str,
     arguments: &[Argument],
-) -> Result<Answer, Refusal>
+) -> Result<Answer>
     ensures { Answers result (evaluated_text machine.old path.now arguments.now) }
 {
     let path = Path::from_text(alloc, path.as_bytes())?;
@@ -83,7 +83,7 @@ pub(crate) fn eval_answer(
     called: (&PathText, &Arguments),
     text: Vec<u8>,
     told: &mut Vec<u8>,
-) -> Result<Answer, Refusal>
+) -> Result<Answer>
     ensures answer { Answers result (eval_answer mode evaluation called.entry.0.now
         called.entry.1.now text.items) }
     ensures told { NotMemory result → told.new.items ≡ told.old.items ++

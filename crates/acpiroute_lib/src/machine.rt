@@ -12,7 +12,7 @@ ghost use Rattle.acpiroute_lib.specs.Machines.{initialized_machine, machine_of_t
 use acpi_machine::{Machine, Mode, load_tables_traced};
 use acpiroute_words::{Evaluation, put_passed_lines};
 use aml_objects::Octets;
-use ar_space::{Refusal, Sparse};
+use ar_space::{Result, Sparse};
 use ar_tables::Tables;
 use machine_description::describe;
 use machine_text::{MachineText, read_machine};
@@ -31,7 +31,7 @@ fn machine_with(
     space: Registers,
     osi: Vec<Octets>,
     told: &mut Vec<u8>,
-) -> Result<Machine<Registers>, Refusal>
+) -> Result<Machine<Registers>>
     ensures answer { Answers result (machine_with evaluation tables space osi.items) }
     ensures ready { OnOk result (told.new.items ≡ told.old.items) }
     ensures told { OnErr result (NotMemory result → told.new.items ≡ told.old.items ++
@@ -56,7 +56,7 @@ fn machine_with(
 }
 
 /// What a machine text says. The text is given up here: the memory that holds it is free before any table is loaded.
-fn machine_said(alloc: Global, text: Vec<u8>) -> Result<MachineText, Refusal>
+fn machine_said(alloc: Global, text: Vec<u8>) -> Result<MachineText>
     ensures { Answers result (machine_text text.items) }
 {
     read_machine(alloc, text.as_slice())
@@ -70,7 +70,7 @@ pub(crate) fn machine_of_text(
     evaluation: Evaluation,
     text: Vec<u8>,
     told: &mut Vec<u8>,
-) -> Result<Machine<Registers>, Refusal>
+) -> Result<Machine<Registers>>
     ensures answer { Answers result (machine_of_text evaluation text.items) }
     ensures ready { OnOk result (told.new.items ≡ told.old.items) }
     ensures told { OnErr result (NotMemory result → told.new.items ≡ told.old.items ++
@@ -88,7 +88,7 @@ fn initialize(
     mode: Mode,
     machine: &mut Machine<Registers>,
     told: &mut Vec<u8>,
-) -> Result<(), Refusal>
+) -> Result<()>
     ensures done { Does result machine.new (initialized register_accesses mode) machine.old }
     ensures told { NotMemory result → told.new.items ≡ told.old.items ++
         passed_lines (initialized register_accesses mode machine.old).1.world.passed }
@@ -104,7 +104,7 @@ fn initialized_machine(
     mode: Mode,
     machine: Machine<Registers>,
     told: &mut Vec<u8>,
-) -> Result<Machine<Registers>, Refusal>
+) -> Result<Machine<Registers>>
     ensures answer { Answers result (initialized_machine mode machine) }
     ensures told { NotMemory result → told.new.items ≡ told.old.items ++
         passed_lines (initialized register_accesses mode machine).1.world.passed }
@@ -129,7 +129,7 @@ pub(crate) fn machine_of_text_in(
     evaluation: Evaluation,
     text: Vec<u8>,
     told: &mut Vec<u8>,
-) -> Result<Machine<Registers>, Refusal>
+) -> Result<Machine<Registers>>
     ensures answer { Answers result (machine_of_text_in mode evaluation text.items) }
     ensures told { NotMemory result → told.new.items ≡ told.old.items ++
         passed_lines (run_passed mode evaluation text.items) }

@@ -9,7 +9,7 @@ use crate::machine::{Registers, machine_of_text};
 use crate::name_lines::name_lines;
 use acpi_machine::Machine;
 use acpiroute_words::{Answer, Completion, Evaluation, put_passed_lines};
-use ar_space::Refusal;
+use ar_space::Result;
 use std::alloc::Global;
 
 /// All names of a machine but the root, in path order, one a line. What was passed over is told.
@@ -17,7 +17,7 @@ fn names_of_machine(
     alloc: Global,
     machine: &Machine<Registers>,
     told: &mut Vec<u8>,
-) -> Result<Answer, Refusal>
+) -> Result<Answer>
     ensures answer { Answers result (Ok (names_of_machine machine.now)) }
     ensures told { NotMemory result → told.new.items ≡ told.old.items ++ passed_lines machine.now.world.passed }
 {
@@ -37,7 +37,7 @@ pub(crate) fn names_answer(
     evaluation: Evaluation,
     text: Vec<u8>,
     told: &mut Vec<u8>,
-) -> Result<Answer, Refusal>
+) -> Result<Answer>
     ensures answer { Answers result (names_answer evaluation text.items) }
     ensures told { NotMemory result → told.new.items ≡ told.old.items ++
         passed_lines (loading_passed evaluation text.items) }

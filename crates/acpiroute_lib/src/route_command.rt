@@ -12,7 +12,7 @@ use crate::machine::{Registers, machine_of_text_in};
 use acpi_configure::{Options, configure_with};
 use acpi_machine::Machine;
 use acpiroute_words::{Answer, Completion, Evaluation};
-use ar_space::Refusal;
+use ar_space::Result;
 use route_report::{Mode, Report, SetLine, SetOutcome, print};
 use std::alloc::Global;
 
@@ -44,7 +44,7 @@ fn is_refused(outcome: SetOutcome) -> bool
 }
 
 /// What `route` answers of a report: its text, and whether a setting was refused.
-pub fn report_answer(alloc: Global, report: &Report) -> Result<Answer, Refusal>
+pub fn report_answer(alloc: Global, report: &Report) -> Result<Answer>
     ensures text { Answers result (Ok (printed report.now)) }
     ensures read_back { IfOk result (λ w. IsReadable report.now →
         claim_of_text w.text ≡ Ok (claim_of_report report.now)) }
@@ -57,11 +57,7 @@ pub fn report_answer(alloc: Global, report: &Report) -> Result<Answer, Refusal>
 
 /// The report of a machine, whose links are set by these options.
 #[tactic(auto, using(crate::proofs::Routes::routing))]
-fn routed(
-    alloc: Global,
-    machine: &mut Machine<Registers>,
-    options: &Options<'_>,
-) -> Result<Answer, Refusal>
+fn routed(alloc: Global, machine: &mut Machine<Registers>, options: &Options<'_>) -> Result<Answer>
     ensures { NotMemory result → IsRouted options.now machine.old result }
 {
     let report = configure_with(alloc, machine, options)?;
@@ -78,7 +74,7 @@ pub(crate) fn route_answer(
     options: &Options<'_>,
     text: Vec<u8>,
     told: &mut Vec<u8>,
-) -> Result<Answer, Refusal>
+) -> Result<Answer>
     ensures answer { NotMemory result → IsRouteAnswer mode evaluation options.now text.items result }
     ensures told { NotMemory result → told.new.items ≡ told.old.items ++
         passed_lines (run_passed mode evaluation text.items) }

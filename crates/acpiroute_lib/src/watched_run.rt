@@ -14,7 +14,7 @@ use acpi_machine::{Machine, load_tables_traced};
 use acpiroute_words::{Asking, Evaluation};
 use aml_meaning::Trace;
 use aml_objects::Octets;
-use ar_space::{Place, Refusal, Sparse};
+use ar_space::{Place, Result, Sparse};
 use ar_tables::Tables;
 use machine_description::describe;
 use machine_text::MachineText;
@@ -112,7 +112,7 @@ fn filled_machine(
     alloc: Global,
     asking: &Asking,
     machine: Machine<Metered<ZeroFilled<Sparse>>>,
-) -> Result<Filled, Refusal>
+) -> Result<Filled>
     ensures memory { IfErr result (λ refusal. refusal ≡ OutOfMemory) }
     ensures run { IfOk result (λ f. IsFilledMachine asking.now machine f.0 f.1.items) }
 {
@@ -130,7 +130,7 @@ fn filled_tables(
     tables: Tables,
     osi: Vec<Octets>,
     space: Metered<ZeroFilled<Sparse>>,
-) -> Result<Filled, Refusal>
+) -> Result<Filled>
     ensures memory { IfErr result (λ refusal. refusal ≡ OutOfMemory) }
     ensures run { IfOk result (λ f. IsFilledFrom asking.now (Ok tables) osi.items space f.0 f.1.items) }
 {
@@ -144,11 +144,7 @@ fn filled_tables(
 }
 
 /// A run over the bytes of a machine text with 0 in place of each missing one, with the places of these.
-pub(crate) fn filled_run(
-    alloc: Global,
-    asking: &Asking,
-    said: MachineText,
-) -> Result<Filled, Refusal>
+pub(crate) fn filled_run(alloc: Global, asking: &Asking, said: MachineText) -> Result<Filled>
     ensures memory { IfErr result (λ refusal. refusal ≡ OutOfMemory) }
     ensures run { IfOk result (λ f. IsFilled asking.now (tables_of said.space.memory said.rsdp) said.osi said.space
         f.0 f.1.items) }

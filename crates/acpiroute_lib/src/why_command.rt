@@ -16,7 +16,7 @@ use crate::watched_run::{filled_run, watched_run};
 use acpi_explain::Explanation;
 use acpiroute_words::{Answer, Asking, Completion, write_error_line};
 use aml_meaning::Trace;
-use ar_space::{Place, Refusal};
+use ar_space::{Place, Refusal, Result};
 use machine_text::{MachineText, read_machine};
 use std::alloc::{AllocError, Global};
 use watched_space::Accessed;
@@ -48,7 +48,7 @@ fn explained(
     last: Option<Accessed>,
     trace: &Trace,
     text: &[u8],
-) -> Result<Answer, Refusal>
+) -> Result<Answer>
     ensures memory { IfErr result (λ refusal. refusal ≡ OutOfMemory) }
     ensures lines { IfOk result (IsExplained asking.now.evaluation.steps
         (λ phase e. IsStageFound asking.now phase text.now) (AreLinksFound asking.now text.now) end last) }
@@ -70,7 +70,7 @@ fn explained(
 
 /// What ended the run over what a machine text says.
 #[tactic(auto, using(crate::proofs::Telling::telling))]
-fn why(alloc: Global, asking: &Asking, said: MachineText, text: &[u8]) -> Result<Answer, Refusal>
+fn why(alloc: Global, asking: &Asking, said: MachineText, text: &[u8]) -> Result<Answer>
     ensures memory { IfErr result (λ refusal. refusal ≡ OutOfMemory) }
     ensures lines { IfOk result (λ w. machine_text text.now ≡ Ok said → IsWhy asking.now said w) }
 {
@@ -111,7 +111,7 @@ fn done_behind(text: Vec<u8>) -> Result<Answer, AllocError>
 }
 
 /// The lines of missing bytes, and behind them how the run ended. Want of memory is told in none.
-fn listed(alloc: Global, end: RunEnd, places: &[Place]) -> Result<Answer, Refusal>
+fn listed(alloc: Global, end: RunEnd, places: &[Place]) -> Result<Answer>
     ensures memory { IfErr result (λ refusal. refusal ≡ OutOfMemory) }
     ensures lines { IfOk result (IsListed end places.now) }
 {
@@ -128,7 +128,7 @@ fn listed(alloc: Global, end: RunEnd, places: &[Place]) -> Result<Answer, Refusa
 
 /// The lines of all bytes that what a machine text says lacks for the run.
 #[tactic(auto, using(crate::proofs::Telling::telling))]
-fn registers(alloc: Global, asking: &Asking, said: MachineText) -> Result<Answer, Refusal>
+fn registers(alloc: Global, asking: &Asking, said: MachineText) -> Result<Answer>
     ensures memory { IfErr result (λ refusal. refusal ≡ OutOfMemory) }
     ensures lines { IfOk result (IsRegisters asking.now said) }
 {
@@ -138,7 +138,7 @@ fn registers(alloc: Global, asking: &Asking, said: MachineText) -> Result<Answer
 
 /// What `why` answers over a machine text: what ended the run. Only the machine text itself is refused.
 #[tactic(auto, using(crate::proofs::Telling::telling))]
-pub(crate) fn why_answer(alloc: Global, asking: &Asking, text: &[u8]) -> Result<Answer, Refusal>
+pub(crate) fn why_answer(alloc: Global, asking: &Asking, text: &[u8]) -> Result<Answer>
     ensures { NotMemory result → IsWhyAnswer asking.now text.now result }
 {
     let said = read_machine(alloc, text)?;
@@ -147,11 +147,7 @@ pub(crate) fn why_answer(alloc: Global, asking: &Asking, text: &[u8]) -> Result<
 
 /// What `why --registers` answers over a machine text: which registers are missing for the run.
 #[tactic(auto, using(crate::proofs::Telling::telling))]
-pub(crate) fn registers_answer(
-    alloc: Global,
-    asking: &Asking,
-    text: &[u8],
-) -> Result<Answer, Refusal>
+pub(crate) fn registers_answer(alloc: Global, asking: &Asking, text: &[u8]) -> Result<Answer>
     ensures { NotMemory result → IsRegistersAnswer asking.now text.now result }
 {
     let said = read_machine(alloc, text)?;

@@ -5,13 +5,13 @@ ghost use Rattle.acpiroute_words.specs.CheckCommand.{verdict_answer, IsCheckAnsw
 
 use crate::answer::Answer;
 use crate::completion::Completion;
-use ar_space::Refusal;
+use ar_space::Result;
 use route_check::{Flaw, check_all};
 use route_report::read;
 use std::alloc::Global;
 
 /// `yes`, or `no` and the number of the flaw.
-fn verdict_answer(alloc: Global, verdict: Result<(), Flaw>) -> Result<Answer, Refusal>
+fn verdict_answer(alloc: Global, verdict: Result<(), Flaw>) -> Result<Answer>
     ensures { Answers result (Ok (verdict_answer verdict)) }
 {
     match verdict {
@@ -31,7 +31,7 @@ fn verdict_answer(alloc: Global, verdict: Result<(), Flaw>) -> Result<Answer, Re
 
 /// What `check` answers: whether the claim of a report holds, or else the number of its first flaw. A refusal of the
 /// report is the answer's.
-pub fn check_answer(alloc: Global, report: &[u8]) -> Result<Answer, Refusal>
+pub fn check_answer(alloc: Global, report: &[u8]) -> Result<Answer>
     ensures { NotMemory result → IsCheckAnswer report.now result }
 {
     let claim = read(alloc, report)?;

@@ -7,7 +7,7 @@ ghost use Rattle.acpiroute_words.specs.Held.{Takes};
 use crate::answer::Answer;
 use crate::error_line::write_error_line;
 use crate::streams::{Failed, Sink};
-use ar_space::Refusal;
+use ar_space::{Refusal, Result};
 use std::alloc::{AllocError, Global};
 
 /// Writes a text whole, or up to where a write fails.
@@ -78,7 +78,7 @@ fn line_behind(alloc: Global, passed: &[u8], refusal: &Refusal) -> Result<Vec<u8
 pub fn deliver_outcome<W: Sink, E: Sink>(
     alloc: Global,
     passed: &[u8],
-    outcome: Result<Answer, Refusal>,
+    outcome: Result<Answer>,
     writer: &mut W,
     errors: &mut E,
 ) -> u8

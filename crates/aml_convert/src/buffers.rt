@@ -6,7 +6,7 @@ ghost use Rattle.aml_convert.specs.Conversions.{to_buffer_of, integer_bytes, ter
 
 use crate::widths::truncate_integer;
 use aml_objects::{Content, Octets};
-use ar_space::{IntegerWidth, Refusal, ValueFault};
+use ar_space::{IntegerWidth, Refusal, Result, ValueFault};
 use byteorder::{ByteOrder, LittleEndian};
 use std::alloc::{AllocError, Global};
 
@@ -14,11 +14,7 @@ use std::alloc::{AllocError, Global};
 ///
 /// An integer is its 4 or 8 bytes, the lowest first. A string is its bytes and a zero, and an empty one is an empty
 /// buffer. A buffer is itself. Every other value is refused as `WrongType`.
-pub fn to_buffer(
-    alloc: Global,
-    width: IntegerWidth,
-    content: Content<'_>,
-) -> Result<Octets, Refusal>
+pub fn to_buffer(alloc: Global, width: IntegerWidth, content: Content<'_>) -> Result<Octets>
     ensures { Answers result (to_buffer_of width (content_of content.entry)) }
 {
     match content {

@@ -8,7 +8,7 @@ use crate::buffers::to_buffer;
 use crate::integers::integer;
 use crate::texts::to_text;
 use aml_objects::Content;
-use ar_space::{IntegerWidth, Refusal, ValueFault};
+use ar_space::{IntegerWidth, Refusal, Result, ValueFault};
 use std::alloc::Global;
 use std::cmp::Ordering;
 
@@ -23,7 +23,7 @@ pub fn compare(
     width: IntegerWidth,
     first: Content<'_>,
     second: Content<'_>,
-) -> Result<Ordering, Refusal>
+) -> Result<Ordering>
     ensures { Answers result (compared width (content_of first.entry) (content_of second.entry)) }
 {
     match first {

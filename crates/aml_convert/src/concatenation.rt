@@ -11,7 +11,7 @@ use crate::integers::integer;
 use crate::texts::to_text;
 use acpi_resources::length_before_end_tag;
 use aml_objects::{Content, Octets};
-use ar_space::{IntegerWidth, Refusal, ResourceFault, ValueFault};
+use ar_space::{IntegerWidth, Refusal, ResourceFault, Result, ValueFault};
 use std::alloc::Global;
 
 /// The end tag of joined resource items, without a checksum.
@@ -27,7 +27,7 @@ pub fn concat(
     width: IntegerWidth,
     first: Content<'_>,
     second: Content<'_>,
-) -> Result<Formed, Refusal>
+) -> Result<Formed>
     ensures { Answers (seen formed_content result) (concatenated width (content_of first.entry)
         (content_of second.entry)) }
 {
@@ -45,7 +45,7 @@ fn concat_integers(
     width: IntegerWidth,
     first: u64,
     second: Content<'_>,
-) -> Result<Formed, Refusal>
+) -> Result<Formed>
     ensures { Answers (seen formed_content result) (concatenated width (Integer first) (content_of second.entry)) }
 {
     let second = integer(width, second)?;
@@ -60,7 +60,7 @@ fn concat_strings(
     width: IntegerWidth,
     first: &[u8],
     second: Content<'_>,
-) -> Result<Formed, Refusal>
+) -> Result<Formed>
     ensures { Answers (seen formed_content result) (concatenated width (String first.now) (content_of second.entry)) }
 {
     let second = to_text(alloc, width, second)?;
@@ -73,7 +73,7 @@ fn concat_buffers(
     width: IntegerWidth,
     first: &[u8],
     second: Content<'_>,
-) -> Result<Formed, Refusal>
+) -> Result<Formed>
     ensures { Answers (seen formed_content result) (concatenated width (Buffer first.now) (content_of second.entry)) }
 {
     let second = to_buffer(alloc, width, second)?;
@@ -85,11 +85,7 @@ fn concat_buffers(
 /// An empty buffer counts as an end tag alone. Values that aren't both buffers are refused as `WrongType`, and then a
 /// buffer without a whole end tag among the items that it begins with as `NoEnd`.
 #[tactic(auto, using(ar_space::proofs::Outcomes::answering), unfolding(crate::specs::Concatenation::resources_joined))]
-pub fn concat_resources(
-    alloc: Global,
-    first: Content<'_>,
-    second: Content<'_>,
-) -> Result<Octets, Refusal>
+pub fn concat_resources(alloc: Global, first: Content<'_>, second: Content<'_>) -> Result<Octets>
     ensures { Answers result (resources_joined (content_of first.entry) (content_of second.entry)) }
 {
     let first = buffer_bytes(first)?;
@@ -100,7 +96,7 @@ pub fn concat_resources(
 }
 
 /// The bytes of two lists of items, and an end tag.
-fn with_end_tag(alloc: Global, front: &[u8], back: &[u8]) -> Result<Octets, Refusal>
+fn with_end_tag(alloc: Global, front: &[u8], back: &[u8]) -> Result<Octets>
     ensures { Answers result (Ok (front.now ++ back.now ++ 0x79 ∷ 0x00 ∷ [])) }
 {
     let mut joined = Vec::from_slice(alloc, front)?;
@@ -109,7 +105,7 @@ fn with_end_tag(alloc: Global, front: &[u8], back: &[u8]) -> Result<Octets, Refu
     Ok(Octets::from_vec(joined))
 }
 
-fn buffer_bytes(content: Content<'_>) -> Result<&[u8], Refusal>
+fn buffer_bytes(content: Content<'_>) -> Result<&[u8]>
     ensures { Answers (seen (λ b. b.now) result) (buffer_bytes (content_of content.entry)) }
 {
     match content {
@@ -121,7 +117,7 @@ fn buffer_bytes(content: Content<'_>) -> Result<&[u8], Refusal>
 }
 
 /// The items of a buffer before its end tag.
-fn before_end(buffer: &[u8]) -> Result<&[u8], Refusal>
+fn before_end(buffer: &[u8]) -> Result<&[u8]>
     ensures { Answers (seen (λ b. b.now) result) (before_end buffer.now) }
 {
     if buffer.is_empty() {
@@ -134,7 +130,7 @@ fn before_end(buffer: &[u8]) -> Result<&[u8], Refusal>
 }
 
 /// Bytes and those behind them.
-fn appended(alloc: Global, front: &[u8], back: &[u8]) -> Result<Octets, Refusal>
+fn appended(alloc: Global, front: &[u8], back: &[u8]) -> Result<Octets>
     ensures { Answers result (Ok (front.now ++ back.now)) }
 {
     let mut joined = Vec::from_slice(alloc, front)?;

@@ -4,7 +4,7 @@ ghost use Rattle.ar_space.specs.Outcome.{NotMemory};
 ghost use Rattle.aml_convert.specs.Integers.{bytes_of};
 ghost use Rattle.aml_convert.specs.Decimals.{respelled, is_coded_decimal, decoded_decimal, coded_decimal};
 
-use ar_space::{IntegerWidth, Refusal, ValueFault};
+use ar_space::{IntegerWidth, Refusal, Result, ValueFault};
 
 /// The least number that has more than 8 decimal digits.
 const TOO_LARGE_FOR_32_BITS: u64 = 100_000_000;
@@ -14,7 +14,7 @@ const TOO_LARGE_FOR_64_BITS: u64 = 10_000_000_000_000_000;
 /// FromBCD: the number that the hexadecimal digits of another spell in decimal.
 ///
 /// A digit above 9 is refused as `WrongType`.
-pub fn decode_decimal(number: u64) -> Result<u64, Refusal>
+pub fn decode_decimal(number: u64) -> Result<u64>
     ensures answer { result ≡ decoded_decimal number }
     ensures memory { NotMemory result }
 {
@@ -27,7 +27,7 @@ pub fn decode_decimal(number: u64) -> Result<u64, Refusal>
 /// ToBCD: the number that the decimal digits of another spell in hexadecimal (ACPI 6.5, 19.6.137).
 ///
 /// A number of more than 8 or 16 decimal digits is refused as `WrongType`.
-pub fn code_decimal(width: IntegerWidth, number: u64) -> Result<u64, Refusal>
+pub fn code_decimal(width: IntegerWidth, number: u64) -> Result<u64>
     ensures answer { result ≡ coded_decimal width number }
     ensures memory { NotMemory result }
 {

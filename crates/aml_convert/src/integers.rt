@@ -10,7 +10,7 @@ ghost use Rattle.aml_convert.specs.Conversions.{explicit_integer_of};
 use crate::digits::{Base, leading_number};
 use crate::widths::bytes;
 use aml_objects::Content;
-use ar_space::{IntegerWidth, Refusal, ValueFault};
+use ar_space::{IntegerWidth, Refusal, Result, ValueFault};
 use byteorder::{ByteOrder, LittleEndian};
 
 /// A value as an integer, as operators take their operands.
@@ -18,7 +18,7 @@ use byteorder::{ByteOrder, LittleEndian};
 /// An integer is itself. Of a string the hexadecimal digits count that it begins with, of either case, at most 8 or
 /// 16 of them; a string without any is 0. Of a buffer the first 4 or 8 bytes count, the lowest first; missing ones
 /// are 0. An empty string or buffer is refused as `EmptyValue`, every other value as `WrongType`.
-pub fn to_integer(width: IntegerWidth, content: Content<'_>) -> Result<u64, Refusal>
+pub fn to_integer(width: IntegerWidth, content: Content<'_>) -> Result<u64>
     ensures answer { result ≡ to_integer_of width (content_of content.entry) }
     ensures memory { NotMemory result }
 {
@@ -31,7 +31,7 @@ pub fn to_integer(width: IntegerWidth, content: Content<'_>) -> Result<u64, Refu
 }
 
 /// `to_integer`, as a step among others that may take memory.
-pub(crate) fn integer(width: IntegerWidth, content: Content<'_>) -> Result<u64, Refusal>
+pub(crate) fn integer(width: IntegerWidth, content: Content<'_>) -> Result<u64>
     ensures answer { Answers result (to_integer_of width (content_of content.entry)) }
     ensures memory { NotMemory result }
 {
@@ -43,7 +43,7 @@ pub(crate) fn integer(width: IntegerWidth, content: Content<'_>) -> Result<u64, 
 /// It differs from `to_integer` at strings: the decimal digits count that the string begins with, or after `0x` or
 /// `0X` the hexadecimal ones. The number is taken modulo 2^32 or 2^64. Refused are an empty string or buffer as
 /// `EmptyValue`, and as `WrongType` anything that is no integer, string or buffer.
-pub fn explicit_integer(width: IntegerWidth, content: Content<'_>) -> Result<u64, Refusal>
+pub fn explicit_integer(width: IntegerWidth, content: Content<'_>) -> Result<u64>
     ensures answer { result ≡ explicit_integer_of width (content_of content.entry) }
     ensures memory { NotMemory result }
 {
@@ -55,7 +55,7 @@ pub fn explicit_integer(width: IntegerWidth, content: Content<'_>) -> Result<u64
     }
 }
 
-fn integer_in_string(width: IntegerWidth, text: &[u8]) -> Result<u64, Refusal>
+fn integer_in_string(width: IntegerWidth, text: &[u8]) -> Result<u64>
     ensures answer { result ≡ integer_in_string width text.now }
     ensures memory { NotMemory result }
 {
@@ -66,7 +66,7 @@ fn integer_in_string(width: IntegerWidth, text: &[u8]) -> Result<u64, Refusal>
     Ok(leading_number(width, Base::Hexadecimal, &text[..digits]))
 }
 
-fn integer_in_buffer(width: IntegerWidth, buffer: &[u8]) -> Result<u64, Refusal>
+fn integer_in_buffer(width: IntegerWidth, buffer: &[u8]) -> Result<u64>
     ensures answer { result ≡ integer_in_buffer width buffer.now }
     ensures memory { NotMemory result }
 {
@@ -80,7 +80,7 @@ fn integer_in_buffer(width: IntegerWidth, buffer: &[u8]) -> Result<u64, Refusal>
     Ok(LittleEndian::read_uint(buffer, room))
 }
 
-fn numeral(width: IntegerWidth, text: &[u8]) -> Result<u64, Refusal>
+fn numeral(width: IntegerWidth, text: &[u8]) -> Result<u64>
     ensures answer { result ≡ numeral width text.now }
     ensures memory { NotMemory result }
 {

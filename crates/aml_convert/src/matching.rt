@@ -7,7 +7,7 @@ ghost use Rattle.aml_convert.specs.Matching.{match_operator, is_met, is_met_by, 
 
 use crate::comparison::compare;
 use aml_objects::Content;
-use ar_space::{IntegerWidth, Refusal};
+use ar_space::{IntegerWidth, Refusal, Result};
 use std::alloc::Global;
 use std::cmp::Ordering;
 
@@ -70,7 +70,7 @@ pub fn is_match(
     operator: MatchOperator,
     object: Content<'_>,
     element: Content<'_>,
-) -> Result<bool, Refusal>
+) -> Result<bool>
     ensures { Answers result (Ok (is_match width operator (content_of object.entry) (content_of element.entry))) }
 {
     match operator {
@@ -86,7 +86,7 @@ fn is_in_order(
     operator: MatchOperator,
     object: Content<'_>,
     element: Content<'_>,
-) -> Result<bool, Refusal>
+) -> Result<bool>
     ensures { Answers result (Ok
         (is_met_by operator (compared width (content_of object.entry) (content_of element.entry)))) }
 {

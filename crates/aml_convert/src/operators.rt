@@ -9,7 +9,7 @@ ghost use Rattle.aml_convert.specs.Operators.{result_of, unary_result_of, comple
 ghost use Rattle.aml_convert.specs.Operators.{shifted_right, highest_set_bit, lowest_set_bit, divided};
 
 use crate::widths::{bits, numbers, ones, truncate, truncate_integer};
-use ar_space::{IntegerWidth, Refusal, ValueFault};
+use ar_space::{IntegerWidth, Refusal, Result, ValueFault};
 
 /// Operators that take two integers and give one.
 #[derive(Clone, Copy, Debug, PartialEq, Eq)]
@@ -47,12 +47,7 @@ pub struct Division {
 /// What an operator gives of two integers of a width, modulo 2^32 or 2^64.
 ///
 /// A shift by the width or more gives 0. Mod by 0 is refused as `DivideByZero`.
-pub fn operate(
-    operator: BinaryOperator,
-    width: IntegerWidth,
-    x: u64,
-    y: u64,
-) -> Result<u64, Refusal>
+pub fn operate(operator: BinaryOperator, width: IntegerWidth, x: u64, y: u64) -> Result<u64>
     ensures answer { result ≡ result_of operator width x y }
     ensures memory { NotMemory result }
 {
@@ -83,7 +78,7 @@ pub fn operate_on_one(operator: UnaryOperator, width: IntegerWidth, x: u64) -> u
 }
 
 /// Divide: the quotient and the remainder of two integers. A divisor of 0 is refused as `DivideByZero`.
-pub fn divide(x: u64, y: u64) -> Result<Division, Refusal>
+pub fn divide(x: u64, y: u64) -> Result<Division>
     ensures answer { result ≡ divided x y }
     ensures memory { NotMemory result }
 {
@@ -103,7 +98,7 @@ fn subtract(width: IntegerWidth, x: u64, y: u64) -> u64
     truncate(width, u128::from(x) + (numbers(width) - u128::from(taken)))
 }
 
-fn remainder(x: u64, y: u64) -> Result<u64, Refusal>
+fn remainder(x: u64, y: u64) -> Result<u64>
     ensures answer { result ≡ remainder x y }
     ensures memory { NotMemory result }
 {

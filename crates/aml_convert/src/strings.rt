@@ -12,7 +12,7 @@ use crate::formed::Formed;
 use crate::integers::integer;
 use crate::texts::{integer_text, push_digits};
 use aml_objects::{Content, Octets};
-use ar_space::{IntegerWidth, Refusal, ValueFault};
+use ar_space::{IntegerWidth, Refusal, Result, ValueFault};
 use itoa::Buffer;
 use std::alloc::{AllocError, Global};
 
@@ -20,7 +20,7 @@ use std::alloc::{AllocError, Global};
 ///
 /// An integer is its decimal digits, without leading zeros. A string is itself. A buffer is each byte as such a
 /// number, with commas between them. Every other value is refused as `WrongType`.
-pub fn to_decimal_string(alloc: Global, content: Content<'_>) -> Result<Octets, Refusal>
+pub fn to_decimal_string(alloc: Global, content: Content<'_>) -> Result<Octets>
     ensures { Answers result (decimal_string_of (content_of content.entry)) }
 {
     match content {
@@ -39,7 +39,7 @@ pub fn to_hexadecimal_string(
     alloc: Global,
     width: IntegerWidth,
     content: Content<'_>,
-) -> Result<Octets, Refusal>
+) -> Result<Octets>
     ensures { Answers result (hexadecimal_string_of width (content_of content.entry)) }
 {
     match content {
@@ -60,7 +60,7 @@ pub fn to_string(
     width: IntegerWidth,
     source: Content<'_>,
     count: Content<'_>,
-) -> Result<Octets, Refusal>
+) -> Result<Octets>
     ensures { Answers result (string_of width (content_of source.entry) (content_of count.entry)) }
 {
     let bytes = to_buffer(alloc, width, source)?;
@@ -80,7 +80,7 @@ pub fn middle(
     source: Content<'_>,
     start: Content<'_>,
     count: Content<'_>,
-) -> Result<Formed, Refusal>
+) -> Result<Formed>
     ensures { Answers (seen formed_content result) (middle_of width (content_of source.entry) (content_of start.entry)
         (content_of count.entry)) }
 {
@@ -102,7 +102,7 @@ fn part_of(
     bytes: &[u8],
     start: Content<'_>,
     count: Content<'_>,
-) -> Result<Octets, Refusal>
+) -> Result<Octets>
     ensures { Answers result (part_of width bytes.now (content_of start.entry) (content_of count.entry)) }
 {
     let start = integer(width, start)?;
@@ -151,7 +151,7 @@ fn at_most(bytes: &[u8], count: u64) -> &[u8]
 }
 
 /// A copy of bytes.
-fn octets(alloc: Global, bytes: &[u8]) -> Result<Octets, Refusal>
+fn octets(alloc: Global, bytes: &[u8]) -> Result<Octets>
     ensures { Answers result (Ok bytes.now) }
 {
     Ok(Octets::from_vec(Vec::from_slice(alloc, bytes)?))

@@ -10,7 +10,7 @@ ghost use Rattle.aml_convert.specs.Conversions.{to_text_of, two_digits};
 
 use crate::widths::truncate_integer;
 use aml_objects::{Content, Octets};
-use ar_space::{IntegerWidth, Refusal, ValueFault};
+use ar_space::{IntegerWidth, Refusal, Result, ValueFault};
 use byteorder::{BigEndian, ByteOrder};
 use std::alloc::{AllocError, Global};
 
@@ -18,7 +18,7 @@ use std::alloc::{AllocError, Global};
 ///
 /// An integer is 8 or 16 upper-case hexadecimal digits, a string is itself, and a buffer is two upper-case hexadecimal
 /// digits for each byte, separated by blanks. Every other value is refused as `WrongType`.
-pub fn to_text(alloc: Global, width: IntegerWidth, content: Content<'_>) -> Result<Octets, Refusal>
+pub fn to_text(alloc: Global, width: IntegerWidth, content: Content<'_>) -> Result<Octets>
     ensures { Answers result (to_text_of width (content_of content.entry)) }
 {
     match content {
@@ -30,7 +30,7 @@ pub fn to_text(alloc: Global, width: IntegerWidth, content: Content<'_>) -> Resu
 }
 
 /// The digits of an integer.
-pub(crate) fn integer_text(alloc: Global, width: IntegerWidth, n: u64) -> Result<Octets, Refusal>
+pub(crate) fn integer_text(alloc: Global, width: IntegerWidth, n: u64) -> Result<Octets>
     ensures { Answers result (Ok (encode_upper (big_bytes (bytes_of width) (truncated width n)))) }
 {
     let kept = truncate_integer(width, n);

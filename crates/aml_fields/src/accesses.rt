@@ -11,12 +11,12 @@ use crate::field_units::{Unit, units};
 use crate::region::Region;
 use crate::unit::{copy_from_unit, merge};
 use aml_objects::{FieldUnit, UpdateRule};
-use ar_space::{Place, Refusal, Space, Width};
+use ar_space::{Place, Refusal, Result, Space, Width};
 use std::alloc::Global;
 
 /// One access that reads.
 #[tactic(auto, unfolding(crate::specs::Regions::read_access))]
-fn read_access<S: Space>(space: &mut S, place: Place, width: Width) -> Result<u64, Refusal>
+fn read_access<S: Space>(space: &mut S, place: Place, width: Width) -> Result<u64>
     ensures change { Does result space.new (read_access S.accesses place width) space.old }
     ensures memory { NotMemory result }
 {
@@ -33,7 +33,7 @@ pub(crate) fn write_access<S: Space>(
     place: Place,
     width: Width,
     value: u64,
-) -> Result<(), Refusal>
+) -> Result<()>
     ensures change { Does result space.new (write_access S.accesses place width value) space.old }
     ensures memory { NotMemory result }
 {
@@ -45,12 +45,7 @@ pub(crate) fn write_access<S: Space>(
 
 /// Reads a unit. One that doesn't lie within the region is refused as `RegionLimit` before its access.
 #[tactic(auto, using(ar_space::proofs::Changes::changing), unfolding(crate::specs::Regions::read_unit))]
-pub fn read_unit<S: Space>(
-    space: &mut S,
-    region: Region,
-    width: Width,
-    unit: Unit,
-) -> Result<u64, Refusal>
+pub fn read_unit<S: Space>(space: &mut S, region: Region, width: Width, unit: Unit) -> Result<u64>
     ensures change { Does result space.new (read_unit S.accesses region width unit) space.old }
     ensures memory { NotMemory result }
 {
@@ -67,7 +62,7 @@ pub fn write_whole<S: Space>(
     width: Width,
     offset: u64,
     value: u64,
-) -> Result<(), Refusal>
+) -> Result<()>
     ensures change { Does result space.new (write_whole S.accesses region width offset value) space.old }
     ensures memory { NotMemory result }
 {
@@ -82,7 +77,7 @@ pub(crate) fn kept<S: Space>(
     field: FieldUnit,
     unit: Unit,
     place: Place,
-) -> Result<u64, Refusal>
+) -> Result<u64>
     ensures change { Does result space.new (kept field unit (read_access S.accesses place field.access)) space.old }
     ensures memory { NotMemory result }
 {
@@ -104,7 +99,7 @@ fn write_unit<S: Space>(
     field: FieldUnit,
     unit: Unit,
     source: &[u8],
-) -> Result<(), Refusal>
+) -> Result<()>
     requires inside { unit.first + unit.count ≤ 64 }
     requires position { unit.position + unit.count < 2 ^ 64 }
     ensures change { Does result space.new (write_unit S.accesses region field source.now unit) space.old }
@@ -135,7 +130,7 @@ pub fn write_field<S: Space>(
     region: Region,
     field: FieldUnit,
     source: &[u8],
-) -> Result<(), Refusal>
+) -> Result<()>
     ensures change { Does result space.new (write_field S.accesses region field source.now) space.old }
     ensures memory { NotMemory result }
 {
@@ -155,7 +150,7 @@ pub fn read_field<S: Space>(
     space: &mut S,
     region: Region,
     field: FieldUnit,
-) -> Result<Vec<u8>, Refusal>
+) -> Result<Vec<u8>>
     ensures { Does (seen (λ v. v.items) result) space.new (read_field S.accesses region field) space.old }
 {
     let count = field.bits as usize;

@@ -8,7 +8,7 @@ ghost use Rattle.aml_fields.specs.BufferFields.{read_buffer_field, with_field, w
 
 use crate::bits::{copy_bits, get_bits};
 use aml_objects::{BufferField, Heap, Octets};
-use ar_space::{EvaluationFault, FieldFault, Refusal};
+use ar_space::{EvaluationFault, FieldFault, Refusal, Result};
 use std::alloc::Global;
 
 /// A new buffer field of so many bits, from one bit of a buffer on. Refused as `WrongType` where the object is no
@@ -19,7 +19,7 @@ pub fn new_buffer_field(
     object: u32,
     bit_offset: u128,
     bits: u32,
-) -> Result<BufferField, Refusal>
+) -> Result<BufferField>
     requires { bit_offset + bits < 2 ^ 128 }
     ensures answer { Does result heap.now (new_buffer_field object bit_offset bits) heap.now }
     ensures memory { NotMemory result }
@@ -31,7 +31,7 @@ pub fn new_buffer_field(
 /// The bits of a buffer field, lowest first, as bytes. Refused as `WrongType` where its object is no buffer, and as
 /// `DeadReference` where it doesn't lie within it.
 #[tactic(auto, using(ar_space::proofs::Changes::changing), unfolding(crate::specs::BufferFields::read_buffer_field))]
-pub fn read_buffer_field(alloc: Global, heap: &Heap, field: BufferField) -> Result<Vec<u8>, Refusal>
+pub fn read_buffer_field(alloc: Global, heap: &Heap, field: BufferField) -> Result<Vec<u8>>
     ensures { Does (seen (λ v. v.items) result) heap.now (read_buffer_field field) heap.now }
 {
     let bytes = heap.buffer_bytes(field.buffer)?;
@@ -47,7 +47,7 @@ pub fn write_buffer_field(
     heap: &mut Heap,
     field: BufferField,
     source: &[u8],
-) -> Result<(), Refusal>
+) -> Result<()>
     ensures change { Does result heap.new (write_buffer_field field source.now) heap.old }
     ensures memory { NotMemory result }
 {
@@ -67,12 +67,7 @@ pub fn write_buffer_field(
     Ok(())
 }
 
-fn field_within(
-    buffer: u32,
-    bit_offset: u128,
-    bits: u32,
-    bytes: &[u8],
-) -> Result<BufferField, Refusal>
+fn field_within(buffer: u32, bit_offset: u128, bits: u32, bytes: &[u8]) -> Result<BufferField>
     requires { bit_offset + bits < 2 ^ 128 }
     ensures answer { Answers result (field_within buffer bit_offset bits bytes.now) }
     ensures memory { NotMemory result }
@@ -88,7 +83,7 @@ fn field_within(
     }
 }
 
-fn still_within(field: BufferField, bytes: &[u8]) -> Result<(), Refusal>
+fn still_within(field: BufferField, bytes: &[u8]) -> Result<()>
     ensures answer { Answers result (still_within field bytes.now) }
     ensures within { OnOk result (lies_within field.bit_offset field.bits bytes.now ≡ true) }
     ensures memory { NotMemory result }
@@ -113,7 +108,7 @@ fn lies_within(bit_offset: u128, bits: u32, bytes: &[u8]) -> bool
 const LIMIT: u128 = 1 << 64;
 
 /// The bits of a field that lies within a buffer.
-fn bits_of_field(alloc: Global, field: BufferField, bytes: &[u8]) -> Result<Vec<u8>, Refusal>
+fn bits_of_field(alloc: Global, field: BufferField, bytes: &[u8]) -> Result<Vec<u8>>
     requires { lies_within field.bit_offset field.bits bytes.now ≡ true }
     ensures { Answers (seen (λ v. v.items) result) (Ok (packed (field_bits bytes.now field.bit_offset field.bits))) }
 {

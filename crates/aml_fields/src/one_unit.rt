@@ -13,7 +13,7 @@ use crate::field_units::Unit;
 use crate::region::Region;
 use crate::unit::rest_of_unit;
 use aml_objects::FieldUnit;
-use ar_space::{Refusal, Space, Width};
+use ar_space::{Result, Space, Width};
 
 /// The number of the unit that holds a bit, and which bit of that unit it is.
 #[inline]
@@ -69,11 +69,7 @@ fn bits_within(number: u64, first: usize, count: usize) -> u64
 /// is read.
 ///
 /// One access reads it. It is refused as `read_field` is.
-pub fn read_number<S: Space>(
-    space: &mut S,
-    region: Region,
-    field: FieldUnit,
-) -> Result<Option<u64>, Refusal>
+pub fn read_number<S: Space>(space: &mut S, region: Region, field: FieldUnit) -> Result<Option<u64>>
     ensures read { IfOk result (λ read. MatchOption read (space.new ≡ space.old)
         (λ number. Does (Ok (packed (bits_from number 0 field.bits))) space.new
         (read_field S.accesses region field) space.old)) }
@@ -128,7 +124,7 @@ pub fn write_number<S: Space>(
     region: Region,
     field: FieldUnit,
     number: u64,
-) -> Result<bool, Refusal>
+) -> Result<bool>
     ensures written { IfOk result (λ done. MatchBool done ((source : List ℕ) →
         field_bits source 0 field.bits ≡ bits_from number 0 field.bits →
         Does (Ok tt) space.new (write_field S.accesses region field source) space.old) (space.new ≡ space.old)) }
@@ -154,7 +150,7 @@ fn write_in_unit<S: Space>(
     field: FieldUnit,
     unit: Unit,
     number: u64,
-) -> Result<(), Refusal>
+) -> Result<()>
     requires some { 0 < unit.count }
     requires within { unit.first + unit.count ≤ 64 }
     ensures change { (source : List ℕ) → field_bits source unit.position unit.count ≡ bits_from number 0 unit.count →

@@ -3,7 +3,7 @@ ghost use Rattle.std.specs.Prelude.{◌≡◌};
 ghost use Rattle.ar_space.specs.Outcome.{Answers, NotMemory};
 ghost use Rattle.aml_fields.specs.Regions.{place_in, unit_place};
 
-use ar_space::{FieldFault, Place, Refusal, Width};
+use ar_space::{FieldFault, Place, Refusal, Result, Width};
 
 /// An address space whose registers can be accessed.
 #[derive(Clone, Copy, Debug, PartialEq, Eq)]
@@ -70,7 +70,7 @@ impl Region {
     /// A unit that isn't wholly within the region, or begins where the address space has no place, is refused as
     /// `RegionLimit`.
     #[tactic(auto, unfolding(crate::specs::Regions::unit_place))]
-    pub fn place(self, width: Width, offset: u64) -> Result<Place, Refusal>
+    pub fn place(self, width: Width, offset: u64) -> Result<Place>
         ensures answer { Answers result (unit_place self width offset) }
         ensures memory { NotMemory result }
     {

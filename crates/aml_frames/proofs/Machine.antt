@@ -337,7 +337,7 @@ pub falls_item : (r : Outcome Control) (a b w n x y : ℕ) → a < b → w < ste
 falls_item (Ok c) a b w n x y h i j = let p = charged_step a b h in omega (arith, p, i, j)
 falls_item (Err z) a b w n x y h i j = tt
 
--- an item that leaves nothing to do
+-- an item that its first step finishes
 pub falls_done : (r : Outcome Control) (a x y : ℕ) → IfOk r (λ c. x + control_weight c < y + 6) → IfOk r (λ c. charged a + (x + control_weight c) ≤ charged a + (y + 3 + 3))
 falls_done (Ok c) a x y h = omega (arith, h)
 falls_done (Err z) a x y h = tt

@@ -100,7 +100,7 @@ module _ {S : Type 0} {ac : Accesses S} where
       (leads_settled (value.Integer x) (λ v. monadic_done ac (meaning ac) monadic.LogicalNot levels v d) (lifted (value.Integer n) _ _ is (left n))))
       (leads_not levels)
 
-  -- what a step leaves that leaves nothing to do
+  -- what a step leaves that finishes its term
   pub done_leads : {c : Site} {s s1 : State S × ℕ} (f : Flow) (m : Run S Flow) → Leads ac (meaning ac) (Ok (next.Flow f)) c s1 m s → Does (Ok f) s1 m s
   unfolding give
   done_leads f m h = record { is = λ _. h.is tt }

@@ -13,8 +13,7 @@ use crate::frames::{Frame, Next};
 use crate::uses::{Access, Accessed, Doing, Reading};
 use aml_meaning::Running;
 use aml_objects::{Field, Value};
-use ar_space::{Refusal, Space};
-use std::alloc::Global;
+use ar_space::{Result, Space};
 
 /// How many control methods may be called one inside another.
 const MAX_DEPTH: usize = 32;
@@ -40,22 +39,21 @@ pub(crate) fn begin_read(act: &Activation, field: Field, reading: Reading) -> Ac
 /// A value is written to a field by a term, which has a value then.
 #[tactic(auto, using(crate::proofs::Using::using_targets), unfolding(aml_meaning::specs::Fields::field_stored))]
 pub(crate) fn begin_write<S: Space>(
-    alloc: Global,
     run: &Running<S>,
     act: &Activation,
     field: Field,
     value: Value,
-) -> Result<Next, Refusal>
+) -> Result<Next>
     ensures falls { IfOk result (λ n. next_weight n < most + 4) }
     ensures means { Leads S.accesses (meaning S.accesses) result act.now run.now
         (field_put S.accesses (meaning S.accesses) field value act.now) run.now }
     ensures ends { EndsAt result act.now act.now }
 {
-    let bytes = run.world.bytes_in(alloc, value)?;
+    let bytes = run.world.bytes_in(value)?;
     let access = Access {
         calls: calls_left(act.depth()),
         object: Accessed::Field(field),
         doing: Doing::Write(bytes),
     };
-    Ok(Next::AccessThen(Boxed::new(alloc, access)?, Frame::Give(value)))
+    Ok(Next::AccessThen(Boxed::new(run.world.alloc, access)?, Frame::Give(value)))
 }

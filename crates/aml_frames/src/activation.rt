@@ -23,7 +23,7 @@ use aml_namespace::Scope;
 use aml_objects::{Body, NodeId};
 use aml_path::NameString;
 use aml_terms::{At, Cursor, Marks, RowPlace};
-use ar_space::{NameFault, Refusal};
+use ar_space::{NameFault, Refusal, Result};
 use std::alloc::Global;
 use std::marker::Model;
 use std::mem;
@@ -108,7 +108,7 @@ impl Activation {
     /// Another share of the same list, at the same byte. It takes no memory, and is refused as `OutOfMemory` where no
     /// more shares can be counted.
     #[tactic(auto, using(ar_space::proofs::Outcomes::answering))]
-    pub(crate) fn share(&self) -> Result<Activation, Refusal>
+    pub(crate) fn share(&self) -> Result<Activation>
         ensures { Answers result (Ok self.now) }
     {
         let bytes = self.bytes.share()?;
@@ -162,7 +162,7 @@ impl Activation {
     }
 
     /// A share of the path of the scope.
-    pub fn share_scope(&self) -> Result<MethodPath, Refusal>
+    pub fn share_scope(&self) -> Result<MethodPath>
         ensures { Answers result (Ok self.now.scope) }
     {
         self.scope.share()
@@ -263,14 +263,14 @@ impl Activation {
     }
 
     /// The name that begins here; the root where none does. Refused: `OutOfMemory`.
-    pub fn name(&self, alloc: Global) -> Result<NameString, Refusal>
+    pub fn name(&self, alloc: Global) -> Result<NameString>
         ensures { Answers result (Ok (a_name self.now.place).0) }
     {
         self.cursor().name(alloc)
     }
 
     /// The name that begins at a position; the root where none does. Refused: `OutOfMemory`.
-    pub fn name_at(&self, alloc: Global, position: Position) -> Result<NameString, Refusal>
+    pub fn name_at(&self, alloc: Global, position: Position) -> Result<NameString>
         ensures { Answers result (Ok (a_name (place_between self.now.bytes position.at position.end)).0) }
     {
         self.cursor_at(position).name(alloc)
@@ -300,7 +300,7 @@ impl Activation {
 
     /// The next byte, or zero.
     #[inline(always)]
-    pub fn first(&self) -> u8
+    pub fn next_byte(&self) -> u8
         ensures { result ≡ first self.now.place.rest }
     {
         first_between(self.bytes.as_slice(), self.position.at, self.position.end)
@@ -317,7 +317,7 @@ impl Activation {
     /// So many bytes on, or to the end.
     #[inline(always)]
     #[tactic(auto, using(crate::proofs::Between::moving))]
-    pub fn over(&mut self, count: usize)
+    pub fn advance(&mut self, count: usize)
         ensures { self.new ≡ at_place self.old (over count self.old.place) }
     {
         let end = self.position.end.min(self.bytes.as_slice().len());
@@ -343,7 +343,7 @@ impl Activation {
     }
 
     /// The number that is the operand of a term, by the place of its row.
-    pub fn number(&self, levels: u8, place: RowPlace) -> Result<u64, Refusal>
+    pub fn number(&self, levels: u8, place: RowPlace) -> Result<u64>
         ensures answer { Answers result
             (number_of (operand_of (with_row (terms self.now levels) (row_at place) self.now.place).0 0)) }
         ensures memory { NotMemory result }

@@ -18,30 +18,25 @@ use crate::tracing::told_path;
 use aml_meaning::{Invocation, Running, WorldState, integer_only};
 use aml_objects::Value;
 use aml_path::{NameString, Path, Prefix};
-use ar_space::{EvaluationFault, Refusal, Space, ValueFault};
+use ar_space::{EvaluationFault, Refusal, Result, Space, ValueFault};
 use std::alloc::Global;
 
 /// The integer that the object at a path answers, where so many calls may still be made, or what gives it.
 #[tactic(auto, using(crate::proofs::Addressing::answering), unfolding(aml_meaning::specs::FieldCalls::asked))]
-pub(crate) fn ask<S: Space>(
-    alloc: Global,
-    run: &mut Running<S>,
-    calls: usize,
-    path: &Path,
-) -> Result<Asked, Refusal>
+pub(crate) fn ask<S: Space>(run: &mut Running<S>, calls: usize, path: &Path) -> Result<Asked>
     ensures spent { run.new.1 ≤ run.old.1 }
     ensures few { IfOk result (λ a. asked_weight a ≤ part_weight calls) }
     ensures means { Asks S.accesses (meaning S.accesses) result run.new
         (asking S.accesses (meaning S.accesses) calls path.now) run.old }
 {
-    let answered = invocation(alloc, &run.world, path);
-    let found = told_path(alloc, &mut run.world, path, answered)?;
+    let answered = invocation(&run.world, path);
+    let found = told_path(&mut run.world, path, answered)?;
     answer(run, calls, found)
 }
 
 /// What was found answers, where so many calls may still be made, this one among them.
 #[tactic(auto, using(crate::proofs::Addressing::answering))]
-fn answer<S: Space>(run: &Running<S>, calls: usize, found: Invocation) -> Result<Asked, Refusal>
+fn answer<S: Space>(run: &Running<S>, calls: usize, found: Invocation) -> Result<Asked>
     ensures memory { NotMemory result }
     ensures few { IfOk result (λ a. asked_weight a ≤ part_weight calls) }
     ensures means { Asks S.accesses (meaning S.accesses) result run.now
@@ -56,11 +51,7 @@ fn answer<S: Space>(run: &Running<S>, calls: usize, found: Invocation) -> Result
 
 /// What was found answers, where one more call may be made: so many may with it.
 #[tactic(auto, using(crate::proofs::Addressing::answering))]
-fn answer_allowed<S: Space>(
-    run: &Running<S>,
-    calls: usize,
-    found: Invocation,
-) -> Result<Asked, Refusal>
+fn answer_allowed<S: Space>(run: &Running<S>, calls: usize, found: Invocation) -> Result<Asked>
     requires { 0 < calls }
     ensures memory { NotMemory result }
     ensures few { IfOk result (λ a. asked_weight a ≤ part_weight calls) }
@@ -80,7 +71,7 @@ fn answer_allowed<S: Space>(
 
 /// A value answers where it is an integer.
 #[tactic(auto, using(crate::proofs::Addressing::answering))]
-fn known<S: Space>(run: &Running<S>, value: Value) -> Result<Asked, Refusal>
+fn known<S: Space>(run: &Running<S>, value: Value) -> Result<Asked>
     ensures memory { NotMemory result }
     ensures few { IfOk result (λ a. asked_weight a ≤ 0) }
     ensures means { Asks S.accesses (meaning S.accesses) result run.now (settle (integer_only value)) run.now }
@@ -92,33 +83,25 @@ fn known<S: Space>(run: &Running<S>, value: Value) -> Result<Asked, Refusal>
 }
 
 /// What the object at a path is that is asked for without arguments.
-fn invocation<S: Space>(
-    alloc: Global,
-    world: &WorldState<S>,
-    path: &Path,
-) -> Result<Invocation, Refusal>
+fn invocation<S: Space>(world: &WorldState<S>, path: &Path) -> Result<Invocation>
     ensures { Does result world.now (invocation_found [] (absolute path.now) 0) world.now }
 {
-    match absolute(alloc, path) {
-        Ok(name) => from_root(alloc, world, &name),
+    match absolute(world.alloc, path) {
+        Ok(name) => from_root(world, &name),
         Err(refusal) => Err(refusal),
     }
 }
 
 /// What the object is that a name finds from the root and that is asked for without arguments.
-fn from_root<S: Space>(
-    alloc: Global,
-    world: &WorldState<S>,
-    name: &NameString,
-) -> Result<Invocation, Refusal>
+fn from_root<S: Space>(world: &WorldState<S>, name: &NameString) -> Result<Invocation>
     ensures { Does result world.now (invocation_found [] name.now 0) world.now }
 {
-    let root = Path::root(alloc);
-    world.invocation(alloc, world.scope(&root), name, 0)
+    let root = Path::root(world.alloc);
+    world.invocation(world.scope(&root), name, 0)
 }
 
 /// A path, as a name that stands for it anywhere.
-fn absolute(alloc: Global, path: &Path) -> Result<NameString, Refusal>
+fn absolute(alloc: Global, path: &Path) -> Result<NameString>
     ensures { Answers result (Ok (absolute path.now)) }
 {
     Ok(NameString::new(Prefix::Root, path.copy(alloc)?.into_vec()))

@@ -23,20 +23,18 @@ use crate::uses::Doing;
 use aml_fields::Unit;
 use aml_meaning::{Flow, RegionField, Running, space_numbered};
 use aml_objects::{Bank, FieldUnit};
-use ar_space::{Refusal, Space};
-use std::alloc::Global;
+use ar_space::{Result, Space};
 
 /// The field that selects a bank and the region with these numbers of declarations are looked up, and the region is
 /// located.
 #[tactic(auto, using(crate::proofs::BankSteps::banked))]
 pub(crate) fn begin_banked<S: Space>(
-    alloc: Global,
     run: &mut Running<S>,
     act: &Activation,
     calls: usize,
     lies_in: (u64, Bank),
     access: (FieldUnit, Doing),
-) -> Result<Next, Refusal>
+) -> Result<Next>
     ensures spent { run.new.1 ≤ run.old.1 }
     ensures falls { IfOk result (λ n. next_weight n < field_weight calls) }
     ensures few { access.0.bits < 4294967296 }
@@ -47,7 +45,7 @@ pub(crate) fn begin_banked<S: Space>(
     let (region, bank) = lies_in;
     let (unit, doing) = access;
     let field = run.world.field_declared(bank.field)?;
-    let declared = region_of(alloc, run, region)?;
+    let declared = region_of(run, region)?;
     let selector = Selector {
         field,
         value: bank.value,
@@ -55,24 +53,23 @@ pub(crate) fn begin_banked<S: Space>(
     let access = RegionAccess {
         calls,
         field: RegionField { region, unit },
-        bank: Some(Boxed::new(alloc, selector)?),
+        bank: Some(Boxed::new(run.world.alloc, selector)?),
         offset: declared.1.offset,
         length: declared.1.length,
         doing,
     };
     let kind = space_numbered(declared.1.space);
-    begin_declared(alloc, run, act, access, kind, &declared.0)
+    begin_declared(run, act, access, kind, &declared.0)
 }
 
 /// The region is located: the units of the field are accessed.
 #[tactic(auto, using(crate::proofs::BankSteps::bank_by_bank))]
 pub(crate) fn begin_units<S: Space>(
-    alloc: Global,
     run: &mut Running<S>,
     act: &Activation,
     field: BankedField,
     doing: Doing,
-) -> Result<Next, Refusal>
+) -> Result<Next>
     ensures spent { run.new.1 ≤ run.old.1 }
     ensures falls { IfOk result (λ n. next_weight n <
         units_weight field.calls (units_of field.field.bit_offset field.field.bits field.field.access) + 4) }
@@ -84,27 +81,26 @@ pub(crate) fn begin_units<S: Space>(
     let left = field_units(unit.bit_offset, unit.bits, unit.access);
     match doing {
         Doing::Read(reading) => {
-            let bytes = zeros(alloc, unit.bits)?;
+            let bytes = zeros(run.world.alloc, unit.bits)?;
             let reads = BankReads {
                 field,
                 reading,
                 bytes,
                 left,
             };
-            next_bank_read(alloc, run, act, reads)
+            next_bank_read(run, act, reads)
         }
-        Doing::Write(bytes) => next_bank_write(alloc, run, act, BankWrites { field, bytes, left }),
+        Doing::Write(bytes) => next_bank_write(run, act, BankWrites { field, bytes, left }),
     }
 }
 
 /// The next unit is read: the bank is selected first. Behind the last unit the bits are read as a value.
 #[tactic(auto, using(crate::proofs::BankSteps::bank_by_bank))]
 fn next_bank_read<S: Space>(
-    alloc: Global,
     run: &mut Running<S>,
     act: &Activation,
     reads: BankReads,
-) -> Result<Next, Refusal>
+) -> Result<Next>
     ensures spent { run.new.1 ≤ run.old.1 }
     ensures falls { IfOk result (λ n. next_weight n < bank_reads_weight reads + 4) }
     ensures means { Leads S.accesses (meaning S.accesses) result act.now run.new
@@ -114,18 +110,17 @@ fn next_bank_read<S: Space>(
     let mut reads = reads;
     match reads.left.next() {
         None => finish_read(run, act, reads.reading, reads.field.field.bits, reads.bytes),
-        Some(unit) => select_to_read(alloc, run, act, BanksLeft::Reads(reads), unit),
+        Some(unit) => select_to_read(run, act, BanksLeft::Reads(reads), unit),
     }
 }
 
 /// The next unit is written; where bits of it are kept it is read first.
 #[tactic(auto, using(crate::proofs::BankSteps::bank_by_bank))]
 fn next_bank_write<S: Space>(
-    alloc: Global,
     run: &mut Running<S>,
     act: &Activation,
     writes: BankWrites,
-) -> Result<Next, Refusal>
+) -> Result<Next>
     ensures spent { run.new.1 ≤ run.old.1 }
     ensures falls { IfOk result (λ n. next_weight n < bank_writes_weight writes + 4) }
     ensures means { Leads S.accesses (meaning S.accesses) result act.now run.new
@@ -137,9 +132,9 @@ fn next_bank_write<S: Space>(
         None => Ok(Next::Flow(Flow::Next)),
         Some(unit) => {
             if is_kept(writes.field.field, unit) {
-                select_to_read(alloc, run, act, BanksLeft::Writes(writes), unit)
+                select_to_read(run, act, BanksLeft::Writes(writes), unit)
             } else {
-                select_to_write(alloc, run, act, writes, unit, 0)
+                select_to_write(run, act, writes, unit, 0)
             }
         }
     }
@@ -148,12 +143,11 @@ fn next_bank_write<S: Space>(
 /// A unit is read: the bank is selected.
 #[tactic(auto, using(crate::proofs::BankSteps::bank_by_bank))]
 fn select_to_read<S: Space>(
-    alloc: Global,
     run: &Running<S>,
     act: &Activation,
     units: BanksLeft,
     unit: Unit,
-) -> Result<Next, Refusal>
+) -> Result<Next>
     ensures falls { IfOk result (λ n. next_weight n ≤ banks_left_weight units + 2 *
         region_weight (field_accessed units).calls + 1) }
     ensures means { Leads S.accesses (meaning S.accesses) result act.now run.now
@@ -161,19 +155,18 @@ fn select_to_read<S: Space>(
     ensures ends { EndsAt result act.now act.now }
 {
     let field = units.field();
-    let frame = Frame::BankRead(Boxed::new(alloc, units)?, unit);
-    select_then(alloc, run, act, field, frame)
+    let frame = Frame::BankRead(Boxed::new(run.world.alloc, units)?, unit);
+    select_then(run, act, field, frame)
 }
 
 /// The bank is selected: a unit is read. Its bits are put where they are in the field, or kept by the write.
 #[tactic(auto, using(crate::proofs::BankSteps::bank_by_bank))]
 pub(crate) fn read_selected<S: Space>(
-    alloc: Global,
     run: &mut Running<S>,
     act: &Activation,
     units: Boxed<BanksLeft>,
     unit: Unit,
-) -> Result<Next, Refusal>
+) -> Result<Next>
     ensures spent { run.new.1 ≤ run.old.1 }
     ensures falls { IfOk result (λ n. next_weight n < banks_left_weight units +
         region_weight (field_accessed units).calls + 4) }
@@ -183,19 +176,18 @@ pub(crate) fn read_selected<S: Space>(
 {
     let field = units.get().field();
     let number = run.world.read_unit(field.region, field.field.access, unit)?;
-    meet_unit(alloc, run, act, units.into_inner(), unit, number)
+    meet_unit(run, act, units.into_inner(), unit, number)
 }
 
 /// A unit that was read holds a number.
 #[tactic(auto, using(crate::proofs::BankSteps::bank_by_bank))]
 fn meet_unit<S: Space>(
-    alloc: Global,
     run: &mut Running<S>,
     act: &Activation,
     units: BanksLeft,
     unit: Unit,
     number: u64,
-) -> Result<Next, Refusal>
+) -> Result<Next>
     ensures spent { run.new.1 ≤ run.old.1 }
     ensures falls { IfOk result (λ n. next_weight n < banks_left_weight units +
         region_weight (field_accessed units).calls + 4) }
@@ -207,22 +199,21 @@ fn meet_unit<S: Space>(
         BanksLeft::Reads(reads) => {
             let mut reads = reads;
             put_unit(&mut reads.bytes, unit, number);
-            next_bank_read(alloc, run, act, reads)
+            next_bank_read(run, act, reads)
         }
-        BanksLeft::Writes(writes) => select_to_write(alloc, run, act, writes, unit, number),
+        BanksLeft::Writes(writes) => select_to_write(run, act, writes, unit, number),
     }
 }
 
 /// A unit is written that holds a number: the bank is selected, again where the unit was read.
 #[tactic(auto, using(crate::proofs::BankSteps::bank_by_bank))]
 fn select_to_write<S: Space>(
-    alloc: Global,
     run: &Running<S>,
     act: &Activation,
     writes: BankWrites,
     unit: Unit,
     old: u64,
-) -> Result<Next, Refusal>
+) -> Result<Next>
     ensures falls { IfOk result (λ n. next_weight n ≤ bank_writes_weight writes +
         region_weight writes.field.calls + 1) }
     ensures means { Leads S.accesses (meaning S.accesses) result act.now run.now
@@ -231,20 +222,19 @@ fn select_to_write<S: Space>(
 {
     let field = writes.field;
     let number = merge_unit(field.field, writes.bytes.as_slice(), unit, old);
-    let frame = Frame::BankWrite(Boxed::new(alloc, writes)?, unit.offset, number);
-    select_then(alloc, run, act, field, frame)
+    let frame = Frame::BankWrite(Boxed::new(run.world.alloc, writes)?, unit.offset, number);
+    select_then(run, act, field, frame)
 }
 
 /// The bank is selected: the unit with an offset is written with a number, and then the next one.
 #[tactic(auto, using(crate::proofs::BankSteps::bank_by_bank))]
 pub(crate) fn write_selected<S: Space>(
-    alloc: Global,
     run: &mut Running<S>,
     act: &Activation,
     writes: Boxed<BankWrites>,
     offset: u64,
     number: u64,
-) -> Result<Next, Refusal>
+) -> Result<Next>
     ensures spent { run.new.1 ≤ run.old.1 }
     ensures falls { IfOk result (λ n. next_weight n < bank_writes_weight writes + 4) }
     ensures means { Leads S.accesses (meaning S.accesses) result act.now run.new
@@ -255,18 +245,17 @@ pub(crate) fn write_selected<S: Space>(
     let field = writes.field;
     run.world
         .write_whole(field.region, field.field.access, offset, number)?;
-    next_bank_write(alloc, run, act, writes)
+    next_bank_write(run, act, writes)
 }
 
 /// The bank of a field is selected, and then a frame goes on. A value that the bank field can't hold is refused.
 #[tactic(auto, using(crate::proofs::BankSteps::selecting))]
 fn select_then<S: Space>(
-    alloc: Global,
     run: &Running<S>,
     act: &Activation,
     field: BankedField,
     frame: Frame,
-) -> Result<Next, Refusal>
+) -> Result<Next>
     ensures falls { IfOk result (λ n. next_weight n ≤ region_weight field.calls + weight frame) }
     ensures means { Leads S.accesses (meaning S.accesses) result act.now run.now
         (selected_then S.accesses (meaning S.accesses) field frame act.now) run.now }
@@ -274,12 +263,5 @@ fn select_then<S: Space>(
 {
     let bank = field.bank;
     bank.field.must_hold(bank.value)?;
-    write_then(
-        alloc,
-        run,
-        act,
-        field.calls,
-        (bank.field, bank.value),
-        frame,
-    )
+    write_then(run, act, field.calls, (bank.field, bank.value), frame)
 }

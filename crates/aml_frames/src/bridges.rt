@@ -14,20 +14,18 @@ use crate::pci::{ask_address, begin_function, wait};
 use aml_meaning::{Flow, Running};
 use aml_objects::Value;
 use aml_path::Path;
-use ar_space::{Refusal, Space};
-use std::alloc::Global;
+use ar_space::{Result, Space};
 
 /// The bus is known of the outermost of the bridges that are left: its address is asked for. Where none is left, it is
 /// the bus of the function.
 #[tactic(auto, using(crate::proofs::Bridging::bridges))]
 pub(crate) fn begin_bridges<S: Space>(
-    alloc: Global,
     run: &mut Running<S>,
     act: &Activation,
     pci: PciAccess,
     segment: u64,
     bus: u64,
-) -> Result<Next, Refusal>
+) -> Result<Next>
     ensures spent { run.new.1 ≤ run.old.1 }
     ensures falls { IfOk result (λ n. next_weight n <
         bridges_weight pci.access.calls (length pci.bridges.items) + part_weight pci.access.calls + 14 +
@@ -38,21 +36,20 @@ pub(crate) fn begin_bridges<S: Space>(
 {
     let mut pci = pci;
     match pci.bridges.pop_front() {
-        None => begin_function(alloc, run, act, pci, segment, bus),
-        Some(bridge) => begin_bridge(alloc, run, act, pci, (segment, bus), &bridge),
+        None => begin_function(run, act, pci, segment, bus),
+        Some(bridge) => begin_bridge(run, act, pci, (segment, bus), &bridge),
     }
 }
 
 /// The address of a bridge on a bus of a segment group is asked for.
 #[tactic(auto, using(crate::proofs::Bridging::parts_given), unfolding(crate::specs::Addresses::bridge_asked))]
 fn begin_bridge<S: Space>(
-    alloc: Global,
     run: &mut Running<S>,
     act: &Activation,
     pci: PciAccess,
     on: (u64, u64),
     bridge: &Path,
-) -> Result<Next, Refusal>
+) -> Result<Next>
     ensures spent { run.new.1 ≤ run.old.1 }
     ensures falls { IfOk result (λ n. next_weight n <
         bridges_weight pci.access.calls (length pci.bridges.items) + 2 * part_weight pci.access.calls + 34 +
@@ -63,45 +60,43 @@ fn begin_bridge<S: Space>(
     ensures ends { EndsAt result act.now act.now }
 {
     let (segment, bus) = on;
-    let asked = ask_address(alloc, run, pci.access.calls, bridge)?;
+    let asked = ask_address(run, pci.access.calls, bridge)?;
     let pci = PciAccess {
         part: AddressPart::Bridge(segment, bus),
         ..pci
     };
     match asked {
-        Asked::Known(address) => give_part(alloc, run, act, pci, address),
-        Asked::Waits(waited) => wait(alloc, run, act, pci, waited),
+        Asked::Known(address) => give_part(run, act, pci, address),
+        Asked::Waits(waited) => wait(run, act, pci, waited),
     }
 }
 
 /// A part of the address that is known is handed to what waits for it.
 #[tactic(auto, using(crate::proofs::Bridging::parts_given))]
 fn give_part<S: Space>(
-    alloc: Global,
     run: &Running<S>,
     act: &Activation,
     pci: PciAccess,
     part: u64,
-) -> Result<Next, Refusal>
+) -> Result<Next>
     ensures falls { IfOk result (λ n. next_weight n ≤
         address_weight pci.part pci.access.calls (length pci.bridges.items) + behind_weight pci.access + 3) }
     ensures means { Leads S.accesses (meaning S.accesses) result act.now run.now
         (part_known S.accesses (meaning S.accesses) pci part) run.now }
     ensures ends { EndsAt result act.now act.now }
 {
-    let waiting = Boxed::new(alloc, pci)?;
+    let waiting = Boxed::new(run.world.alloc, pci)?;
     Ok(Next::FlowThen(Flow::Value(Value::Integer(part)), Frame::Address(waiting)))
 }
 
 /// The address of a bridge is known: the bus behind it is read, and the next bridge is asked for.
 #[tactic(auto, using(crate::proofs::Stepping::stepping), unfolding(crate::specs::Addresses::bridge_known))]
 pub(crate) fn pass_bridge<S: Space>(
-    alloc: Global,
     run: &mut Running<S>,
     act: &Activation,
     pci: PciAccess,
     bridge: FunctionAddress,
-) -> Result<Next, Refusal>
+) -> Result<Next>
     ensures spent { run.new.1 ≤ run.old.1 }
     ensures falls { IfOk result (λ n. next_weight n <
         bridges_weight pci.access.calls (length pci.bridges.items) + part_weight pci.access.calls + 14 +
@@ -114,5 +109,5 @@ pub(crate) fn pass_bridge<S: Space>(
     let bus = run
         .world
         .secondary_bus(bridge.segment, bridge.bus, bridge.address)?;
-    begin_bridges(alloc, run, act, pci, bridge.segment, bus)
+    begin_bridges(run, act, pci, bridge.segment, bus)
 }

@@ -19,18 +19,16 @@ use crate::tracing::told_path;
 use aml_meaning::{Flow, Running};
 use aml_objects::{Body, Value};
 use aml_path::Path;
-use ar_space::{Refusal, Space};
-use std::alloc::Global;
+use ar_space::{Result, Space};
 
 /// Evaluates the arguments that are left of a call, and makes it then. Integers that are there already are taken at
 /// once; for the first other argument the call waits (`Frame::Argument`).
 #[tactic(auto, using(crate::proofs::Stepping::calls, crate::proofs::Arguments::arguing))]
 pub fn begin_call<S: Space>(
-    alloc: Global,
     run: &mut Running<S>,
     act: &mut Activation,
     call: Boxed<Call>,
-) -> Result<Next, Refusal>
+) -> Result<Next>
     ensures spent { run.new.1 ≤ run.old.1 }
     ensures falls { IfOk result (λ n. next_weight n < 6) }
     ensures means { Leads S.accesses (meaning S.accesses) result act.new run.new
@@ -47,7 +45,7 @@ pub fn begin_call<S: Space>(
             Some(number) => call.inside.done.push(Value::Integer(number))?,
         }
     }
-    begin_callee(alloc, run, act, call.into_inner())
+    begin_callee(run, act, call.into_inner())
 }
 
 /// The same call, of which one argument fewer is left.
@@ -64,12 +62,11 @@ fn one_fewer(call: Boxed<Call>) -> Boxed<Call>
 /// A call whose argument was evaluated.
 #[tactic(auto, using(crate::proofs::Stepping::stepping))]
 pub(crate) fn resume_argument<S: Space>(
-    alloc: Global,
     run: &mut Running<S>,
     act: &mut Activation,
     call: Boxed<Call>,
     flow: Flow,
-) -> Result<Next, Refusal>
+) -> Result<Next>
     ensures spent { run.new.1 ≤ run.old.1 }
     ensures falls { IfOk result (λ n. next_weight n < 6) }
     ensures means { Leads S.accesses (meaning S.accesses) result act.new run.new
@@ -79,17 +76,12 @@ pub(crate) fn resume_argument<S: Space>(
     let mut call = call;
     let value = flow.value()?;
     call.inside.done.push(value)?;
-    begin_call(alloc, run, act, call)
+    begin_call(run, act, call)
 }
 
 /// Makes a call whose arguments are evaluated: a control method is entered, and `\_OSI` answers at once.
 #[tactic(auto, using(crate::proofs::Stepping::calls))]
-fn begin_callee<S: Space>(
-    alloc: Global,
-    run: &mut Running<S>,
-    act: &Activation,
-    call: Call,
-) -> Result<Next, Refusal>
+fn begin_callee<S: Space>(run: &mut Running<S>, act: &Activation, call: Call) -> Result<Next>
     ensures spent { run.new.1 ≤ run.old.1 }
     ensures falls { IfOk result (λ n. next_weight n < 6) }
     ensures means { Leads S.accesses (meaning S.accesses) result act.now run.new
@@ -98,7 +90,7 @@ fn begin_callee<S: Space>(
 {
     let done = call.done;
     match call.callee {
-        Callee::Method(path, body) => begin_body(alloc, run, act, path, body, &done),
+        Callee::Method(path, body) => begin_body(run, act, path, body, &done),
         Callee::Osi => {
             run.world.call_allowed(act.depth())?;
             let value = run.world.osi(&done)?;
@@ -110,20 +102,19 @@ fn begin_callee<S: Space>(
 /// Enters a control method: its body is next.
 #[tactic(auto, using(crate::proofs::Entering::entered))]
 fn begin_body<S: Space>(
-    alloc: Global,
     run: &mut Running<S>,
     act: &Activation,
     path: Path,
     body: Body,
     arguments: &[Value],
-) -> Result<Next, Refusal>
+) -> Result<Next>
     ensures spent { run.new.1 ≤ run.old.1 }
     ensures falls { IfOk result (λ n. next_weight n < 6) }
     ensures means { Leads S.accesses (meaning S.accesses) result act.now run.new
         (invoked (meaning S.accesses) act.now.depth path body arguments.now) run.old }
     ensures ends { EndsAt result act.now act.now }
 {
-    match enter(alloc, run, act.depth(), (path, body), arguments) {
+    match enter(run, act.depth(), (path, body), arguments) {
         Ok(entered) => Ok(Next::Body(entered)),
         Err(refusal) => Err(refusal),
     }
@@ -133,20 +124,19 @@ fn begin_body<S: Space>(
 /// called: its body is next, and then what is left of the access.
 #[tactic(auto, using(crate::proofs::Entering::entered))]
 pub(crate) fn enter_then<S: Space>(
-    alloc: Global,
     run: &mut Running<S>,
     act: &Activation,
     depth: usize,
     called: (Path, Body),
     asked: Boxed<PciAccess>,
-) -> Result<Next, Refusal>
+) -> Result<Next>
     ensures spent { run.new.1 ≤ run.old.1 }
     ensures falls { IfOk result (λ n. next_weight n ≤ 5 + weight (frames.Address asked)) }
     ensures means { Leads S.accesses (meaning S.accesses) result act.now run.new
         (entered_then S.accesses (meaning S.accesses) depth called.0 called.1 (frames.Address asked) act.now) run.old }
     ensures ends { EndsAt result act.now (ends (frames.Address asked) act.now) }
 {
-    match enter(alloc, run, depth, called, &[]) {
+    match enter(run, depth, called, &[]) {
         Ok(entered) => Ok(Next::BodyThen(entered, asked)),
         Err(refusal) => Err(refusal),
     }
@@ -156,22 +146,21 @@ pub(crate) fn enter_then<S: Space>(
 /// at the first byte of the body. Where it is refused no frame is open.
 #[tactic(auto, using(crate::proofs::Entering::entering), unfolding(aml_meaning::specs::Invocations::invoked))]
 pub(crate) fn enter<S: Space>(
-    alloc: Global,
     run: &mut Running<S>,
     depth: usize,
     called: (Path, Body),
     arguments: &[Value],
-) -> Result<Activation, Refusal>
+) -> Result<Activation>
     ensures spent { run.new.1 ≤ run.old.1 }
     ensures means { Enters S.accesses (meaning S.accesses) result run.new
         (invoked (meaning S.accesses) depth called.0 called.1 arguments.now) run.old }
 {
     let (path, body) = called;
     run.world.call_allowed(depth)?;
-    let marks = run.world.body_marks(alloc, &path, &body);
-    let marks = told_path(alloc, &mut run.world, &path, marks)?;
+    let marks = run.world.body_marks(&path, &body);
+    let marks = told_path(&mut run.world, &path, marks)?;
     let node = run.world.scope(&path).node;
-    let method = MethodPath::new(alloc, path)?;
+    let method = MethodPath::new(run.world.alloc, path)?;
     let entered = Activation::new(body, marks, method, node, depth + 1);
     run.world.open_frame(frame_arguments(arguments))?;
     Ok(entered)

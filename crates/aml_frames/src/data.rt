@@ -24,19 +24,18 @@ use aml_meaning::{DataKind, Flow, Running};
 use aml_objects::Octets;
 use aml_scan::text_length;
 use aml_terms::RowPlace;
-use ar_space::{Refusal, Space};
+use ar_space::{Result, Space};
 use std::alloc::Global;
 
 /// Data, by its kind and the place of its row: it is formed, or its first part is evaluated.
 #[tactic(auto, using(crate::proofs::Stepping::stepping))]
 pub fn begin_data<S: Space>(
-    alloc: Global,
     run: &mut Running<S>,
     act: &mut Activation,
     levels: u8,
     place: RowPlace,
     kind: DataKind,
-) -> Result<Next, Refusal>
+) -> Result<Next>
     ensures spent { run.new.1 ≤ run.old.1 }
     ensures falls { IfOk result (λ n. next_weight n < 6) }
     ensures means { Leads S.accesses (meaning S.accesses) result act.new run.new
@@ -46,20 +45,16 @@ pub fn begin_data<S: Space>(
     match kind {
         DataKind::Constant(number) => begin_constant(run, act, number),
         DataKind::Integer => begin_integer(run, act, levels, place),
-        DataKind::String => begin_string(alloc, run, act),
+        DataKind::String => begin_string(run, act),
         DataKind::Buffer => Ok(begin_buffer(run, act, levels)),
-        DataKind::Package => begin_package(alloc, run, act, levels),
+        DataKind::Package => begin_package(run, act, levels),
         DataKind::VarPackage => Ok(begin_var_package(run, act, levels)),
     }
 }
 
 /// An integer that an opcode says.
 #[tactic(auto, using(crate::proofs::Stepping::stepping), unfolding(aml_meaning::specs::DataTerms::constant_rule))]
-fn begin_constant<S: Space>(
-    run: &Running<S>,
-    act: &Activation,
-    number: u64,
-) -> Result<Next, Refusal>
+fn begin_constant<S: Space>(run: &Running<S>, act: &Activation, number: u64) -> Result<Next>
     ensures falls { IfOk result (λ n. next_weight n < 6) }
     ensures memory { NotMemory result }
     ensures means { Leads S.accesses (meaning S.accesses) result act.now run.now
@@ -77,7 +72,7 @@ fn begin_integer<S: Space>(
     act: &mut Activation,
     levels: u8,
     place: RowPlace,
-) -> Result<Next, Refusal>
+) -> Result<Next>
     ensures falls { IfOk result (λ n. next_weight n < 6) }
     ensures memory { NotMemory result }
     ensures means { Leads S.accesses (meaning S.accesses) result act.new run.now
@@ -91,31 +86,27 @@ fn begin_integer<S: Space>(
 
 /// A string: the characters that stand before the next zero.
 #[tactic(auto, using(crate::proofs::Stepping::stepping), unfolding(aml_meaning::specs::DataTerms::string_rule))]
-fn begin_string<S: Space>(
-    alloc: Global,
-    run: &mut Running<S>,
-    act: &mut Activation,
-) -> Result<Next, Refusal>
+fn begin_string<S: Space>(run: &mut Running<S>, act: &mut Activation) -> Result<Next>
     ensures spent { run.new.1 ≤ run.old.1 }
     ensures falls { IfOk result (λ n. next_weight n < 6) }
     ensures means { Leads S.accesses (meaning S.accesses) result act.new run.new
         (string_run (meaning S.accesses) act.old) run.old }
     ensures ends { EndsAt result act.new (at_place act.old (a_text act.old.place).1) }
 {
-    let text = take_text(alloc, act)?;
+    let text = take_text(run.world.alloc, act)?;
     let value = run.world.make_string(text)?;
     Ok(Next::Flow(Flow::Value(value)))
 }
 
 /// A copy of the text that stands next. Evaluation goes over it and its zero.
-fn take_text(alloc: Global, act: &mut Activation) -> Result<Octets, Refusal>
+fn take_text(alloc: Global, act: &mut Activation) -> Result<Octets>
     ensures text { Answers result (Ok (a_text act.old.place).0) }
     ensures behind { OnOk result (act.new ≡ at_place act.old (a_text act.old.place).1) }
 {
     let bytes = act.rest();
     let length = text_length(bytes);
     let text = copied(alloc, &bytes[..length])?;
-    act.over(length + 1);
+    act.advance(length + 1);
     Ok(text)
 }
 
@@ -134,12 +125,11 @@ fn begin_buffer<S: Space>(run: &Running<S>, act: &mut Activation, levels: u8) ->
 /// A Buffer whose size was evaluated.
 #[tactic(auto, using(crate::proofs::Stepping::stepping))]
 pub(crate) fn resume_buffer<S: Space>(
-    alloc: Global,
     run: &mut Running<S>,
     act: &mut Activation,
     outer: Position,
     flow: Flow,
-) -> Result<Next, Refusal>
+) -> Result<Next>
     ensures spent { run.new.1 ≤ run.old.1 }
     ensures falls { IfOk result (λ n. next_weight n < 6) }
     ensures means { Leads S.accesses (meaning S.accesses) result act.new run.new
@@ -148,13 +138,13 @@ pub(crate) fn resume_buffer<S: Space>(
 {
     let value = flow.value()?;
     let size = integer_of(&run.world, value)?;
-    let bytes = copied(alloc, act.rest())?;
+    let bytes = copied(run.world.alloc, act.rest())?;
     let buffer = run.world.new_buffer(size, bytes)?;
     act.go_to(outer);
     Ok(Next::Flow(Flow::Value(buffer)))
 }
 
-fn copied(alloc: Global, bytes: &[u8]) -> Result<Octets, Refusal>
+fn copied(alloc: Global, bytes: &[u8]) -> Result<Octets>
     ensures { Answers result (Ok bytes.now) }
 {
     Ok(Octets::from_vec(Vec::from_slice(alloc, bytes)?))

@@ -29,20 +29,18 @@ use aml_meaning::{DeclarationKind, Flow, Running, WorldState};
 use aml_objects::{MethodFlags, NamedObject, NodeId};
 use aml_path::{NameString, Path};
 use aml_terms::RowPlace;
-use ar_space::{Refusal, Space};
-use std::alloc::Global;
+use ar_space::{Result, Space};
 
 /// A term that declares something, or a Scope, by its kind and the place of its row: it is done, or its first part is
 /// evaluated.
 #[tactic(auto, using(crate::proofs::Declaring::declaring_terms))]
 pub fn begin_declaration<S: Space>(
-    alloc: Global,
     run: &mut Running<S>,
     act: &mut Activation,
     levels: u8,
     place: RowPlace,
     kind: DeclarationKind,
-) -> Result<Next, Refusal>
+) -> Result<Next>
     ensures spent { run.new.1 ≤ run.old.1 }
     ensures falls { IfOk result (λ n. next_weight n < 10) }
     ensures means { Leads S.accesses (meaning S.accesses) result act.new run.new
@@ -50,27 +48,27 @@ pub fn begin_declaration<S: Space>(
     ensures ends { EndsAt result act.new (behind_declaration_at kind place act.old levels) }
 {
     match kind {
-        DeclarationKind::Scope => begin_scope(alloc, run, act, levels),
-        DeclarationKind::Device => begin_new_scope(alloc, run, act, levels, kind),
-        DeclarationKind::Processor => begin_new_scope(alloc, run, act, levels, kind),
-        DeclarationKind::PowerResource => begin_new_scope(alloc, run, act, levels, kind),
-        DeclarationKind::ThermalZone => begin_new_scope(alloc, run, act, levels, kind),
+        DeclarationKind::Scope => begin_scope(run, act, levels),
+        DeclarationKind::Device => begin_new_scope(run, act, levels, kind),
+        DeclarationKind::Processor => begin_new_scope(run, act, levels, kind),
+        DeclarationKind::PowerResource => begin_new_scope(run, act, levels, kind),
+        DeclarationKind::ThermalZone => begin_new_scope(run, act, levels, kind),
         DeclarationKind::Name => Ok(begin_named(run, act, levels)),
         DeclarationKind::Alias => {
-            let flow = declare_alias(alloc, run, act, levels, place)?;
+            let flow = declare_alias(run, act, levels, place)?;
             Ok(done(act, levels, place, flow))
         }
         DeclarationKind::External => Ok(done(act, levels, place, Flow::Next)),
         DeclarationKind::Method => {
-            let flow = declare_method(alloc, run, act, levels, place)?;
+            let flow = declare_method(run, act, levels, place)?;
             Ok(done(act, levels, place, flow))
         }
         DeclarationKind::Mutex => {
-            let flow = declare(alloc, run, act, levels, place, NamedObject::Mutex(0))?;
+            let flow = declare(run, act, levels, place, NamedObject::Mutex(0))?;
             Ok(done(act, levels, place, flow))
         }
         DeclarationKind::Event => {
-            let flow = declare(alloc, run, act, levels, place, NamedObject::Event(0))?;
+            let flow = declare(run, act, levels, place, NamedObject::Event(0))?;
             Ok(done(act, levels, place, flow))
         }
     }
@@ -86,32 +84,26 @@ pub(crate) fn done(act: &mut Activation, levels: u8, place: RowPlace, flow: Flow
 }
 
 /// The path that a name stands for that is declared.
-fn resolve<S>(
-    alloc: Global,
-    world: &mut WorldState<S>,
-    act: &Activation,
-    name: &NameString,
-) -> Result<Path, Refusal>
+fn resolve<S>(world: &mut WorldState<S>, act: &Activation, name: &NameString) -> Result<Path>
     ensures path { Answers result (resolved name.now act.now.scope) }
     ensures world { world.new ≡ world.old }
 {
-    let path = name.resolve_in(alloc, act.scope().path);
-    told(alloc, world, act, name, path)
+    let path = name.resolve_in(world.alloc, act.scope().path);
+    told(world, act, name, path)
 }
 
 /// A name is declared, by the path that it stands for.
 fn declare_path<S>(
-    alloc: Global,
     world: &mut WorldState<S>,
     act: &Activation,
     name: &NameString,
     path: Path,
     object: NamedObject,
-) -> Result<u64, Refusal>
+) -> Result<u64>
     ensures { Does result world.new (new_name (module_level act.now.depth) path object) world.old }
 {
-    let declared = world.new_name(alloc, act.depth() == 0, path, object);
-    told(alloc, world, act, name, declared)
+    let declared = world.new_name(act.depth() == 0, path, object);
+    told(world, act, name, declared)
 }
 
 // ---- terms of which no part is evaluated
@@ -119,73 +111,68 @@ fn declare_path<S>(
 /// The name that is the first operand of a term is declared.
 #[tactic(auto, using(aml_meaning::proofs::Runs::running), unfolding(aml_meaning::specs::DeclarationTerms::declaring))]
 fn declare<S: Space>(
-    alloc: Global,
     run: &mut Running<S>,
     act: &Activation,
     levels: u8,
     place: RowPlace,
     object: NamedObject,
-) -> Result<Flow, Refusal>
+) -> Result<Flow>
     ensures spent { run.new.1 ≤ run.old.1 }
     ensures means { Does result run.new
         (declaring (meaning S.accesses) act.now.scope act.now.depth
         (coded_tree place act.now levels) 0 object) run.old }
 {
-    let name = act.coded_term(levels, place).name(alloc, 0)?;
-    let path = resolve(alloc, &mut run.world, act, &name)?;
-    declare_path(alloc, &mut run.world, act, &name, path, object)?;
+    let name = act.coded_term(levels, place).name(run.world.alloc, 0)?;
+    let path = resolve(&mut run.world, act, &name)?;
+    declare_path(&mut run.world, act, &name, path, object)?;
     Ok(Flow::Next)
 }
 
 /// Alias: another name for what a name finds.
 #[tactic(auto, using(aml_meaning::proofs::Runs::running), unfolding(aml_meaning::specs::DeclarationTerms::alias_rule))]
 fn declare_alias<S: Space>(
-    alloc: Global,
     run: &mut Running<S>,
     act: &Activation,
     levels: u8,
     place: RowPlace,
-) -> Result<Flow, Refusal>
+) -> Result<Flow>
     ensures spent { run.new.1 ≤ run.old.1 }
     ensures means { Does result run.new
         (alias_rule (meaning S.accesses) act.now.scope act.now.depth (coded_tree place act.now levels)) run.old }
 {
     let term = act.coded_term(levels, place);
-    let source = term.name(alloc, 0)?;
-    let located = run.world.locate(alloc, act.scope(), &source);
-    let target = told(alloc, &mut run.world, act, &source, located)?;
-    let name = term.name(alloc, 1)?;
-    let path = resolve(alloc, &mut run.world, act, &name)?;
+    let source = term.name(run.world.alloc, 0)?;
+    let located = run.world.locate(act.scope(), &source);
+    let target = told(&mut run.world, act, &source, located)?;
+    let name = term.name(run.world.alloc, 1)?;
+    let path = resolve(&mut run.world, act, &name)?;
     let object = NamedObject::Alias(target.into_path());
-    declare_path(alloc, &mut run.world, act, &name, path, object)?;
+    declare_path(&mut run.world, act, &name, path, object)?;
     Ok(Flow::Next)
 }
 
 /// Method: its flags, and the bytes of its body.
 #[tactic(auto, using(aml_meaning::proofs::Runs::running), unfolding(aml_meaning::specs::DeclarationTerms::method_rule))]
 fn declare_method<S: Space>(
-    alloc: Global,
     run: &mut Running<S>,
     act: &Activation,
     levels: u8,
     place: RowPlace,
-) -> Result<Flow, Refusal>
+) -> Result<Flow>
     ensures spent { run.new.1 ≤ run.old.1 }
     ensures means { Does result run.new
         (method_rule (meaning S.accesses) act.now.scope act.now.depth (coded_tree place act.now levels)) run.old }
 {
     let term = act.coded_term(levels, place);
-    let name = term.name(alloc, 0)?;
-    let path = resolve(alloc, &mut run.world, act, &name)?;
+    let name = term.name(run.world.alloc, 0)?;
+    let path = resolve(&mut run.world, act, &name)?;
     let flags = number(&term, 1)?;
-    let body = bytes(alloc, &term, 2)?;
+    let body = bytes(run.world.alloc, &term, 2)?;
     let flags = MethodFlags {
         byte: (flags % 256) as u8,
     };
-    let declared = run
-        .world
-        .new_method(alloc, act.depth() == 0, path, flags, body);
-    told(alloc, &mut run.world, act, &name, declared)?;
+    let declared = run.world.new_method(act.depth() == 0, path, flags, body);
+    told(&mut run.world, act, &name, declared)?;
     Ok(Flow::Next)
 }
 
@@ -208,12 +195,11 @@ fn begin_named<S: Space>(run: &Running<S>, act: &mut Activation, levels: u8) -> 
 /// A Name whose datum was evaluated.
 #[tactic(auto, using(crate::proofs::Stepping::stepping))]
 pub(crate) fn resume_named<S: Space>(
-    alloc: Global,
     run: &mut Running<S>,
     act: &Activation,
     name: Position,
     flow: Flow,
-) -> Result<Next, Refusal>
+) -> Result<Next>
     ensures spent { run.new.1 ≤ run.old.1 }
     ensures falls { IfOk result (λ n. next_weight n < 6) }
     ensures means { Leads S.accesses (meaning S.accesses) result act.now run.new
@@ -221,27 +207,26 @@ pub(crate) fn resume_named<S: Space>(
     ensures ends { EndsAt result act.now act.now }
 {
     let value = flow.value()?;
-    declare_at(alloc, run, act, name, NamedObject::Data(value))
+    declare_at(run, act, name, NamedObject::Data(value))
 }
 
 /// The name that stands at a position is declared.
 #[tactic(auto, using(crate::proofs::Stepping::stepping), unfolding(crate::specs::Declarations::declared_at))]
 pub(crate) fn declare_at<S: Space>(
-    alloc: Global,
     run: &mut Running<S>,
     act: &Activation,
     name: Position,
     object: NamedObject,
-) -> Result<Next, Refusal>
+) -> Result<Next>
     ensures spent { run.new.1 ≤ run.old.1 }
     ensures falls { IfOk result (λ n. next_weight n < 6) }
     ensures means { Leads S.accesses (meaning S.accesses) result act.now run.new
         (declared_at object (place_of act.now name) act.now) run.old }
     ensures ends { EndsAt result act.now act.now }
 {
-    let name = act.name_at(alloc, name)?;
-    let path = resolve(alloc, &mut run.world, act, &name)?;
-    declare_path(alloc, &mut run.world, act, &name, path, object)?;
+    let name = act.name_at(run.world.alloc, name)?;
+    let path = resolve(&mut run.world, act, &name)?;
+    declare_path(&mut run.world, act, &name, path, object)?;
     Ok(Next::Flow(Flow::Next))
 }
 
@@ -249,12 +234,7 @@ pub(crate) fn declare_at<S: Space>(
 
 /// Scope: its list is evaluated in the scope that its name finds.
 #[tactic(auto, using(crate::proofs::Declaring::entering), unfolding(crate::specs::Declarations::scope_run, aml_marked::specs::Marked::a_name))]
-fn begin_scope<S: Space>(
-    alloc: Global,
-    run: &mut Running<S>,
-    act: &mut Activation,
-    levels: u8,
-) -> Result<Next, Refusal>
+fn begin_scope<S: Space>(run: &mut Running<S>, act: &mut Activation, levels: u8) -> Result<Next>
     ensures spent { run.new.1 ≤ run.old.1 }
     ensures falls { IfOk result (λ n. next_weight n < 10) }
     ensures means { Leads S.accesses (meaning S.accesses) result act.new run.new
@@ -262,11 +242,11 @@ fn begin_scope<S: Space>(
     ensures ends { EndsAt result act.new (at_place act.old (outside_at act.old.place)) }
 {
     let outer = act.open();
-    let name = act.name(alloc)?;
-    let found = run.world.locate_scope(alloc, act.scope(), &name);
-    let located = told(alloc, &mut run.world, act, &name, found)?;
+    let name = act.name(run.world.alloc)?;
+    let found = run.world.locate_scope(act.scope(), &name);
+    let located = told(&mut run.world, act, &name, found)?;
     let node = located.scope().node;
-    let scope = MethodPath::new(alloc, located.into_path())?;
+    let scope = MethodPath::new(run.world.alloc, located.into_path())?;
     act.over_name();
     Ok(begin_list_in(run, act, levels, outer, (scope, node)))
 }
@@ -274,12 +254,11 @@ fn begin_scope<S: Space>(
 /// Device, Processor, PowerResource or ThermalZone: its name is declared, and its list is evaluated in it.
 #[tactic(auto, using(crate::proofs::Declaring::entering), unfolding(crate::specs::Declarations::new_scope_run, aml_marked::specs::Marked::a_name))]
 fn begin_new_scope<S: Space>(
-    alloc: Global,
     run: &mut Running<S>,
     act: &mut Activation,
     levels: u8,
     kind: DeclarationKind,
-) -> Result<Next, Refusal>
+) -> Result<Next>
     ensures spent { run.new.1 ≤ run.old.1 }
     ensures falls { IfOk result (λ n. next_weight n < 10) }
     ensures means { Leads S.accesses (meaning S.accesses) result act.new run.new
@@ -287,18 +266,12 @@ fn begin_new_scope<S: Space>(
     ensures ends { EndsAt result act.new (at_place act.old (outside_at act.old.place)) }
 {
     let outer = act.open();
-    let name = act.name(alloc)?;
-    let path = resolve(alloc, &mut run.world, act, &name)?;
-    let declared = declare_scope(
-        alloc,
-        &mut run.world,
-        act.depth(),
-        &path,
-        scope_object(kind),
-    );
-    told(alloc, &mut run.world, act, &name, declared)?;
+    let name = act.name(run.world.alloc)?;
+    let path = resolve(&mut run.world, act, &name)?;
+    let declared = declare_scope(&mut run.world, act.depth(), &path, scope_object(kind));
+    told(&mut run.world, act, &name, declared)?;
     let node = run.world.scope(&path).node;
-    let scope = MethodPath::new(alloc, path)?;
+    let scope = MethodPath::new(run.world.alloc, path)?;
     act.over_name();
     over_numbers(act, kind);
     Ok(begin_list_in(run, act, levels, outer, (scope, node)))
@@ -319,19 +292,18 @@ fn scope_object(kind: DeclarationKind) -> NamedObject
 
 /// Declares a name at a path that is used again.
 fn declare_scope<S: Space>(
-    alloc: Global,
     world: &mut WorldState<S>,
     depth: usize,
     path: &Path,
     object: NamedObject,
-) -> Result<u64, Refusal>
+) -> Result<u64>
     ensures { Does result world.new (new_name (module_level depth) path.now object) world.old }
 {
-    let own = match path.copy(alloc) {
+    let own = match path.copy(world.alloc) {
         Ok(own) => own,
         Err(refusal) => return Err(refusal),
     };
-    world.new_name(alloc, depth == 0, own, object)
+    world.new_name(depth == 0, own, object)
 }
 
 /// Goes over the numbers that a Processor and a PowerResource have behind their name.
@@ -340,13 +312,13 @@ fn over_numbers(act: &mut Activation, kind: DeclarationKind)
 {
     match kind {
         DeclarationKind::Processor => {
-            act.over(1);
-            act.over(4);
-            act.over(1);
+            act.advance(1);
+            act.advance(4);
+            act.advance(1);
         }
         DeclarationKind::PowerResource => {
-            act.over(1);
-            act.over(2);
+            act.advance(1);
+            act.advance(2);
         }
         _ => {}
     }
@@ -380,7 +352,7 @@ pub(crate) fn resume_scope<S: Space>(
     scope: MethodPath,
     node: NodeId,
     flow: Flow,
-) -> Result<Next, Refusal>
+) -> Result<Next>
     ensures falls { IfOk result (λ n. next_weight n < 6) }
     ensures memory { NotMemory result }
     ensures means { Leads S.accesses (meaning S.accesses) result act.new run.now

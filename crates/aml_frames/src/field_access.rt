@@ -30,17 +30,15 @@ use aml_objects::{
     BufferField, Field, FieldSource, FieldUnit, Octets, OperationRegion, UpdateRule, Value,
 };
 use aml_path::Path;
-use ar_space::{EvaluationFault, Refusal, Space, Width};
-use std::alloc::Global;
+use ar_space::{EvaluationFault, Refusal, Result, Space, Width};
 
 /// An access of a field: of a buffer, of a region, or behind an index field and a data field.
 #[tactic(auto, using(crate::proofs::Addressing::fields))]
 pub(crate) fn begin_access<S: Space>(
-    alloc: Global,
     run: &mut Running<S>,
     act: &Activation,
     access: Access,
-) -> Result<Next, Refusal>
+) -> Result<Next>
     ensures spent { run.new.1 ≤ run.old.1 }
     ensures falls { IfOk result (λ n. next_weight n < access_weight access) }
     ensures means { Leads S.accesses (meaning S.accesses) result act.now run.new
@@ -48,12 +46,12 @@ pub(crate) fn begin_access<S: Space>(
     ensures ends { EndsAt result act.now act.now }
 {
     match access.object {
-        Accessed::Unit(field) => begin_region(alloc, run, act, access.calls, field, access.doing),
+        Accessed::Unit(field) => begin_region(run, act, access.calls, field, access.doing),
         Accessed::Field(Field::Buffer(field)) => {
-            access_buffer(alloc, run, act, access.calls, field, access.doing)
+            access_buffer(run, act, access.calls, field, access.doing)
         }
         Accessed::Field(Field::Unit(unit)) => {
-            begin_unit(alloc, run, act, access.calls, unit, access.doing)
+            begin_unit(run, act, access.calls, unit, access.doing)
         }
     }
 }
@@ -61,13 +59,12 @@ pub(crate) fn begin_access<S: Space>(
 /// An access of a field unit.
 #[tactic(auto, using(crate::proofs::Addressing::fields, crate::proofs::UnitSteps::indexed, crate::proofs::BankSteps::banks))]
 fn begin_unit<S: Space>(
-    alloc: Global,
     run: &mut Running<S>,
     act: &Activation,
     calls: usize,
     unit: FieldUnit,
     doing: Doing,
-) -> Result<Next, Refusal>
+) -> Result<Next>
     ensures spent { run.new.1 ≤ run.old.1 }
     ensures falls { IfOk result (λ n. next_weight n < field_weight calls) }
     ensures means { Leads S.accesses (meaning S.accesses) result act.now run.new
@@ -76,13 +73,13 @@ fn begin_unit<S: Space>(
 {
     match unit.source {
         FieldSource::Region(region) => {
-            begin_region(alloc, run, act, calls, RegionField { region, unit }, doing)
+            begin_region(run, act, calls, RegionField { region, unit }, doing)
         }
         FieldSource::Index(index, behind) => {
-            begin_indexed(alloc, run, act, calls, (index, behind), (unit, doing))
+            begin_indexed(run, act, calls, (index, behind), (unit, doing))
         }
         FieldSource::Bank(region, bank) => {
-            begin_banked(alloc, run, act, calls, (region, bank), (unit, doing))
+            begin_banked(run, act, calls, (region, bank), (unit, doing))
         }
     }
 }
@@ -90,13 +87,12 @@ fn begin_unit<S: Space>(
 /// An access of a buffer field: bits of its buffer.
 #[tactic(auto, using(crate::proofs::Addressing::fields))]
 fn access_buffer<S: Space>(
-    alloc: Global,
     run: &mut Running<S>,
     act: &Activation,
     calls: usize,
     field: BufferField,
     doing: Doing,
-) -> Result<Next, Refusal>
+) -> Result<Next>
     ensures spent { run.new.1 ≤ run.old.1 }
     ensures falls { IfOk result (λ n. next_weight n < 4) }
     ensures means { Leads S.accesses (meaning S.accesses) result act.now run.new
@@ -105,12 +101,11 @@ fn access_buffer<S: Space>(
 {
     match doing {
         Doing::Read(reading) => {
-            let bytes = run.world.read_buffer_field(alloc, field)?;
+            let bytes = run.world.read_buffer_field(field)?;
             finish_read(run, act, reading, field.bits, bytes)
         }
         Doing::Write(bytes) => {
-            run.world
-                .write_buffer_field(alloc, field, bytes.as_slice())?;
+            run.world.write_buffer_field(field, bytes.as_slice())?;
             Ok(Next::Flow(Flow::Next))
         }
     }
@@ -119,20 +114,19 @@ fn access_buffer<S: Space>(
 /// An access of a field of a region: the region is looked up, and its address is asked for where it is in PCI_Config.
 #[tactic(auto, using(crate::proofs::Addressing::regions), unfolding(crate::specs::Weights::behind_weight))]
 pub fn begin_region<S: Space>(
-    alloc: Global,
     run: &mut Running<S>,
     act: &Activation,
     calls: usize,
     field: RegionField,
     doing: Doing,
-) -> Result<Next, Refusal>
+) -> Result<Next>
     ensures spent { run.new.1 ≤ run.old.1 }
     ensures falls { IfOk result (λ n. next_weight n < region_weight calls) }
     ensures means { Leads S.accesses (meaning S.accesses) result act.now run.new
         (access_done S.accesses (meaning S.accesses) calls (object.Unit field) doing) run.old }
     ensures ends { EndsAt result act.now act.now }
 {
-    let declared = region_of(alloc, run, field.region)?;
+    let declared = region_of(run, field.region)?;
     let access = RegionAccess {
         calls,
         field,
@@ -142,7 +136,6 @@ pub fn begin_region<S: Space>(
         doing,
     };
     begin_declared(
-        alloc,
         run,
         act,
         access,
@@ -153,26 +146,21 @@ pub fn begin_region<S: Space>(
 
 /// The region with the number of a declaration, and the scope that it was declared in.
 #[tactic(auto, using(aml_meaning::proofs::Runs::running))]
-pub(crate) fn region_of<S: Space>(
-    alloc: Global,
-    run: &Running<S>,
-    number: u64,
-) -> Result<(Path, OperationRegion), Refusal>
+pub(crate) fn region_of<S: Space>(run: &Running<S>, number: u64) -> Result<(Path, OperationRegion)>
     ensures { Does result run.now (lift (region_declared number)) run.now }
 {
-    run.world.region_declared(alloc, number)
+    run.world.region_declared(number)
 }
 
 /// An access of a field of a region of this kind, which was declared in a scope.
 #[tactic(auto, using(crate::proofs::Addressing::spaces_known))]
 pub(crate) fn begin_declared<S: Space>(
-    alloc: Global,
     run: &mut Running<S>,
     act: &Activation,
     access: RegionAccess,
     kind: RegionSpace,
     scope: &Path,
-) -> Result<Next, Refusal>
+) -> Result<Next>
     ensures spent { run.new.1 ≤ run.old.1 }
     ensures falls { IfOk result (λ n. next_weight n < region_weight access.calls + behind_weight access) }
     ensures means { Leads S.accesses (meaning S.accesses) result act.now run.new
@@ -181,9 +169,9 @@ pub(crate) fn begin_declared<S: Space>(
     ensures memory { kind ≡ kinds.Other → NotMemory result }
 {
     match kind {
-        RegionSpace::SystemMemory => access_space(alloc, run, act, access, AddressSpace::Memory),
-        RegionSpace::SystemIo => access_space(alloc, run, act, access, AddressSpace::Io),
-        RegionSpace::PciConfig => begin_pci(alloc, run, act, access, scope),
+        RegionSpace::SystemMemory => access_space(run, act, access, AddressSpace::Memory),
+        RegionSpace::SystemIo => access_space(run, act, access, AddressSpace::Io),
+        RegionSpace::PciConfig => begin_pci(run, act, access, scope),
         RegionSpace::Other => Err(Refusal::Evaluation(EvaluationFault::SpaceKind)),
     }
 }
@@ -191,12 +179,11 @@ pub(crate) fn begin_declared<S: Space>(
 /// An access of a field of a region whose address space is known.
 #[tactic(auto, using(crate::proofs::BankSteps::spaces))]
 pub(crate) fn access_space<S: Space>(
-    alloc: Global,
     run: &mut Running<S>,
     act: &Activation,
     access: RegionAccess,
     space: AddressSpace,
-) -> Result<Next, Refusal>
+) -> Result<Next>
     ensures spent { run.new.1 ≤ run.old.1 }
     ensures falls { IfOk result (λ n. next_weight n < 4 + behind_weight access) }
     ensures means { Leads S.accesses (meaning S.accesses) result act.now run.new
@@ -217,7 +204,7 @@ pub(crate) fn access_space<S: Space>(
         length,
     };
     match bank {
-        None => access_located(alloc, run, act, field, region, doing),
+        None => access_located(run, act, field, region, doing),
         Some(bank) => {
             let banked = BankedField {
                 calls,
@@ -225,7 +212,7 @@ pub(crate) fn access_space<S: Space>(
                 region,
                 field: field.unit,
             };
-            begin_units(alloc, run, act, banked, doing)
+            begin_units(run, act, banked, doing)
         }
     }
 }
@@ -233,13 +220,12 @@ pub(crate) fn access_space<S: Space>(
 /// An access of a field of a region that is located.
 #[tactic(auto, using(crate::proofs::Addressing::reading_as))]
 fn access_located<S: Space>(
-    alloc: Global,
     run: &mut Running<S>,
     act: &Activation,
     field: RegionField,
     region: Region,
     doing: Doing,
-) -> Result<Next, Refusal>
+) -> Result<Next>
     ensures spent { run.new.1 ≤ run.old.1 }
     ensures falls { IfOk result (λ n. next_weight n < 4) }
     ensures means { Leads S.accesses (meaning S.accesses) result act.now run.new
@@ -249,7 +235,7 @@ fn access_located<S: Space>(
     let unit = field.unit;
     match doing {
         Doing::Read(reading) => {
-            let bytes = run.world.read_field(alloc, region, unit)?;
+            let bytes = run.world.read_field(region, unit)?;
             finish_read(run, act, reading, unit.bits, bytes)
         }
         Doing::Write(bytes) => {
@@ -267,7 +253,7 @@ pub(crate) fn finish_read<S: Space>(
     reading: Reading,
     count: u32,
     bytes: Vec<u8>,
-) -> Result<Next, Refusal>
+) -> Result<Next>
     ensures spent { run.new.1 ≤ run.old.1 }
     ensures falls { IfOk result (λ n. next_weight n < 4) }
     ensures means { Leads S.accesses (meaning S.accesses) result act.now run.new

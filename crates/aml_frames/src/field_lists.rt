@@ -19,82 +19,66 @@ use aml_grammar::{Opcode, TermCode, TermReader};
 use aml_meaning::{FieldGroup, FieldLayout, Flow, Running, WorldState, access_width, update_rule};
 use aml_objects::FieldSource;
 use aml_terms::{At, RowPlace};
-use ar_space::{NameFault, Refusal, Space};
-use std::alloc::Global;
+use ar_space::{NameFault, Refusal, Result, Space};
 
 /// Field: the fields of an operation region.
 #[tactic(auto, using(aml_meaning::proofs::Runs::running), unfolding(aml_meaning::specs::FieldTerms::field_list_rule))]
 pub(crate) fn declare_fields<S: Space>(
-    alloc: Global,
     run: &mut Running<S>,
     act: &Activation,
     levels: u8,
     place: RowPlace,
-) -> Result<Flow, Refusal>
+) -> Result<Flow>
     ensures spent { run.new.1 ≤ run.old.1 }
     ensures means { Does result run.new
         (field_list_rule (meaning S.accesses) act.now.scope act.now.depth (coded_tree place act.now levels)) run.old }
 {
+    let alloc = run.world.alloc;
     let term = act.coded_term(levels, place);
     let elements = list(&term, 2)?;
     ask_for_connections(&run.world, Opcode::Field, elements)?;
     let name = term.name(alloc, 0)?;
     let found = run.world.region_found(act.scope(), &name);
-    let region = told(alloc, &mut run.world, act, &name, found)?;
+    let region = told(&mut run.world, act, &name, found)?;
     let flags = number(&term, 1)?;
-    lay_fields(
-        alloc,
-        run,
-        act,
-        FieldSource::Region(region),
-        flags,
-        elements,
-    )
+    lay_fields(run, act, FieldSource::Region(region), flags, elements)
 }
 
 /// IndexField: the fields behind an index field and a data field.
 #[tactic(auto, using(aml_meaning::proofs::Runs::running), unfolding(aml_meaning::specs::FieldTerms::index_list_rule))]
 pub(crate) fn declare_index_fields<S: Space>(
-    alloc: Global,
     run: &mut Running<S>,
     act: &Activation,
     levels: u8,
     place: RowPlace,
-) -> Result<Flow, Refusal>
+) -> Result<Flow>
     ensures spent { run.new.1 ≤ run.old.1 }
     ensures means { Does result run.new
         (index_list_rule (meaning S.accesses) act.now.scope act.now.depth (coded_tree place act.now levels)) run.old }
 {
+    let alloc = run.world.alloc;
     let term = act.coded_term(levels, place);
     let elements = list(&term, 3)?;
     ask_for_connections(&run.world, Opcode::IndexField, elements)?;
     let name = term.name(alloc, 0)?;
     let found = run.world.field_found(act.scope(), &name);
-    let index = told(alloc, &mut run.world, act, &name, found)?;
+    let index = told(&mut run.world, act, &name, found)?;
     let name = term.name(alloc, 1)?;
     let found = run.world.field_found(act.scope(), &name);
-    let behind = told(alloc, &mut run.world, act, &name, found)?;
+    let behind = told(&mut run.world, act, &name, found)?;
     let flags = number(&term, 2)?;
-    lay_fields(
-        alloc,
-        run,
-        act,
-        FieldSource::Index(index, behind),
-        flags,
-        elements,
-    )
+    lay_fields(run, act, FieldSource::Index(index, behind), flags, elements)
 }
 
 /// The fields of a list, with these flags.
 #[tactic(auto, using(aml_meaning::proofs::Runs::running), unfolding(aml_meaning::specs::FieldTerms::fields_laid))]
 pub(crate) fn lay_fields<S: Space>(
-    alloc: Global,
     run: &mut Running<S>,
     act: &Activation,
     source: FieldSource,
     flags: u64,
     elements: At<'_>,
-) -> Result<Flow, Refusal>
+) -> Result<Flow>
     ensures spent { run.new.1 ≤ run.old.1 }
     ensures means { Does result run.new (fields_laid act.now.scope act.now.depth source flags
         (at_list elements.entry)) run.old }
@@ -107,19 +91,18 @@ pub(crate) fn lay_fields<S: Space>(
         bit_offset: 0,
         access: access_width(flags),
     };
-    lay_elements(alloc, &mut run.world, act, group, first, &elements)?;
+    lay_elements(&mut run.world, act, group, first, &elements)?;
     Ok(Flow::Next)
 }
 
 /// Elements of a list of fields, one after another.
 fn lay_elements<S: Space>(
-    alloc: Global,
     world: &mut WorldState<S>,
     act: &Activation,
     group: FieldGroup,
     first: FieldLayout,
     elements: &At<'_>,
-) -> Result<(), Refusal>
+) -> Result<()>
     ensures { Does result world.new (elements_laid group act.now.scope act.now.depth first
         (at_list elements.now)) world.old }
 {
@@ -129,7 +112,7 @@ fn lay_elements<S: Space>(
         match rest.next() {
             None => return Ok(()),
             Some(item) => {
-                at = lay_element(alloc, world, act, group, at, &item.first)?;
+                at = lay_element(world, act, group, at, &item.first)?;
                 rest = item.rest;
             }
         }
@@ -139,23 +122,22 @@ fn lay_elements<S: Space>(
 /// An element of a list of fields: where the fields behind it go on.
 #[tactic(auto, using(crate::proofs::DeclaringFields::field_elements))]
 fn lay_element<S: Space>(
-    alloc: Global,
     world: &mut WorldState<S>,
     act: &Activation,
     group: FieldGroup,
     at: FieldLayout,
     element: &At<'_>,
-) -> Result<FieldLayout, Refusal>
+) -> Result<FieldLayout>
     ensures { Does result world.new
         (element_laid group act.now.scope act.now.depth (code_of (at_tree element.now)) at
         (at_tree element.now)) world.old }
 {
     match element.code() {
-        TermCode::NamedField => lay_named(alloc, world, act, group, at, element),
+        TermCode::NamedField => lay_named(world, act, group, at, element),
         TermCode::ReservedField => lay_reserved(world, act, group, at, element),
         TermCode::AccessField => lay_access(world, act, group, at, element),
         TermCode::ExtendedAccessField => lay_access(world, act, group, at, element),
-        TermCode::ConnectField => lay_connection(alloc, world, act, group, at, element),
+        TermCode::ConnectField => lay_connection(world, act, group, at, element),
         TermCode::Name => Err(Refusal::Name(NameFault::BadName)),
         TermCode::MethodInvocation => Err(Refusal::Name(NameFault::BadName)),
         TermCode::Opcode(_) => Err(Refusal::Name(NameFault::BadName)),
@@ -165,21 +147,20 @@ fn lay_element<S: Space>(
 /// A field that is declared.
 #[tactic(auto, using(aml_meaning::proofs::Runs::running), unfolding(aml_meaning::specs::FieldTerms::named_field))]
 fn lay_named<S: Space>(
-    alloc: Global,
     world: &mut WorldState<S>,
     act: &Activation,
     group: FieldGroup,
     at: FieldLayout,
     element: &At<'_>,
-) -> Result<FieldLayout, Refusal>
+) -> Result<FieldLayout>
     ensures { Does result world.new (named_field group act.now.scope act.now.depth at (at_tree element.now)) world.old }
 {
-    let name = element.name(alloc, 0)?;
-    let resolved = name.resolve_in(alloc, act.scope().path);
-    let path = told(alloc, world, act, &name, resolved)?;
+    let name = element.name(world.alloc, 0)?;
+    let resolved = name.resolve_in(world.alloc, act.scope().path);
+    let path = told(world, act, &name, resolved)?;
     let count = number(element, 1)?;
-    let laid = world.new_field(alloc, group, act.depth() == 0, path, at, count);
-    told(alloc, world, act, &name, laid)
+    let laid = world.new_field(group, act.depth() == 0, path, at, count);
+    told(world, act, &name, laid)
 }
 
 /// Bits that are passed over.
@@ -190,7 +171,7 @@ fn lay_reserved<S: Space>(
     group: FieldGroup,
     at: FieldLayout,
     element: &At<'_>,
-) -> Result<FieldLayout, Refusal>
+) -> Result<FieldLayout>
     ensures { Does result world.now (reserved_field group act.now.scope act.now.depth at
         (at_tree element.now)) world.now }
 {
@@ -206,7 +187,7 @@ fn lay_access<S: Space>(
     group: FieldGroup,
     at: FieldLayout,
     element: &At<'_>,
-) -> Result<FieldLayout, Refusal>
+) -> Result<FieldLayout>
     ensures { Does result world.now (access_field group act.now.scope act.now.depth at
         (at_tree element.now)) world.now }
 {
@@ -217,18 +198,17 @@ fn lay_access<S: Space>(
 /// A Connection: the fields behind it go on where they would without it.
 #[tactic(auto, using(aml_meaning::proofs::Runs::running))]
 fn lay_connection<S: Space>(
-    alloc: Global,
     world: &mut WorldState<S>,
     act: &Activation,
     group: FieldGroup,
     at: FieldLayout,
     element: &At<'_>,
-) -> Result<FieldLayout, Refusal>
+) -> Result<FieldLayout>
     ensures { Does result world.new (connected_field group act.now.scope act.now.depth at
         (at_tree element.now)) world.old }
 {
     if is_named(element, 0) {
-        return test_connection(alloc, world, act, group, at, element);
+        return test_connection(world, act, group, at, element);
     }
     Ok(at)
 }
@@ -236,19 +216,18 @@ fn lay_connection<S: Space>(
 /// A Connection that is a name has to be that of a buffer.
 #[tactic(auto, using(aml_meaning::proofs::Runs::running), unfolding(aml_meaning::specs::FieldTerms::named_connection))]
 fn test_connection<S: Space>(
-    alloc: Global,
     world: &mut WorldState<S>,
     act: &Activation,
     group: FieldGroup,
     at: FieldLayout,
     element: &At<'_>,
-) -> Result<FieldLayout, Refusal>
+) -> Result<FieldLayout>
     ensures { Does result world.new (named_connection group act.now.scope act.now.depth at
         (at_tree element.now)) world.old }
 {
-    let name = element.name(alloc, 0)?;
+    let name = element.name(world.alloc, 0)?;
     let found = world.connection_found(act.scope(), &name);
-    told(alloc, world, act, &name, found)?;
+    told(world, act, &name, found)?;
     Ok(at)
 }
 
@@ -259,7 +238,7 @@ fn ask_for_connections<S: Space>(
     world: &WorldState<S>,
     opcode: Opcode,
     elements: At<'_>,
-) -> Result<(), Refusal>
+) -> Result<()>
     ensures answer { Does result world.now (connections_asked opcode (at_list elements.entry)) world.now }
     ensures memory { NotMemory result }
 {

@@ -13,7 +13,7 @@ use aml_fields::Unit;
 use aml_meaning::{BufferFieldSize, Count, Flow, Searching, StoreTarget};
 use aml_objects::{Body, Elements, Field, NodeId, Reference, Value};
 use aml_path::Path;
-use ar_space::Refusal;
+use ar_space::Result;
 
 /// The items of a list that are left.
 #[derive(Clone, Copy, Debug)]
@@ -196,7 +196,7 @@ pub enum Frame {
     Wait(Option<u64>),
 }
 
-/// What a step leaves to do.
+/// What a step leaves to do: nothing where it has finished its term, else a part of the term that is evaluated next.
 #[derive(Drop)]
 pub enum Next {
     /// Nothing: this is what the term leaves.
@@ -272,7 +272,7 @@ pub enum Control {
 
 /// Nothing is left to do: this is what the term leaves.
 #[inline(always)]
-pub(crate) fn leave(flow: Flow) -> Result<Next, Refusal>
+pub(crate) fn leave(flow: Flow) -> Result<Next>
     ensures { result ≡ Ok (nexts.Flow flow) }
 {
     Ok(Next::Flow(flow))

@@ -25,20 +25,19 @@ use crate::values::value_of_call;
 use aml_fields::{FieldUnits, Unit, bytes_of, units};
 use aml_meaning::{Flow, RegionField, Running, integer_only};
 use aml_objects::{FieldUnit, Octets};
-use ar_space::{Refusal, Space, Width};
+use ar_space::{Result, Space, Width};
 use std::alloc::Global;
 
 /// The index field and the data field with these numbers of declarations are looked up, and the units of a field
 /// behind them are accessed.
 #[tactic(auto, using(crate::proofs::UnitSteps::indexed))]
 pub(crate) fn begin_indexed<S: Space>(
-    alloc: Global,
     run: &mut Running<S>,
     act: &Activation,
     calls: usize,
     numbers: (u64, u64),
     access: (FieldUnit, Doing),
-) -> Result<Next, Refusal>
+) -> Result<Next>
     ensures spent { run.new.1 ≤ run.old.1 }
     ensures falls { IfOk result (λ n. next_weight n < field_weight calls) }
     ensures few { access.0.bits < 4294967296 }
@@ -58,16 +57,16 @@ pub(crate) fn begin_indexed<S: Space>(
     };
     match doing {
         Doing::Read(reading) => {
-            let bytes = zeros(alloc, unit.bits)?;
+            let bytes = zeros(run.world.alloc, unit.bits)?;
             let reads = UnitReads {
                 field,
                 reading,
                 bytes,
                 left,
             };
-            next_read(alloc, run, act, reads)
+            next_read(run, act, reads)
         }
-        Doing::Write(bytes) => next_write(alloc, run, act, UnitWrites { field, bytes, left }),
+        Doing::Write(bytes) => next_write(run, act, UnitWrites { field, bytes, left }),
     }
 }
 
@@ -82,12 +81,7 @@ pub(crate) fn field_units(bit_offset: u64, bits: u32, width: Width) -> FieldUnit
 /// The next unit is read: its offset is written to the index field first. Behind the last unit the bits are read as a
 /// value.
 #[tactic(auto, using(crate::proofs::UnitSteps::unit_by_unit))]
-fn next_read<S: Space>(
-    alloc: Global,
-    run: &mut Running<S>,
-    act: &Activation,
-    reads: UnitReads,
-) -> Result<Next, Refusal>
+fn next_read<S: Space>(run: &mut Running<S>, act: &Activation, reads: UnitReads) -> Result<Next>
     ensures spent { run.new.1 ≤ run.old.1 }
     ensures falls { IfOk result (λ n. next_weight n < reads_weight reads + 4) }
     ensures means { Leads S.accesses (meaning S.accesses) result act.now run.new
@@ -97,18 +91,17 @@ fn next_read<S: Space>(
     let mut reads = reads;
     match reads.left.next() {
         None => finish_read(run, act, reads.reading, reads.field.field.bits, reads.bytes),
-        Some(unit) => choose(alloc, run, act, UnitsLeft::Reads(reads), unit),
+        Some(unit) => choose(run, act, UnitsLeft::Reads(reads), unit),
     }
 }
 
 /// The next unit is written; where bits of it are kept it is read first.
 #[tactic(auto, using(crate::proofs::UnitSteps::unit_by_unit))]
 pub(crate) fn next_write<S: Space>(
-    alloc: Global,
     run: &mut Running<S>,
     act: &Activation,
     writes: UnitWrites,
-) -> Result<Next, Refusal>
+) -> Result<Next>
     ensures spent { run.new.1 ≤ run.old.1 }
     ensures falls { IfOk result (λ n. next_weight n < writes_weight writes + 4) }
     ensures means { Leads S.accesses (meaning S.accesses) result act.now run.new
@@ -120,9 +113,9 @@ pub(crate) fn next_write<S: Space>(
         None => Ok(Next::Flow(Flow::Next)),
         Some(unit) => {
             if is_kept(writes.field.field, unit) {
-                choose(alloc, run, act, UnitsLeft::Writes(writes), unit)
+                choose(run, act, UnitsLeft::Writes(writes), unit)
             } else {
-                write_over(alloc, run, act, writes, unit, 0)
+                write_over(run, act, writes, unit, 0)
             }
         }
     }
@@ -131,12 +124,11 @@ pub(crate) fn next_write<S: Space>(
 /// A unit is read: its offset is written to the index field.
 #[tactic(auto, using(crate::proofs::UnitSteps::unit_by_unit))]
 fn choose<S: Space>(
-    alloc: Global,
     run: &Running<S>,
     act: &Activation,
     units: UnitsLeft,
     unit: Unit,
-) -> Result<Next, Refusal>
+) -> Result<Next>
     ensures falls { IfOk result (λ n. next_weight n ≤ left_weight units + 4 *
         region_weight (field_accessed units).calls + 1) }
     ensures means { Leads S.accesses (meaning S.accesses) result act.now run.now
@@ -145,19 +137,18 @@ fn choose<S: Space>(
 {
     let field = units.field();
     let chosen = (field.index, unit.offset);
-    let frame = Frame::UnitChosen(Boxed::new(alloc, units)?, unit);
-    write_then(alloc, run, act, field.calls, chosen, frame)
+    let frame = Frame::UnitChosen(Boxed::new(run.world.alloc, units)?, unit);
+    write_then(run, act, field.calls, chosen, frame)
 }
 
 /// The offset of a unit was written to the index field: the data field is read.
 #[tactic(auto, using(crate::proofs::UnitSteps::unit_by_unit))]
 pub(crate) fn read_chosen<S: Space>(
-    alloc: Global,
     run: &Running<S>,
     act: &Activation,
     units: Boxed<UnitsLeft>,
     unit: Unit,
-) -> Result<Next, Refusal>
+) -> Result<Next>
     ensures falls { IfOk result (λ n. next_weight n ≤ left_weight units + 3 *
         region_weight (field_accessed units).calls + 1) }
     ensures means { Leads S.accesses (meaning S.accesses) result act.now run.now
@@ -170,20 +161,22 @@ pub(crate) fn read_chosen<S: Space>(
         object: Accessed::Unit(field.behind),
         doing: Doing::Read(Reading::Unit(field.field.access)),
     };
-    Ok(Next::AccessThen(Boxed::new(alloc, access)?, Frame::UnitRead(units, unit)))
+    Ok(Next::AccessThen(
+        Boxed::new(run.world.alloc, access)?,
+        Frame::UnitRead(units, unit),
+    ))
 }
 
 /// The data field was read: its bits are those of the unit. They are put where they are in the field, or kept by the
 /// write.
 #[tactic(auto, using(crate::proofs::UnitSteps::unit_by_unit))]
 pub(crate) fn resume_unit<S: Space>(
-    alloc: Global,
     run: &mut Running<S>,
     act: &Activation,
     units: Boxed<UnitsLeft>,
     unit: Unit,
     flow: Flow,
-) -> Result<Next, Refusal>
+) -> Result<Next>
     ensures spent { run.new.1 ≤ run.old.1 }
     ensures falls { IfOk result (λ n. next_weight n < left_weight units + 2 *
         region_weight (field_accessed units).calls + 4) }
@@ -196,22 +189,21 @@ pub(crate) fn resume_unit<S: Space>(
         UnitsLeft::Reads(reads) => {
             let mut reads = reads;
             put_unit(&mut reads.bytes, unit, number);
-            next_read(alloc, run, act, reads)
+            next_read(run, act, reads)
         }
-        UnitsLeft::Writes(writes) => write_over(alloc, run, act, writes, unit, number),
+        UnitsLeft::Writes(writes) => write_over(run, act, writes, unit, number),
     }
 }
 
 /// A unit is written that holds a number: its offset is written to the index field, again where the unit was read.
 #[tactic(auto, using(crate::proofs::UnitSteps::unit_by_unit))]
 fn write_over<S: Space>(
-    alloc: Global,
     run: &Running<S>,
     act: &Activation,
     writes: UnitWrites,
     unit: Unit,
     old: u64,
-) -> Result<Next, Refusal>
+) -> Result<Next>
     ensures falls { IfOk result (λ n. next_weight n ≤ writes_weight writes + 2 * region_weight writes.field.calls + 1) }
     ensures means { Leads S.accesses (meaning S.accesses) result act.now run.now
         (unit_met S.accesses (meaning S.accesses) (units_left.Writes writes) unit old) run.now }
@@ -220,19 +212,18 @@ fn write_over<S: Space>(
     let field = writes.field;
     let number = merge_unit(field.field, writes.bytes.as_slice(), unit, old);
     let again = (field.index, unit.offset);
-    let frame = Frame::UnitMerged(Boxed::new(alloc, writes)?, number);
-    write_then(alloc, run, act, field.calls, again, frame)
+    let frame = Frame::UnitMerged(Boxed::new(run.world.alloc, writes)?, number);
+    write_then(run, act, field.calls, again, frame)
 }
 
 /// The offset of a unit was written to the index field: a number is written to the data field.
 #[tactic(auto, using(crate::proofs::UnitSteps::unit_by_unit))]
 pub(crate) fn write_merged<S: Space>(
-    alloc: Global,
     run: &Running<S>,
     act: &Activation,
     writes: Boxed<UnitWrites>,
     number: u64,
-) -> Result<Next, Refusal>
+) -> Result<Next>
     ensures falls { IfOk result (λ n. next_weight n ≤ writes_weight writes + region_weight writes.field.calls + 1) }
     ensures means { Leads S.accesses (meaning S.accesses) result act.now run.now
         (unit_merged S.accesses (meaning S.accesses) writes number) run.now }
@@ -240,35 +231,34 @@ pub(crate) fn write_merged<S: Space>(
 {
     let field = writes.get().field;
     let frame = Frame::UnitWritten(writes);
-    write_then(alloc, run, act, field.calls, (field.behind, number), frame)
+    write_then(run, act, field.calls, (field.behind, number), frame)
 }
 
 /// A number is written to a field of a region, and then a frame goes on.
 #[tactic(auto, using(crate::proofs::UnitSteps::numbers_written))]
 pub(crate) fn write_then<S: Space>(
-    alloc: Global,
     run: &Running<S>,
     act: &Activation,
     calls: usize,
     written: (RegionField, u64),
     frame: Frame,
-) -> Result<Next, Refusal>
+) -> Result<Next>
     ensures falls { IfOk result (λ n. next_weight n ≤ region_weight calls + weight frame) }
     ensures means { Leads S.accesses (meaning S.accesses) result act.now run.now
         (number_written_then S.accesses (meaning S.accesses) calls written.0 written.1 frame act.now) run.now }
     ensures ends { EndsAt result act.now (ends frame act.now) }
 {
-    let bytes = unit_octets(alloc, written.1)?;
+    let bytes = unit_octets(run.world.alloc, written.1)?;
     let access = Access {
         calls,
         object: Accessed::Unit(written.0),
         doing: Doing::Write(bytes),
     };
-    Ok(Next::AccessThen(Boxed::new(alloc, access)?, frame))
+    Ok(Next::AccessThen(Boxed::new(run.world.alloc, access)?, frame))
 }
 
 /// A number as the bytes of a unit, the lowest first.
-fn unit_octets(alloc: Global, number: u64) -> Result<Octets, Refusal>
+fn unit_octets(alloc: Global, number: u64) -> Result<Octets>
     ensures { Answers result (Ok (unit_bytes number)) }
 {
     Ok(Octets::from_vec(Vec::from_slice(alloc, &bytes_of(number))?))

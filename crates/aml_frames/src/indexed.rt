@@ -9,7 +9,7 @@ use crate::uses::Reading;
 use aml_fields::{FieldUnits, Unit, bytes_for, copy_from_unit, merge};
 use aml_meaning::RegionField;
 use aml_objects::{FieldUnit, Octets, UpdateRule};
-use ar_space::Refusal;
+use ar_space::Result;
 use std::alloc::Global;
 
 /// How many bytes of a field are read at most: more than any field has.
@@ -70,7 +70,7 @@ impl UnitsLeft {
 }
 
 /// The bytes of so many bits, all zero.
-pub fn zeros(alloc: Global, bits: u32) -> Result<Vec<u8>, Refusal>
+pub fn zeros(alloc: Global, bits: u32) -> Result<Vec<u8>>
     ensures { Answers (seen (λ v. v.items) result) (Ok (replicate (byte_count bits) 0)) }
 {
     Ok(vec![in alloc; 0; bytes_for(bits as usize)]?)

@@ -18,7 +18,7 @@ use crate::short_terms::{count_slot, put_integer_to_slot, short_integer};
 use crate::uses::TargetUse;
 use aml_meaning::{Count, Running};
 use aml_objects::Value;
-use ar_space::{Refusal, Space};
+use ar_space::{Result, Space};
 
 /// The integer that the term gives which stands next, where no frame is needed: that of a local, an argument, a
 /// constant, a name, a field unit whose bits are read at once, or an operator without a target over two short terms.
@@ -28,7 +28,7 @@ pub(crate) fn known_integer<S: Space>(
     run: &mut Running<S>,
     act: &mut Activation,
     levels: u8,
-) -> Result<Option<u64>, Refusal>
+) -> Result<Option<u64>>
     ensures integer { IfOk result
         (λ known. IfSome known (λ number. Does (Ok (flows.Value (values.Integer number))) run.new
         (term_run S.accesses (meaning S.accesses) act.old levels) run.old)) }
@@ -59,7 +59,7 @@ pub(crate) fn use_known<S: Space>(
     act: &mut Activation,
     levels: u8,
     target_use: TargetUse,
-) -> Result<Option<Value>, Refusal>
+) -> Result<Option<Value>>
     ensures done { IfOk result
         (λ known. IfSome known (λ value. Does (Ok (flows.Value value)) run.new
         (target_run S.accesses (meaning S.accesses) (super levels) target_use act.old) run.old)) }
@@ -86,7 +86,7 @@ fn put_known<S: Space>(
     act: &mut Activation,
     levels: u8,
     number: u64,
-) -> Result<Option<Value>, Refusal>
+) -> Result<Option<Value>>
     ensures done { IfOk result
         (λ known. IfSome known (λ value. Does (Ok (flows.Value value)) run.new
         (target_run S.accesses (meaning S.accesses) (super levels)

@@ -1,4 +1,5 @@
-//! Lists of terms (ACPI 6.5, 20.2.5). An item that leaves nothing to do pushes nothing.
+//! Lists of terms (ACPI 6.5, 20.2.5). The first step of an item finishes it, or leaves a part of it to be evaluated: a
+//! `Next` other than `Next::Flow`. Only then are the items behind it put on the stack.
 ghost use Rattle.std.specs.Prelude.{◌≡◌, ◌≤◌, ◌<◌, ◌+◌, [], ◌∷◌, ◌++◌, true, OnOk, IfOk, IfErr, IsOk};
 ghost use Rattle.ar_space.specs.declared.refusal.Refusal.TheVariants.{OutOfMemory};
 ghost use Rattle.aml_meaning.specs.Meaning.{meaning};
@@ -11,26 +12,24 @@ ghost use Rattle.aml_frames.specs.Stack.{then_all, machine, given_up, Goes, stac
 ghost use Rattle.aml_frames.specs.Weights.{next_weight, charged};
 
 use crate::frames::{Control, Entry, Frame, Items, Next};
-use crate::passing::{passes_over, wait_for_list_item};
-use crate::short_items::item_integer;
+use crate::passing::{passes_over, push_passable_item};
+use crate::short_items::try_item;
 use crate::stack::{end_call, follow};
 use crate::terms::begin_term;
 use crate::turns::end_list;
 use crate::waiting::{Stack, go_to_flow, go_to_items};
 use aml_meaning::{Flow, Running};
-use ar_space::{Refusal, Space};
-use std::alloc::Global;
+use ar_space::{Refusal, Result, Space};
 
-/// The next item of a list is begun, or the list ends. What is left of the list waits only for an item that leaves
-/// something to do.
+/// The next item of a list is begun, or the list ends. What is left of the list waits on the stack only for an item
+/// that its first step doesn't finish.
 #[inline(always)]
 #[tactic(auto, using(crate::proofs::Machine::listing_on))]
 pub(crate) fn step_items<S: Space>(
-    alloc: Global,
     run: &mut Running<S>,
     stack: &mut Stack,
     items: Items,
-) -> Result<Control, Refusal>
+) -> Result<Control>
     ensures falls { IfOk result (λ c. charged run.new.1 + (stack_weight stack.new.entries.items + control_weight c) <
         charged run.old.1 + (stack_weight stack.old.entries.items + 4)) }
     ensures refused { IfErr result (λ e. is_passable e ≡ true →
@@ -39,12 +38,8 @@ pub(crate) fn step_items<S: Space>(
     ensures means { Goes S.accesses (meaning S.accesses) result stack.new.act stack.new.entries.items run.new
         (machine S.accesses (meaning S.accesses) (control.Items items) stack.old.act stack.old.entries.items) run.old }
 {
-    if items.left == 0 {
-        stack.act.go_to(items.outer);
-        return end_list(run, stack);
-    }
     let rest = stack.act.rest().len();
-    if rest == 0 {
+    if items.left == 0 || rest == 0 {
         stack.act.go_to(items.outer);
         return end_list(run, stack);
     }
@@ -54,18 +49,20 @@ pub(crate) fn step_items<S: Space>(
         ..items
     };
     if passes_over(run, &stack.act) {
-        return wait_for_list_item(alloc, stack, behind);
+        return push_passable_item(run.world.alloc, stack, behind);
     }
-    match item_integer(run, &mut stack.act, items.levels) {
+    // Some: the item was done whole, and a list has no use for its integer. None: nothing has changed.
+    match try_item(run, &mut stack.act, items.levels) {
         Some(_) => go_to_items(behind),
         None => {
-            let next = begin_term(alloc, run, &mut stack.act, items.levels)?;
+            let next = begin_term(run, &mut stack.act, items.levels)?;
             follow_item(run, stack, behind, next)
         }
     }
 }
 
-/// What an item leaves to do is put on the stack, above the items behind it; where it leaves nothing, the list goes on.
+/// Where its first step has finished an item (`Next::Flow`), the list goes on. Else what the item leaves to do is put
+/// on the stack, above the items behind it.
 #[inline(always)]
 #[tactic(auto, using(crate::proofs::Machine::listing_on))]
 fn follow_item<S: Space>(
@@ -73,7 +70,7 @@ fn follow_item<S: Space>(
     stack: &mut Stack,
     behind: Items,
     next: Next,
-) -> Result<Control, Refusal>
+) -> Result<Control>
     ensures falls { IfOk result (λ c. charged run.new.1 + (stack_weight stack.new.entries.items + control_weight c) ≤
         charged run.old.1 + (stack_weight stack.old.entries.items + 3 + next_weight next)) }
     ensures memory { IfErr result (λ e. e ≡ OutOfMemory) }
@@ -95,7 +92,7 @@ fn follow_above<S: Space>(
     stack: &mut Stack,
     behind: Items,
     next: Next,
-) -> Result<Control, Refusal>
+) -> Result<Control>
     ensures falls { IfOk result (λ c. charged run.new.1 + (stack_weight stack.new.entries.items + control_weight c) ≤
         charged run.old.1 + (stack_weight stack.old.entries.items + 3 + next_weight next)) }
     ensures memory { IfErr result (λ e. e ≡ OutOfMemory) }
@@ -103,7 +100,7 @@ fn follow_above<S: Space>(
         (then_all S.accesses (meaning S.accesses) (next_run S.accesses (meaning S.accesses) next stack.old.act)
         (next_ends next stack.old.act) (stack.old.entries.items ++ entry.Frame (frames.Items behind) ∷ [])) run.old }
 {
-    wait_for_item(run, stack, behind, &next)?;
+    push_list(run, stack, behind, &next)?;
     follow(run, stack, next)
 }
 
@@ -115,7 +112,7 @@ pub(crate) fn next_item<S: Space>(
     stack: &mut Stack,
     items: Items,
     flow: Flow,
-) -> Result<Control, Refusal>
+) -> Result<Control>
     ensures falls { IfOk result (λ c. stack_weight stack.new.entries.items + control_weight c <
         stack_weight stack.old.entries.items + 6) }
     ensures given { IsOk result }
@@ -130,15 +127,15 @@ pub(crate) fn next_item<S: Space>(
     go_to_flow(flow)
 }
 
-/// The items behind one that leaves something to do are put on the stack. Without memory for them a call ends that the
-/// item has begun.
+/// The items behind one that its first step doesn't finish are put on the stack. Without memory for them a call ends
+/// that the item has begun.
 #[inline(always)]
-fn wait_for_item<S: Space>(
+fn push_list<S: Space>(
     run: &mut Running<S>,
     stack: &mut Stack,
     behind: Items,
     next: &Next,
-) -> Result<(), Refusal>
+) -> Result<()>
     ensures kept { OnOk result (run.new ≡ run.old) }
     ensures act { stack.new.act ≡ stack.old.act }
     ensures pushed { OnOk result (stack.new.entries.items ≡ stack.old.entries.items ++

@@ -19,17 +19,11 @@ use crate::short_names::node_at;
 use crate::tracing::told_here;
 use crate::uses::Reading;
 use aml_meaning::{Flow, Invocation, Running, WorldState};
-use ar_space::{Refusal, Space};
-use std::alloc::Global;
+use ar_space::{Result, Space};
 
 /// A name where a value stands: what it is, with as many arguments as stand behind it.
 #[tactic(auto, using(crate::proofs::Using::using_targets), unfolding(crate::specs::Follow::name_run, aml_marked::specs::Marked::a_name))]
-pub fn begin_name<S: Space>(
-    alloc: Global,
-    run: &mut Running<S>,
-    act: &mut Activation,
-    levels: u8,
-) -> Result<Next, Refusal>
+pub fn begin_name<S: Space>(run: &mut Running<S>, act: &mut Activation, levels: u8) -> Result<Next>
     ensures spent { run.new.1 ≤ run.old.1 }
     ensures falls { IfOk result (λ n. next_weight n < 3 * most + 100) }
     ensures means { Leads S.accesses (meaning S.accesses) result act.new run.new
@@ -37,38 +31,32 @@ pub fn begin_name<S: Space>(
     ensures ends { EndsAt result act.new (behind_name_at act.old levels) }
 {
     let count = act.argument_count();
-    let found = name_used(alloc, &run.world, act, count);
-    let invocation = told_here(alloc, &mut run.world, act, found)?;
+    let found = name_used(&run.world, act, count);
+    let invocation = told_here(&mut run.world, act, found)?;
     act.over_name();
-    begin_invocation(alloc, run, act, levels, count, invocation)
+    begin_invocation(run, act, levels, count, invocation)
 }
 
 /// What the name is that stands next, used with so many arguments.
-fn name_used<S: Space>(
-    alloc: Global,
-    world: &WorldState<S>,
-    act: &Activation,
-    count: u8,
-) -> Result<Invocation, Refusal>
+fn name_used<S: Space>(world: &WorldState<S>, act: &Activation, count: u8) -> Result<Invocation>
     ensures { Does result world.now (invocation_found act.now.scope (a_name act.now.place).0 count) world.now }
 {
     match node_at(world, act) {
-        Some(id) => world.use_with(alloc, id, usize::from(count)),
-        None => long_name_used(alloc, world, act, count),
+        Some(id) => world.use_with(id, usize::from(count)),
+        None => long_name_used(world, act, count),
     }
 }
 
 /// The same of a name of several segments, or one with a prefix, or one that finds nothing.
 fn long_name_used<S: Space>(
-    alloc: Global,
     world: &WorldState<S>,
     act: &Activation,
     count: u8,
-) -> Result<Invocation, Refusal>
+) -> Result<Invocation>
     ensures { Does result world.now (invocation_found act.now.scope (a_name act.now.place).0 count) world.now }
 {
-    match act.name(alloc) {
-        Ok(name) => world.invocation(alloc, act.scope(), &name, usize::from(count)),
+    match act.name(world.alloc) {
+        Ok(name) => world.invocation(act.scope(), &name, usize::from(count)),
         Err(refusal) => Err(refusal),
     }
 }
@@ -76,13 +64,12 @@ fn long_name_used<S: Space>(
 /// What a name was found to be, with the arguments that stand next.
 #[tactic(auto, using(crate::proofs::Using::using_targets), unfolding(aml_meaning::specs::InvocationTerms::call_rule, aml_meaning::specs::InvocationTerms::osi_rule, aml_meaning::specs::InvocationTerms::field_rule))]
 fn begin_invocation<S: Space>(
-    alloc: Global,
     run: &mut Running<S>,
     act: &mut Activation,
     levels: u8,
     count: u8,
     invocation: Invocation,
-) -> Result<Next, Refusal>
+) -> Result<Next>
     ensures spent { run.new.1 ≤ run.old.1 }
     ensures falls { IfOk result (λ n. next_weight n < 3 * most + 100) }
     ensures means { Leads S.accesses (meaning S.accesses) result act.new run.new
@@ -105,18 +92,20 @@ fn begin_invocation<S: Space>(
                 callee: Callee::Method(path, body),
                 left: count,
                 levels,
-                done: Vec::new(alloc),
+                done: Vec::new(run.world.alloc),
             };
-            begin_call(alloc, run, act, Boxed::new(alloc, call)?)
+            let held = Boxed::new(run.world.alloc, call)?;
+            begin_call(run, act, held)
         }
         Invocation::Osi => {
             let call = Call {
                 callee: Callee::Osi,
                 left: count,
                 levels,
-                done: Vec::new(alloc),
+                done: Vec::new(run.world.alloc),
             };
-            begin_call(alloc, run, act, Boxed::new(alloc, call)?)
+            let held = Boxed::new(run.world.alloc, call)?;
+            begin_call(run, act, held)
         }
     }
 }

@@ -22,19 +22,17 @@ use crate::targets::begin_target;
 use crate::uses::{Dyadic, Inquiry, Monadic, Reading, SecondOperand, Target, TargetUse};
 use aml_meaning::{Flow, Held, OperatorKind, Running, reference_in};
 use aml_objects::Value;
-use ar_space::{Refusal, Space};
-use std::alloc::Global;
+use ar_space::{Result, Space};
 
 /// An operator: its first operand is evaluated, or the target is found that it stands for.
 #[inline(always)]
 #[tactic(auto, using(crate::proofs::Using::operating, crate::proofs::Knowing::going_on), unfolding(aml_meaning::specs::OperatorTerms::slot_rule))]
 pub fn begin_operator<S: Space>(
-    alloc: Global,
     run: &mut Running<S>,
     act: &mut Activation,
     levels: u8,
     kind: OperatorKind,
-) -> Result<Next, Refusal>
+) -> Result<Next>
     ensures spent { run.new.1 ≤ run.old.1 }
     ensures falls { IfOk result (λ n. next_weight n < 3 * most + 100) }
     ensures means { Leads S.accesses (meaning S.accesses) result act.new run.new
@@ -47,31 +45,26 @@ pub fn begin_operator<S: Space>(
             let value = run.world.slot_read(slot)?;
             leave(Flow::Value(value))
         }
-        OperatorKind::Store => begin_monadic(alloc, run, act, Monadic::Store, levels),
-        OperatorKind::CopyObject => begin_monadic(alloc, run, act, Monadic::CopyObject, levels),
-        OperatorKind::Two(two) => begin_dyadic(alloc, run, act, Dyadic::Two(two), levels),
-        OperatorKind::Divide => begin_dyadic(alloc, run, act, Dyadic::Divide, levels),
-        OperatorKind::One(one) => begin_monadic(alloc, run, act, Monadic::One(one), levels),
-        OperatorKind::Test(test) => begin_dyadic(alloc, run, act, Dyadic::Test(test), levels),
-        OperatorKind::LogicalNot => begin_monadic(alloc, run, act, Monadic::LogicalNot, levels),
-        OperatorKind::Count(count) => begin_target(alloc, run, act, name, TargetUse::Count(count)),
-        OperatorKind::SizeOf => begin_inquiry(alloc, run, act, levels, Inquiry::SizeOf),
-        OperatorKind::ObjectType => begin_inquiry(alloc, run, act, levels, Inquiry::ObjectType),
-        OperatorKind::Acquire => begin_acquire(alloc, run, act, levels),
-        OperatorKind::RefOf => begin_target(alloc, run, act, name, TargetUse::RefOf),
-        OperatorKind::CondRefOf => begin_conditional(alloc, run, act, levels),
-        OperatorKind::DerefOf => begin_monadic(alloc, run, act, Monadic::DerefOf, levels),
+        OperatorKind::Store => begin_monadic(run, act, Monadic::Store, levels),
+        OperatorKind::CopyObject => begin_monadic(run, act, Monadic::CopyObject, levels),
+        OperatorKind::Two(two) => begin_dyadic(run, act, Dyadic::Two(two), levels),
+        OperatorKind::Divide => begin_dyadic(run, act, Dyadic::Divide, levels),
+        OperatorKind::One(one) => begin_monadic(run, act, Monadic::One(one), levels),
+        OperatorKind::Test(test) => begin_dyadic(run, act, Dyadic::Test(test), levels),
+        OperatorKind::LogicalNot => begin_monadic(run, act, Monadic::LogicalNot, levels),
+        OperatorKind::Count(count) => begin_target(run, act, name, TargetUse::Count(count)),
+        OperatorKind::SizeOf => begin_inquiry(run, act, levels, Inquiry::SizeOf),
+        OperatorKind::ObjectType => begin_inquiry(run, act, levels, Inquiry::ObjectType),
+        OperatorKind::Acquire => begin_acquire(run, act, levels),
+        OperatorKind::RefOf => begin_target(run, act, name, TargetUse::RefOf),
+        OperatorKind::CondRefOf => begin_conditional(run, act, levels),
+        OperatorKind::DerefOf => begin_monadic(run, act, Monadic::DerefOf, levels),
     }
 }
 
 /// Acquire: a mutex that a name of one segment names is acquired at once.
 #[tactic(auto, using(crate::proofs::Knowing::knowing))]
-fn begin_acquire<S: Space>(
-    alloc: Global,
-    run: &mut Running<S>,
-    act: &mut Activation,
-    levels: u8,
-) -> Result<Next, Refusal>
+fn begin_acquire<S: Space>(run: &mut Running<S>, act: &mut Activation, levels: u8) -> Result<Next>
     ensures spent { run.new.1 ≤ run.old.1 }
     ensures few { IfOk result (λ n. next_weight n ≤ target_weight uses.Acquire) }
     ensures means { Leads S.accesses (meaning S.accesses) result act.new run.new
@@ -81,25 +74,18 @@ fn begin_acquire<S: Space>(
     if acquire_at_name(run, act, levels) {
         return Ok(Next::Flow(Flow::Value(Value::Integer(0))));
     }
-    begin_target(
-        alloc,
-        run,
-        act,
-        Target::super_name(levels),
-        TargetUse::Acquire,
-    )
+    begin_target(run, act, Target::super_name(levels), TargetUse::Acquire)
 }
 
 /// An operator with one operand: an integer that is there already is used at once.
 #[inline(always)]
 #[tactic(auto, using(crate::proofs::Knowing::taking_known))]
 pub(crate) fn begin_monadic<S: Space>(
-    alloc: Global,
     run: &mut Running<S>,
     act: &mut Activation,
     kind: Monadic,
     levels: u8,
-) -> Result<Next, Refusal>
+) -> Result<Next>
     ensures spent { run.new.1 ≤ run.old.1 }
     ensures falls { IfOk result (λ n. next_weight n < most + 15) }
     ensures memory { IfErr result (λ e. e ≡ OutOfMemory → run.new.1 < run.old.1) }
@@ -108,7 +94,7 @@ pub(crate) fn begin_monadic<S: Space>(
     ensures ends { EndsAt result act.new (next_ends (next.Term levels (frames.Operand kind levels)) act.old) }
 {
     match known_integer(run, act, levels)? {
-        Some(number) => finish_monadic(alloc, run, act, kind, levels, Value::Integer(number)),
+        Some(number) => finish_monadic(run, act, kind, levels, Value::Integer(number)),
         None => Ok(Next::Term(levels, Frame::Operand(kind, levels))),
     }
 }
@@ -117,12 +103,11 @@ pub(crate) fn begin_monadic<S: Space>(
 #[inline(always)]
 #[tactic(auto, using(crate::proofs::Knowing::taking_known))]
 pub(crate) fn begin_dyadic<S: Space>(
-    alloc: Global,
     run: &mut Running<S>,
     act: &mut Activation,
     kind: Dyadic,
     levels: u8,
-) -> Result<Next, Refusal>
+) -> Result<Next>
     ensures spent { run.new.1 ≤ run.old.1 }
     ensures falls { IfOk result (λ n. next_weight n < 2 * most + 25) }
     ensures memory { IfErr result (λ e. e ≡ OutOfMemory → run.new.1 < run.old.1) }
@@ -132,7 +117,6 @@ pub(crate) fn begin_dyadic<S: Space>(
 {
     match known_integer(run, act, levels)? {
         Some(first) => begin_second(
-            alloc,
             run,
             act,
             SecondOperand {
@@ -149,11 +133,10 @@ pub(crate) fn begin_dyadic<S: Space>(
 #[inline(always)]
 #[tactic(auto, using(crate::proofs::Knowing::taking_known))]
 fn begin_second<S: Space>(
-    alloc: Global,
     run: &mut Running<S>,
     act: &mut Activation,
     operator: SecondOperand,
-) -> Result<Next, Refusal>
+) -> Result<Next>
     ensures spent { run.new.1 ≤ run.old.1 }
     ensures falls { IfOk result (λ n. next_weight n < 2 * most + 25) }
     ensures memory { IfErr result (λ e. e ≡ OutOfMemory → run.new.1 < run.old.1) }
@@ -163,7 +146,7 @@ fn begin_second<S: Space>(
     ensures ends { EndsAt result act.new (next_ends (next.Term operator.levels (frames.Second operator)) act.old) }
 {
     match known_integer(run, act, operator.levels)? {
-        Some(second) => finish_dyadic(alloc, run, act, operator, Value::Integer(second)),
+        Some(second) => finish_dyadic(run, act, operator, Value::Integer(second)),
         None => Ok(Next::Term(operator.levels, Frame::Second(operator))),
     }
 }
@@ -172,13 +155,12 @@ fn begin_second<S: Space>(
 #[inline(always)]
 #[tactic(auto, using(crate::proofs::Using::using_targets))]
 pub(crate) fn resume_operand<S: Space>(
-    alloc: Global,
     run: &mut Running<S>,
     act: &mut Activation,
     kind: Monadic,
     levels: u8,
     flow: Flow,
-) -> Result<Next, Refusal>
+) -> Result<Next>
     ensures spent { run.new.1 ≤ run.old.1 }
     ensures falls { IfOk result (λ n. next_weight n < most + 15) }
     ensures means { Leads S.accesses (meaning S.accesses) result act.new run.new
@@ -186,20 +168,19 @@ pub(crate) fn resume_operand<S: Space>(
     ensures ends { EndsAt result act.new (ends (frames.Operand kind levels) act.old) }
 {
     let value = flow.value()?;
-    finish_monadic(alloc, run, act, kind, levels, value)
+    finish_monadic(run, act, kind, levels, value)
 }
 
 /// What an operator does with the value of its only operand.
 #[inline(always)]
 #[tactic(auto, using(crate::proofs::Using::using_targets))]
 fn finish_monadic<S: Space>(
-    alloc: Global,
     run: &mut Running<S>,
     act: &mut Activation,
     kind: Monadic,
     levels: u8,
     value: Value,
-) -> Result<Next, Refusal>
+) -> Result<Next>
     ensures spent { run.new.1 ≤ run.old.1 }
     ensures falls { IfOk result (λ n. next_weight n < most + 15) }
     ensures means { Leads S.accesses (meaning S.accesses) result act.new run.new
@@ -209,15 +190,15 @@ fn finish_monadic<S: Space>(
     let name = Target::super_name(levels);
     let target = Target::optional(levels);
     match kind {
-        Monadic::Store => begin_target(alloc, run, act, name, TargetUse::Store(value)),
-        Monadic::CopyObject => begin_target(alloc, run, act, name, TargetUse::CopyObject(value)),
+        Monadic::Store => begin_target(run, act, name, TargetUse::Store(value)),
+        Monadic::CopyObject => begin_target(run, act, name, TargetUse::CopyObject(value)),
         Monadic::One(one) => {
-            let result = run.world.operate_on_one(alloc, one, value)?;
-            begin_target(alloc, run, act, target, TargetUse::Store(result))
+            let result = run.world.operate_on_one(one, value)?;
+            begin_target(run, act, target, TargetUse::Store(result))
         }
         Monadic::Convert(conversion) => {
-            let result = run.world.convert(alloc, conversion, value)?;
-            begin_target(alloc, run, act, target, TargetUse::Form(result))
+            let result = run.world.convert(conversion, value)?;
+            begin_target(run, act, target, TargetUse::Form(result))
         }
         Monadic::LogicalNot => {
             let result = run.world.logical_not(value)?;
@@ -233,7 +214,7 @@ fn finish_monadic<S: Space>(
 
 /// The value that a target holds: that of a field is read.
 #[tactic(auto, using(crate::proofs::Using::using_targets))]
-fn read_held<S: Space>(run: &Running<S>, act: &Activation, held: Held) -> Result<Next, Refusal>
+fn read_held<S: Space>(run: &Running<S>, act: &Activation, held: Held) -> Result<Next>
     ensures falls { IfOk result (λ n. next_weight n < most + 4) }
     ensures memory { NotMemory result }
     ensures means { Leads S.accesses (meaning S.accesses) result act.now run.now
@@ -250,13 +231,12 @@ fn read_held<S: Space>(run: &Running<S>, act: &Activation, held: Held) -> Result
 #[inline(always)]
 #[tactic(auto, using(crate::proofs::Using::using_targets, crate::proofs::Knowing::going_on))]
 pub(crate) fn resume_first<S: Space>(
-    alloc: Global,
     run: &mut Running<S>,
     act: &mut Activation,
     kind: Dyadic,
     levels: u8,
     flow: Flow,
-) -> Result<Next, Refusal>
+) -> Result<Next>
     ensures spent { run.new.1 ≤ run.old.1 }
     ensures falls { IfOk result (λ n. next_weight n < 2 * most + 25) }
     ensures means { Leads S.accesses (meaning S.accesses) result act.new run.new
@@ -269,19 +249,18 @@ pub(crate) fn resume_first<S: Space>(
         levels,
         first: value,
     };
-    begin_second(alloc, run, act, operator)
+    begin_second(run, act, operator)
 }
 
 /// An operator whose second operand was evaluated.
 #[inline(always)]
 #[tactic(auto, using(crate::proofs::Using::using_targets))]
 pub(crate) fn resume_second<S: Space>(
-    alloc: Global,
     run: &mut Running<S>,
     act: &mut Activation,
     operator: SecondOperand,
     flow: Flow,
-) -> Result<Next, Refusal>
+) -> Result<Next>
     ensures spent { run.new.1 ≤ run.old.1 }
     ensures falls { IfOk result (λ n. next_weight n < 2 * most + 25) }
     ensures means { Leads S.accesses (meaning S.accesses) result act.new run.new
@@ -289,19 +268,18 @@ pub(crate) fn resume_second<S: Space>(
     ensures ends { EndsAt result act.new (ends (frames.Second operator) act.old) }
 {
     let second = flow.value()?;
-    finish_dyadic(alloc, run, act, operator, second)
+    finish_dyadic(run, act, operator, second)
 }
 
 /// What an operator does with the values of its two operands.
 #[inline(always)]
 #[tactic(auto, using(crate::proofs::Using::using_targets))]
 fn finish_dyadic<S: Space>(
-    alloc: Global,
     run: &mut Running<S>,
     act: &mut Activation,
     operator: SecondOperand,
     second: Value,
-) -> Result<Next, Refusal>
+) -> Result<Next>
     ensures spent { run.new.1 ≤ run.old.1 }
     ensures falls { IfOk result (λ n. next_weight n < 2 * most + 25) }
     ensures means { Leads S.accesses (meaning S.accesses) result act.new run.new
@@ -315,14 +293,8 @@ fn finish_dyadic<S: Space>(
     } = operator;
     match kind {
         Dyadic::Two(two) => {
-            let result = run.world.operate_on_two(alloc, two, first, second)?;
-            begin_target(
-                alloc,
-                run,
-                act,
-                Target::optional(levels),
-                TargetUse::Store(result),
-            )
+            let result = run.world.operate_on_two(two, first, second)?;
+            begin_target(run, act, Target::optional(levels), TargetUse::Store(result))
         }
         Dyadic::Divide => {
             let division = run.world.divide(first, second)?;
@@ -333,18 +305,12 @@ fn finish_dyadic<S: Space>(
             ))
         }
         Dyadic::Test(test) => {
-            let result = run.world.test(alloc, test, first, second)?;
+            let result = run.world.test(test, first, second)?;
             leave(Flow::Value(result))
         }
         Dyadic::ToString => {
-            let result = run.world.to_string(alloc, first, second)?;
-            begin_target(
-                alloc,
-                run,
-                act,
-                Target::optional(levels),
-                TargetUse::Form(result),
-            )
+            let result = run.world.to_string(first, second)?;
+            begin_target(run, act, Target::optional(levels), TargetUse::Form(result))
         }
         Dyadic::Mid => Ok(Next::Term(levels, Frame::Third(levels, first, second))),
     }
@@ -353,13 +319,12 @@ fn finish_dyadic<S: Space>(
 /// A Divide whose remainder is stored: its quotient is stored to the target that stands next.
 #[tactic(auto, using(crate::proofs::Using::using_targets))]
 pub(crate) fn resume_quotient<S: Space>(
-    alloc: Global,
     run: &mut Running<S>,
     act: &mut Activation,
     levels: u8,
     quotient: Value,
     flow: Flow,
-) -> Result<Next, Refusal>
+) -> Result<Next>
     ensures spent { run.new.1 ≤ run.old.1 }
     ensures falls { IfOk result (λ n. next_weight n < most + 13) }
     ensures means { Leads S.accesses (meaning S.accesses) result act.new run.new
@@ -367,7 +332,6 @@ pub(crate) fn resume_quotient<S: Space>(
     ensures ends { EndsAt result act.new (ends (frames.Quotient levels quotient) act.old) }
 {
     begin_target(
-        alloc,
         run,
         act,
         Target::optional(levels),

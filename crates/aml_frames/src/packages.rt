@@ -17,27 +17,26 @@ use crate::position::Position;
 use crate::values::integer_of;
 use aml_meaning::{Flow, Running};
 use aml_objects::{Element, Elements};
-use ar_space::{Refusal, Space};
+use ar_space::{Result, Space};
 use std::alloc::Global;
 
 /// Package: a byte says how many elements it has.
 #[tactic(auto, using(crate::proofs::Forming::packages))]
 pub(crate) fn begin_package<S: Space>(
-    alloc: Global,
     run: &Running<S>,
     act: &mut Activation,
     levels: u8,
-) -> Result<Next, Refusal>
+) -> Result<Next>
     ensures falls { IfOk result (λ n. next_weight n < 6) }
     ensures means { Leads S.accesses (meaning S.accesses) result act.new run.now
         (package_term_run (meaning S.accesses) act.old levels) run.now }
     ensures ends { EndsAt result act.new (at_place act.old (outside_at act.old.place)) }
 {
     let outer = act.open();
-    let count = usize::from(act.first());
-    act.over(1);
-    let filling = unfilled(alloc, act, levels, outer, count);
-    Ok(Next::Package(Boxed::new(alloc, filling)?))
+    let count = usize::from(act.next_byte());
+    act.advance(1);
+    let filling = unfilled(run.world.alloc, act, levels, outer, count);
+    Ok(Next::Package(Boxed::new(run.world.alloc, filling)?))
 }
 
 /// VarPackage: the number of its elements is evaluated.
@@ -59,13 +58,12 @@ pub(crate) fn begin_var_package<S: Space>(
 /// VarPackage whose number of elements was evaluated.
 #[tactic(auto, using(crate::proofs::Forming::counting))]
 pub(crate) fn resume_var_package<S: Space>(
-    alloc: Global,
     run: &mut Running<S>,
     act: &mut Activation,
     levels: u8,
     outer: Position,
     flow: Flow,
-) -> Result<Next, Refusal>
+) -> Result<Next>
     ensures spent { run.new.1 ≤ run.old.1 }
     ensures falls { IfOk result (λ n. next_weight n < 6) }
     ensures means { Leads S.accesses (meaning S.accesses) result act.new run.new
@@ -75,8 +73,8 @@ pub(crate) fn resume_var_package<S: Space>(
     let value = flow.value()?;
     let count = integer_of(&run.world, value)?;
     run.world.few_elements(count)?;
-    let filling = unfilled(alloc, act, levels, outer, count as usize);
-    Ok(Next::Package(Boxed::new(alloc, filling)?))
+    let filling = unfilled(run.world.alloc, act, levels, outer, count as usize);
+    Ok(Next::Package(Boxed::new(run.world.alloc, filling)?))
 }
 
 /// A package of so many elements, of which none is evaluated.
@@ -96,11 +94,10 @@ fn unfilled(alloc: Global, act: &Activation, levels: u8, outer: Position, count:
 /// The elements of a package that are left: the next one is evaluated, or the package is made.
 #[tactic(auto, using(crate::proofs::Forming::elements))]
 pub(crate) fn begin_element<S: Space>(
-    alloc: Global,
     run: &mut Running<S>,
     act: &mut Activation,
     filling: Boxed<Package>,
-) -> Result<Next, Refusal>
+) -> Result<Next>
     ensures spent { run.new.1 ≤ run.old.1 }
     ensures falls { IfOk result (λ n. charged run.new.1 + next_weight n < charged run.old.1 + 4) }
     ensures means { Leads S.accesses (meaning S.accesses) result act.new run.new
@@ -112,7 +109,7 @@ pub(crate) fn begin_element<S: Space>(
         return finish_package(run, act, filling.into_inner());
     }
     if act.is_at_call(filling.get().levels) {
-        return put_name(alloc, run, act, filling);
+        return put_name(run, act, filling);
     }
     let levels = filling.get().levels;
     Ok(Next::Term(levels, Frame::Element(one_fewer(filling))))
@@ -137,7 +134,7 @@ fn finish_package<S: Space>(
     run: &mut Running<S>,
     act: &mut Activation,
     filling: Package,
-) -> Result<Next, Refusal>
+) -> Result<Next>
     ensures spent { run.new.1 ≤ run.old.1 }
     ensures falls { IfOk result (λ n. next_weight n < 4) }
     ensures means { Leads S.accesses (meaning S.accesses) result act.new run.new
@@ -152,11 +149,10 @@ fn finish_package<S: Space>(
 /// A name is an element: it costs a step, and isn't searched for.
 #[tactic(auto, using(crate::proofs::Forming::naming), unfolding(crate::specs::Data::named_left, aml_marked::specs::Marked::a_name))]
 fn put_name<S: Space>(
-    alloc: Global,
     run: &mut Running<S>,
     act: &mut Activation,
     filling: Boxed<Package>,
-) -> Result<Next, Refusal>
+) -> Result<Next>
     requires left { 0 < filling.left }
     requires turns { 0 < filling.turns }
     ensures spent { run.new.1 ≤ run.old.1 }
@@ -167,8 +163,8 @@ fn put_name<S: Space>(
 {
     let mut filling = filling;
     run.charge()?;
-    let name = act.name(alloc)?;
-    let scope = act.scope().path.copy(alloc)?;
+    let name = act.name(run.world.alloc)?;
+    let scope = act.scope().path.copy(run.world.alloc)?;
     act.over_name();
     filling.inside.done.push(Element::Name(name, scope))?;
     Ok(Next::Package(one_fewer(filling)))
@@ -181,7 +177,7 @@ pub(crate) fn resume_element<S: Space>(
     act: &Activation,
     filling: Boxed<Package>,
     flow: Flow,
-) -> Result<Next, Refusal>
+) -> Result<Next>
     ensures falls { IfOk result (λ n. next_weight n < 6) }
     ensures means { Leads S.accesses (meaning S.accesses) result act.now run.now
         (resumed S.accesses (meaning S.accesses) (frames.Element filling) act.now flow) run.now }

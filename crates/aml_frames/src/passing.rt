@@ -18,7 +18,7 @@ use crate::frames::{Control, Entry, Items, ListItem};
 use crate::lists::next_item;
 use crate::waiting::Stack;
 use aml_meaning::{Flow, Running};
-use ar_space::{Refusal, Space};
+use ar_space::{Refusal, Result, Space};
 use std::alloc::Global;
 
 /// Whether an item of a list is passed over where it is refused.
@@ -31,11 +31,7 @@ pub(crate) fn passes_over<S>(run: &Running<S>, list: &Activation) -> bool
 
 /// An item begins that may be passed over, and the list waits.
 #[cold]
-pub(crate) fn wait_for_list_item(
-    alloc: Global,
-    stack: &mut Stack,
-    behind: Items,
-) -> Result<Control, Refusal>
+pub(crate) fn push_passable_item(alloc: Global, stack: &mut Stack, behind: Items) -> Result<Control>
     ensures act { OnOk result (stack.new.act ≡ stack.old.act) }
     ensures pushed { OnOk result (stack.new.entries.items ≡ stack.old.entries.items ++
         entry.Item (record { list = stack.old.act; behind = behind }) ∷ []) }
@@ -52,12 +48,11 @@ pub(crate) fn wait_for_list_item(
 #[cold]
 #[tactic(auto, using(crate::proofs::Unwinding::passing))]
 pub(crate) fn pass_item_over<S: Space>(
-    alloc: Global,
     run: &mut Running<S>,
     stack: &mut Stack,
     item: ListItem,
     refusal: Refusal,
-) -> Result<Control, Refusal>
+) -> Result<Control>
     requires { is_passable refusal ≡ true }
     ensures steps { run.new.1 ≡ run.old.1 }
     ensures stack { stack.new.entries.items ≡ stack.old.entries.items }
@@ -68,7 +63,7 @@ pub(crate) fn pass_item_over<S: Space>(
         (stack.old.entries.items ++ entry.Item item ∷ [])) run.old }
 {
     let ListItem { list, behind } = item;
-    run.world.pass_over(alloc, list.scope().path, refusal)?;
+    run.world.pass_over(list.scope().path, refusal)?;
     stack.act = list;
     stack.act.over_term(behind.levels);
     Ok(Control::Items(behind))
@@ -82,7 +77,7 @@ pub(crate) fn meet_item<S: Space>(
     stack: &mut Stack,
     item: Boxed<ListItem>,
     flow: Flow,
-) -> Result<Control, Refusal>
+) -> Result<Control>
     ensures falls { IfOk result (λ c. stack_weight stack.new.entries.items + control_weight c <
         stack_weight stack.old.entries.items + 6) }
     ensures given { IsOk result }

@@ -24,61 +24,53 @@ use crate::uses::{Access, Accessed, Doing, Reading};
 use crate::values::value_of_call;
 use aml_meaning::{Flow, Running, Sought, adr, base_bus, integer_only, pci_space, segment_group};
 use aml_path::{Path, Seg};
-use ar_space::{Refusal, Space};
-use std::alloc::Global;
+use ar_space::{Result, Space};
 
 /// The function that a scope belongs to is found, and the parts of its address are asked for.
 #[tactic(auto, using(crate::proofs::Addressing::regions))]
 pub(crate) fn begin_pci<S: Space>(
-    alloc: Global,
     run: &mut Running<S>,
     act: &Activation,
     access: RegionAccess,
     scope: &Path,
-) -> Result<Next, Refusal>
+) -> Result<Next>
     ensures spent { run.new.1 ≤ run.old.1 }
     ensures falls { IfOk result (λ n. next_weight n < region_weight access.calls + behind_weight access) }
     ensures means { Leads S.accesses (meaning S.accesses) result act.now run.new
         (pci_run S.accesses (meaning S.accesses) access scope.now) run.old }
     ensures ends { EndsAt result act.now act.now }
 {
-    let device = run.world.pci_function(alloc, scope)?;
-    begin_device(alloc, run, act, access, device)
+    let device = run.world.pci_function(scope)?;
+    begin_device(run, act, access, device)
 }
 
 /// The device is known: the bridges above it are found, and the segment group is asked for.
 #[tactic(auto, using(crate::proofs::Bridging::devices), unfolding(crate::specs::Addresses::device_known))]
 fn begin_device<S: Space>(
-    alloc: Global,
     run: &mut Running<S>,
     act: &Activation,
     access: RegionAccess,
     device: Path,
-) -> Result<Next, Refusal>
+) -> Result<Next>
     ensures spent { run.new.1 ≤ run.old.1 }
     ensures falls { IfOk result (λ n. next_weight n < region_weight access.calls + behind_weight access) }
     ensures means { Leads S.accesses (meaning S.accesses) result act.now run.new
         (device_known S.accesses (meaning S.accesses) access device) run.old }
     ensures ends { EndsAt result act.now act.now }
 {
-    let bridges = run.world.bridges_above(alloc, &device)?;
+    let bridges = run.world.bridges_above(&device)?;
     let pci = PciAccess {
         access,
         device,
         bridges,
         part: AddressPart::Segment,
     };
-    begin_segment(alloc, run, act, pci)
+    begin_segment(run, act, pci)
 }
 
 /// The segment group is asked for.
 #[tactic(auto, using(crate::proofs::Addressing::parts_known), unfolding(crate::specs::Addresses::bridges_known))]
-fn begin_segment<S: Space>(
-    alloc: Global,
-    run: &mut Running<S>,
-    act: &Activation,
-    pci: PciAccess,
-) -> Result<Next, Refusal>
+fn begin_segment<S: Space>(run: &mut Running<S>, act: &Activation, pci: PciAccess) -> Result<Next>
     ensures spent { run.new.1 ≤ run.old.1 }
     ensures falls { IfOk result (λ n. next_weight n <
         bridges_weight pci.access.calls (length pci.bridges.items) + 3 * part_weight pci.access.calls + 40 +
@@ -87,15 +79,15 @@ fn begin_segment<S: Space>(
         (bridges_known S.accesses (meaning S.accesses) pci.access pci.device pci.bridges.items) run.old }
     ensures ends { EndsAt result act.now act.now }
 {
-    let asked = ask_inherited(alloc, run, pci.access.calls, segment_group(), &pci.device)?;
+    let asked = ask_inherited(run, pci.access.calls, segment_group(), &pci.device)?;
     match asked {
-        Asked::Known(segment) => begin_bus(alloc, run, act, pci, segment),
+        Asked::Known(segment) => begin_bus(run, act, pci, segment),
         Asked::Waits(waited) => {
             let pci = PciAccess {
                 part: AddressPart::Segment,
                 ..pci
             };
-            wait(alloc, run, act, pci, waited)
+            wait(run, act, pci, waited)
         }
     }
 }
@@ -103,12 +95,11 @@ fn begin_segment<S: Space>(
 /// The segment group is known: the bus is asked for.
 #[tactic(auto, using(crate::proofs::Addressing::parts_known), unfolding(crate::specs::Addresses::segment_known))]
 fn begin_bus<S: Space>(
-    alloc: Global,
     run: &mut Running<S>,
     act: &Activation,
     pci: PciAccess,
     segment: u64,
-) -> Result<Next, Refusal>
+) -> Result<Next>
     ensures spent { run.new.1 ≤ run.old.1 }
     ensures falls { IfOk result (λ n. next_weight n <
         bridges_weight pci.access.calls (length pci.bridges.items) + 2 * part_weight pci.access.calls + 25 +
@@ -117,15 +108,15 @@ fn begin_bus<S: Space>(
         (segment_known S.accesses (meaning S.accesses) pci.access pci.device pci.bridges.items segment) run.old }
     ensures ends { EndsAt result act.now act.now }
 {
-    let asked = ask_inherited(alloc, run, pci.access.calls, base_bus(), &pci.device)?;
+    let asked = ask_inherited(run, pci.access.calls, base_bus(), &pci.device)?;
     match asked {
-        Asked::Known(bus) => begin_bridges(alloc, run, act, pci, segment, bus),
+        Asked::Known(bus) => begin_bridges(run, act, pci, segment, bus),
         Asked::Waits(waited) => {
             let pci = PciAccess {
                 part: AddressPart::Bus(segment),
                 ..pci
             };
-            wait(alloc, run, act, pci, waited)
+            wait(run, act, pci, waited)
         }
     }
 }
@@ -133,20 +124,19 @@ fn begin_bus<S: Space>(
 /// The bus is known: the address is asked for.
 #[tactic(auto, using(crate::proofs::Addressing::parts_known), unfolding(crate::specs::Addresses::bus_known))]
 pub(crate) fn begin_function<S: Space>(
-    alloc: Global,
     run: &mut Running<S>,
     act: &Activation,
     pci: PciAccess,
     segment: u64,
     bus: u64,
-) -> Result<Next, Refusal>
+) -> Result<Next>
     ensures spent { run.new.1 ≤ run.old.1 }
     ensures falls { IfOk result (λ n. next_weight n < part_weight pci.access.calls + 14 + behind_weight pci.access) }
     ensures means { Leads S.accesses (meaning S.accesses) result act.now run.new
         (bus_known S.accesses (meaning S.accesses) pci.access pci.device segment bus) run.old }
     ensures ends { EndsAt result act.now act.now }
 {
-    let asked = ask_address(alloc, run, pci.access.calls, &pci.device)?;
+    let asked = ask_address(run, pci.access.calls, &pci.device)?;
     match asked {
         Asked::Known(address) => {
             let function = FunctionAddress {
@@ -154,14 +144,14 @@ pub(crate) fn begin_function<S: Space>(
                 bus,
                 address,
             };
-            access_function(alloc, run, act, pci.access, function)
+            access_function(run, act, pci.access, function)
         }
         Asked::Waits(waited) => {
             let pci = PciAccess {
                 part: AddressPart::Function(segment, bus),
                 ..pci
             };
-            wait(alloc, run, act, pci, waited)
+            wait(run, act, pci, waited)
         }
     }
 }
@@ -169,12 +159,11 @@ pub(crate) fn begin_function<S: Space>(
 /// The address is known: the registers of the function are accessed.
 #[tactic(auto, using(crate::proofs::Addressing::parts_known), unfolding(crate::specs::Addresses::function_known))]
 fn access_function<S: Space>(
-    alloc: Global,
     run: &mut Running<S>,
     act: &Activation,
     access: RegionAccess,
     function: FunctionAddress,
-) -> Result<Next, Refusal>
+) -> Result<Next>
     ensures spent { run.new.1 ≤ run.old.1 }
     ensures falls { IfOk result (λ n. next_weight n < 4 + behind_weight access) }
     ensures means { Leads S.accesses (meaning S.accesses) result act.now run.new
@@ -182,35 +171,33 @@ fn access_function<S: Space>(
     ensures ends { EndsAt result act.now act.now }
 {
     let space = pci_space(function.segment, function.bus, function.address)?;
-    access_space(alloc, run, act, access, space)
+    access_space(run, act, access, space)
 }
 
 /// The address of a device answers.
 #[tactic(auto, using(crate::proofs::Addressing::answering))]
 pub(crate) fn ask_address<S: Space>(
-    alloc: Global,
     run: &mut Running<S>,
     calls: usize,
     device: &Path,
-) -> Result<Asked, Refusal>
+) -> Result<Asked>
     ensures spent { run.new.1 ≤ run.old.1 }
     ensures few { IfOk result (λ a. asked_weight a ≤ part_weight calls) }
     ensures means { Asks S.accesses (meaning S.accesses) result run.new
         (asking S.accesses (meaning S.accesses) calls (device.now ++ adr ∷ [])) run.old }
 {
-    let object = device.child(alloc, adr())?;
-    ask(alloc, run, calls, &object)
+    let object = device.child(run.world.alloc, adr())?;
+    ask(run, calls, &object)
 }
 
 /// What gives a part of the address is waited for.
 #[tactic(auto, using(crate::proofs::Addressing::waiting))]
 pub(crate) fn wait<S: Space>(
-    alloc: Global,
     run: &mut Running<S>,
     act: &Activation,
     pci: PciAccess,
     waited: Waited,
-) -> Result<Next, Refusal>
+) -> Result<Next>
     ensures spent { run.new.1 ≤ run.old.1 }
     ensures falls { IfOk result (λ n. next_weight n ≤ waited_weight waited +
         address_weight pci.part pci.access.calls (length pci.bridges.items) + behind_weight pci.access + 6) }
@@ -220,14 +207,8 @@ pub(crate) fn wait<S: Space>(
 {
     match waited {
         Waited::Method(depth, path, body) => {
-            enter_then(
-                alloc,
-                run,
-                act,
-                depth,
-                (path, body),
-                Boxed::new(alloc, pci)?,
-            )
+            let held = Boxed::new(run.world.alloc, pci)?;
+            enter_then(run, act, depth, (path, body), held)
         }
         Waited::Field(calls, field) => {
             let access = Access {
@@ -235,8 +216,8 @@ pub(crate) fn wait<S: Space>(
                 object: Accessed::Field(field),
                 doing: Doing::Read(Reading::Part),
             };
-            let access = Boxed::new(alloc, access)?;
-            let waiting = Boxed::new(alloc, pci)?;
+            let access = Boxed::new(run.world.alloc, access)?;
+            let waiting = Boxed::new(run.world.alloc, pci)?;
             Ok(Next::AccessThen(access, Frame::Address(waiting)))
         }
     }
@@ -245,12 +226,11 @@ pub(crate) fn wait<S: Space>(
 /// A part of the address that was waited for is there.
 #[tactic(auto, using(crate::proofs::Addressing::parts_known))]
 pub(crate) fn resume_address<S: Space>(
-    alloc: Global,
     run: &mut Running<S>,
     act: &Activation,
     pci: Boxed<PciAccess>,
     flow: Flow,
-) -> Result<Next, Refusal>
+) -> Result<Next>
     ensures spent { run.new.1 ≤ run.old.1 }
     ensures falls { IfOk result (λ n. next_weight n <
         address_weight pci.part pci.access.calls (length pci.bridges.items) + behind_weight pci.access + 3) }
@@ -261,15 +241,15 @@ pub(crate) fn resume_address<S: Space>(
     let number = integer_only(value_of_call(flow))?;
     let pci = pci.into_inner();
     match pci.part {
-        AddressPart::Segment => begin_bus(alloc, run, act, pci, number),
-        AddressPart::Bus(segment) => begin_bridges(alloc, run, act, pci, segment, number),
+        AddressPart::Segment => begin_bus(run, act, pci, number),
+        AddressPart::Bus(segment) => begin_bridges(run, act, pci, segment, number),
         AddressPart::Bridge(segment, bus) => {
             let bridge = FunctionAddress {
                 segment,
                 bus,
                 address: number,
             };
-            pass_bridge(alloc, run, act, pci, bridge)
+            pass_bridge(run, act, pci, bridge)
         }
         AddressPart::Function(segment, bus) => {
             let function = FunctionAddress {
@@ -277,7 +257,7 @@ pub(crate) fn resume_address<S: Space>(
                 bus,
                 address: number,
             };
-            access_function(alloc, run, act, pci.access, function)
+            access_function(run, act, pci.access, function)
         }
     }
 }
@@ -285,22 +265,21 @@ pub(crate) fn resume_address<S: Space>(
 /// What the nearest object of a name answers, from a device on upward; 0 where there is none.
 #[tactic(auto, using(crate::proofs::Addressing::answering), unfolding(aml_meaning::specs::Fields::inherited))]
 fn ask_inherited<S: Space>(
-    alloc: Global,
     run: &mut Running<S>,
     calls: usize,
     name: Seg,
     device: &Path,
-) -> Result<Asked, Refusal>
+) -> Result<Asked>
     ensures spent { run.new.1 ≤ run.old.1 }
     ensures few { IfOk result (λ a. asked_weight a ≤ part_weight calls) }
     ensures means { Asks S.accesses (meaning S.accesses) result run.new
         (inherited S.accesses (asking S.accesses (meaning S.accesses) calls) name device.now) run.old }
 {
-    match run.world.nearest(alloc, Sought::Parent(name), device)? {
+    match run.world.nearest(Sought::Parent(name), device)? {
         None => Ok(Asked::Known(0)),
         Some(scope) => {
-            let object = scope.child(alloc, name)?;
-            ask(alloc, run, calls, &object)
+            let object = scope.child(run.world.alloc, name)?;
+            ask(run, calls, &object)
         }
     }
 }

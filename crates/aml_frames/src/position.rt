@@ -3,7 +3,7 @@ ghost use Rattle.std.specs.Prelude.{◌≡◌, Ok};
 ghost use Rattle.ar_space.specs.Outcome.{Answers};
 
 use aml_path::Path;
-use ar_space::Refusal;
+use ar_space::Result;
 use std::alloc::Global;
 use std::marker::Model;
 use std::rc::Rc;
@@ -33,7 +33,7 @@ impl Model for MethodPath {
 
 impl MethodPath {
     /// The path that this is.
-    pub fn new(alloc: Global, path: Path) -> Result<MethodPath, Refusal>
+    pub fn new(alloc: Global, path: Path) -> Result<MethodPath>
         ensures { Answers result (Ok path) }
     {
         Ok(MethodPath {
@@ -43,7 +43,7 @@ impl MethodPath {
 
     /// Another share of the same path. It takes no memory, and is refused as `OutOfMemory` where no more shares can
     /// be counted.
-    pub fn share(&self) -> Result<MethodPath, Refusal>
+    pub fn share(&self) -> Result<MethodPath>
         ensures { Answers result (Ok self.now) }
     {
         Ok(MethodPath {

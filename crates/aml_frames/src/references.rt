@@ -21,18 +21,16 @@ use crate::tracing::told_here;
 use crate::uses::{Inquiry, Target, TargetUse};
 use aml_meaning::{Flow, Running, TargetKind};
 use aml_objects::{Reference, Value};
-use ar_space::{Refusal, Space};
-use std::alloc::Global;
+use ar_space::{Result, Space};
 
 /// SizeOf and ObjectType: of a term that refers its value is evaluated, and else the target is found.
 #[tactic(auto, using(crate::proofs::Using::operating))]
 pub(crate) fn begin_inquiry<S: Space>(
-    alloc: Global,
     run: &mut Running<S>,
     act: &mut Activation,
     levels: u8,
     inquiry: Inquiry,
-) -> Result<Next, Refusal>
+) -> Result<Next>
     ensures spent { run.new.1 ≤ run.old.1 }
     ensures falls { IfOk result (λ n. next_weight n < 3 * most + 100) }
     ensures means { Leads S.accesses (meaning S.accesses) result act.new run.new
@@ -41,7 +39,6 @@ pub(crate) fn begin_inquiry<S: Space>(
 {
     if act.is_at_name() {
         return begin_target(
-            alloc,
             run,
             act,
             Target::super_name(levels),
@@ -54,7 +51,6 @@ pub(crate) fn begin_inquiry<S: Space>(
         TargetKind::Index => Ok(Next::Term(levels, Frame::Referent(inquiry))),
         TargetKind::Nowhere | TargetKind::Slot(_) | TargetKind::Other => {
             begin_target(
-                alloc,
                 run,
                 act,
                 Target::super_name(levels),
@@ -71,7 +67,7 @@ pub(crate) fn resume_referent<S: Space>(
     act: &Activation,
     inquiry: Inquiry,
     flow: Flow,
-) -> Result<Next, Refusal>
+) -> Result<Next>
     ensures falls { IfOk result (λ n. next_weight n < most + 4) }
     ensures memory { NotMemory result }
     ensures means { Leads S.accesses (meaning S.accesses) result act.now run.now
@@ -86,11 +82,10 @@ pub(crate) fn resume_referent<S: Space>(
 /// CondRefOf: a name is looked for, or the target is found.
 #[tactic(auto, using(crate::proofs::Using::operating))]
 pub(crate) fn begin_conditional<S: Space>(
-    alloc: Global,
     run: &mut Running<S>,
     act: &mut Activation,
     levels: u8,
-) -> Result<Next, Refusal>
+) -> Result<Next>
     ensures spent { run.new.1 ≤ run.old.1 }
     ensures falls { IfOk result (λ n. next_weight n < 3 * most + 100) }
     ensures means { Leads S.accesses (meaning S.accesses) result act.new run.new
@@ -98,10 +93,9 @@ pub(crate) fn begin_conditional<S: Space>(
     ensures ends { EndsAt result act.new (behind_operator_at operators.CondRefOf act.old levels) }
 {
     if act.is_at_name() {
-        return begin_sought(alloc, run, act, levels);
+        return begin_sought(run, act, levels);
     }
     begin_target(
-        alloc,
         run,
         act,
         Target::super_name(levels),
@@ -111,12 +105,7 @@ pub(crate) fn begin_conditional<S: Space>(
 
 /// CondRefOf of a name: it is looked for.
 #[tactic(auto, using(crate::proofs::Using::seeking), unfolding(aml_marked::specs::Marked::a_name))]
-fn begin_sought<S: Space>(
-    alloc: Global,
-    run: &mut Running<S>,
-    act: &mut Activation,
-    levels: u8,
-) -> Result<Next, Refusal>
+fn begin_sought<S: Space>(run: &mut Running<S>, act: &mut Activation, levels: u8) -> Result<Next>
     requires { starts_name (first act.old.place.rest) ≡ true }
     ensures spent { run.new.1 ≤ run.old.1 }
     ensures falls { IfOk result (λ n. next_weight n < 3 * most + 100) }
@@ -124,22 +113,18 @@ fn begin_sought<S: Space>(
         (operator_run S.accesses (meaning S.accesses) operators.CondRefOf act.old levels) run.old }
     ensures ends { EndsAt result act.new (behind_operator_at operators.CondRefOf act.old levels) }
 {
-    let sought = reference_at_name(alloc, run, act);
-    let found = told_here(alloc, &mut run.world, act, sought)?;
+    let sought = reference_at_name(run, act);
+    let found = told_here(&mut run.world, act, sought)?;
     act.over_name();
     begin_found(run, act, levels, found)
 }
 
 /// A reference to what the name finds that stands next, if it finds something.
 #[tactic(auto, using(aml_meaning::proofs::Runs::running))]
-fn reference_at_name<S: Space>(
-    alloc: Global,
-    run: &Running<S>,
-    act: &Activation,
-) -> Result<Option<Reference>, Refusal>
+fn reference_at_name<S: Space>(run: &Running<S>, act: &Activation) -> Result<Option<Reference>>
     ensures { Does result run.now (lift (reference_if_found act.now.scope (a_name act.now.place).0)) run.now }
 {
-    let name = act.name(alloc)?;
+    let name = act.name(run.world.alloc)?;
     run.world.reference_if_found(act.scope(), &name)
 }
 
@@ -150,7 +135,7 @@ pub(crate) fn begin_found<S: Space>(
     act: &mut Activation,
     levels: u8,
     found: Option<Reference>,
-) -> Result<Next, Refusal>
+) -> Result<Next>
     ensures falls { IfOk result (λ n. next_weight n < most + 20) }
     ensures memory { NotMemory result }
     ensures means { Leads S.accesses (meaning S.accesses) result act.new run.now
@@ -168,11 +153,7 @@ pub(crate) fn begin_found<S: Space>(
 
 /// A CondRefOf whose reference is stored gives True.
 #[tactic(auto, using(crate::proofs::Using::using_targets))]
-pub(crate) fn resume_found<S: Space>(
-    run: &Running<S>,
-    act: &Activation,
-    flow: Flow,
-) -> Result<Next, Refusal>
+pub(crate) fn resume_found<S: Space>(run: &Running<S>, act: &Activation, flow: Flow) -> Result<Next>
     ensures falls { IfOk result (λ n. next_weight n < 6) }
     ensures memory { NotMemory result }
     ensures means { Leads S.accesses (meaning S.accesses) result act.now run.now

@@ -23,20 +23,18 @@ use crate::values::integer_of;
 use aml_meaning::{BufferFieldSize, Flow, RegionKind, Running, buffer_of, field_size};
 use aml_objects::{NamedObject, OperationRegion, Value};
 use aml_terms::RowPlace;
-use ar_space::{Refusal, Space};
-use std::alloc::Global;
+use ar_space::{Result, Space};
 
 /// A term that declares an operation region, fields or a buffer field, by its kind and the place of its row: it is
 /// done, or its first part is evaluated.
 #[tactic(auto, using(crate::proofs::DeclaringFields::region_terms))]
 pub fn begin_region_term<S: Space>(
-    alloc: Global,
     run: &mut Running<S>,
     act: &mut Activation,
     levels: u8,
     place: RowPlace,
     kind: RegionKind,
-) -> Result<Next, Refusal>
+) -> Result<Next>
     ensures spent { run.new.1 ≤ run.old.1 }
     ensures falls { IfOk result (λ n. next_weight n < 6) }
     ensures means { Leads S.accesses (meaning S.accesses) result act.new run.new
@@ -46,11 +44,11 @@ pub fn begin_region_term<S: Space>(
     match kind {
         RegionKind::OperationRegion => Ok(begin_operation_region(run, act, levels)),
         RegionKind::Field => {
-            let flow = declare_fields(alloc, run, act, levels, place)?;
+            let flow = declare_fields(run, act, levels, place)?;
             Ok(done(act, levels, place, flow))
         }
         RegionKind::IndexField => {
-            let flow = declare_index_fields(alloc, run, act, levels, place)?;
+            let flow = declare_index_fields(run, act, levels, place)?;
             Ok(done(act, levels, place, flow))
         }
         RegionKind::SizedBufferField(size) => Ok(Next::Term(
@@ -75,29 +73,28 @@ fn begin_operation_region<S: Space>(run: &Running<S>, act: &mut Activation, leve
 {
     let name = act.position();
     act.over_name();
-    let space = next_byte(act);
-    act.over(1);
+    let space = region_space(act);
+    act.advance(1);
     let part = DeclarationPart::RegionOffset(space, name, levels);
     Next::Term(levels, Frame::Declaration(part))
 }
 
-/// The byte that stands next.
+/// The address space of an operation region: the byte that stands next.
 #[tactic(auto, using(crate::proofs::DeclaringFields::bytes))]
-fn next_byte(act: &Activation) -> u8
+fn region_space(act: &Activation) -> u8
     ensures { result ≡ (an_integer 1 act.now.place).0 % 256 }
 {
-    act.first()
+    act.next_byte()
 }
 
 /// A declaration of which a part was evaluated.
 #[tactic(auto, using(crate::proofs::Stepping::stepping))]
 pub(crate) fn resume_declaration<S: Space>(
-    alloc: Global,
     run: &mut Running<S>,
     act: &mut Activation,
     part: DeclarationPart,
     flow: Flow,
-) -> Result<Next, Refusal>
+) -> Result<Next>
     ensures spent { run.new.1 ≤ run.old.1 }
     ensures falls { IfOk result (λ n. next_weight n < 6) }
     ensures means { Leads S.accesses (meaning S.accesses) result act.new run.new
@@ -105,18 +102,17 @@ pub(crate) fn resume_declaration<S: Space>(
     ensures ends { EndsAt result act.new (ends (frames.Declaration part) act.old) }
 {
     let value = flow.value()?;
-    declare_part(alloc, run, act, part, value)
+    declare_part(run, act, part, value)
 }
 
 /// A declaration a part of which has this value: the next part is evaluated, or all are there.
 #[tactic(auto, using(crate::proofs::Stepping::stepping))]
 fn declare_part<S: Space>(
-    alloc: Global,
     run: &mut Running<S>,
     act: &mut Activation,
     part: DeclarationPart,
     value: Value,
-) -> Result<Next, Refusal>
+) -> Result<Next>
     ensures spent { run.new.1 ≤ run.old.1 }
     ensures falls { IfOk result (λ n. next_weight n < 6) }
     ensures means { Leads S.accesses (meaning S.accesses) result act.new run.new
@@ -129,14 +125,14 @@ fn declare_part<S: Space>(
             Ok(Next::Term(levels, Frame::Declaration(length)))
         }
         DeclarationPart::RegionLength(space, name, offset) => {
-            declare_region(alloc, run, act, (space, name), offset, value)
+            declare_region(run, act, (space, name), offset, value)
         }
         DeclarationPart::SizedSource(size, levels) => {
             let index = DeclarationPart::SizedIndex(size, value);
             Ok(Next::Term(levels, Frame::Declaration(index)))
         }
         DeclarationPart::SizedIndex(size, source) => {
-            declare_sized_field(alloc, run, act, size, source, value)
+            declare_sized_field(run, act, size, source, value)
         }
         DeclarationPart::BitsSource(levels) => {
             let index = DeclarationPart::BitsIndex(levels, value);
@@ -147,10 +143,10 @@ fn declare_part<S: Space>(
             Ok(Next::Term(levels, Frame::Declaration(count)))
         }
         DeclarationPart::BitsCount(source, index) => {
-            declare_bits_field(alloc, run, act, (source, index), value)
+            declare_bits_field(run, act, (source, index), value)
         }
         DeclarationPart::BankValue(levels, outer, region, bank) => {
-            declare_bank_fields(alloc, run, act, (levels, outer), (region, bank), value)
+            declare_bank_fields(run, act, (levels, outer), (region, bank), value)
         }
     }
 }
@@ -158,13 +154,12 @@ fn declare_part<S: Space>(
 /// An operation region, by its address space and where its name stands: its offset and its length were evaluated.
 #[tactic(auto, using(crate::proofs::Stepping::stepping), unfolding(crate::specs::RegionTerms::region_declared))]
 fn declare_region<S: Space>(
-    alloc: Global,
     run: &mut Running<S>,
     act: &Activation,
     named: (u8, Position),
     offset: Value,
     length: Value,
-) -> Result<Next, Refusal>
+) -> Result<Next>
     ensures spent { run.new.1 ≤ run.old.1 }
     ensures falls { IfOk result (λ n. next_weight n < 6) }
     ensures means { Leads S.accesses (meaning S.accesses) result act.now run.new
@@ -179,20 +174,19 @@ fn declare_region<S: Space>(
         offset,
         length,
     };
-    declare_at(alloc, run, act, name, NamedObject::OperationRegion(region))
+    declare_at(run, act, name, NamedObject::OperationRegion(region))
 }
 
 /// A buffer field whose term says how many bits it has: its buffer and its index were evaluated, and its name stands
 /// next.
 #[tactic(auto, using(crate::proofs::Stepping::stepping), unfolding(crate::specs::RegionTerms::sized_field_declared))]
 fn declare_sized_field<S: Space>(
-    alloc: Global,
     run: &mut Running<S>,
     act: &mut Activation,
     size: BufferFieldSize,
     source: Value,
     index: Value,
-) -> Result<Next, Refusal>
+) -> Result<Next>
     ensures spent { run.new.1 ≤ run.old.1 }
     ensures falls { IfOk result (λ n. next_weight n < 6) }
     ensures means { Leads S.accesses (meaning S.accesses) result act.new run.new
@@ -203,19 +197,18 @@ fn declare_sized_field<S: Space>(
     let index = integer_of(&run.world, index)?;
     let first = size.first_bit(index);
     let field = run.world.new_buffer_field(buffer, first, size.bits())?;
-    declare_next(alloc, run, act, NamedObject::BufferField(field))
+    declare_next(run, act, NamedObject::BufferField(field))
 }
 
 /// CreateField: its buffer, the index of its first bit and the number of its bits were evaluated, and its name stands
 /// next.
 #[tactic(auto, using(crate::proofs::Stepping::stepping), unfolding(crate::specs::RegionTerms::bits_field_declared))]
 fn declare_bits_field<S: Space>(
-    alloc: Global,
     run: &mut Running<S>,
     act: &mut Activation,
     bits: (Value, Value),
     count: Value,
-) -> Result<Next, Refusal>
+) -> Result<Next>
     ensures spent { run.new.1 ≤ run.old.1 }
     ensures falls { IfOk result (λ n. next_weight n < 6) }
     ensures means { Leads S.accesses (meaning S.accesses) result act.new run.new
@@ -228,17 +221,16 @@ fn declare_bits_field<S: Space>(
     let count = integer_of(&run.world, count)?;
     let bits = field_size(count)?;
     let field = run.world.new_buffer_field(buffer, u128::from(index), bits)?;
-    declare_next(alloc, run, act, NamedObject::BufferField(field))
+    declare_next(run, act, NamedObject::BufferField(field))
 }
 
 /// The name that stands next is declared.
 #[tactic(auto, using(crate::proofs::DeclaringFields::next_names), unfolding(aml_marked::specs::Marked::a_name))]
 fn declare_next<S: Space>(
-    alloc: Global,
     run: &mut Running<S>,
     act: &mut Activation,
     object: NamedObject,
-) -> Result<Next, Refusal>
+) -> Result<Next>
     ensures spent { run.new.1 ≤ run.old.1 }
     ensures falls { IfOk result (λ n. next_weight n < 6) }
     ensures means { Leads S.accesses (meaning S.accesses) result act.new run.new
@@ -247,5 +239,5 @@ fn declare_next<S: Space>(
 {
     let name = act.position();
     act.over_name();
-    declare_at(alloc, run, act, name, object)
+    declare_at(run, act, name, object)
 }

@@ -31,8 +31,7 @@ use crate::values::integer_of;
 use crate::wide::{resume_third, resume_wait};
 use aml_convert::is_true;
 use aml_meaning::{Flow, Running};
-use ar_space::{EvaluationFault, Refusal, Space};
-use std::alloc::Global;
+use ar_space::{EvaluationFault, Refusal, Result, Space};
 
 /// A list goes on behind an item, or it ends. The loop doesn't come here: it takes such a frame itself (`next_item` in
 /// `lists`), and this says the same as a step.
@@ -43,7 +42,7 @@ fn resume_items<S: Space>(
     act: &mut Activation,
     items: Items,
     flow: Flow,
-) -> Result<Next, Refusal>
+) -> Result<Next>
     ensures falls { IfOk result (λ n. next_weight n < 6) }
     ensures memory { NotMemory result }
     ensures means { Leads S.accesses (meaning S.accesses) result act.new run.now
@@ -66,7 +65,7 @@ fn resume_if<S: Space>(
     levels: u8,
     outer: Position,
     flow: Flow,
-) -> Result<Next, Refusal>
+) -> Result<Next>
     ensures spent { run.new.1 ≤ run.old.1 }
     ensures falls { IfOk result (λ n. next_weight n < 6) }
     ensures memory { NotMemory result }
@@ -87,7 +86,7 @@ fn resume_predicate<S: Space>(
     act: &mut Activation,
     turn: Loop,
     flow: Flow,
-) -> Result<Next, Refusal>
+) -> Result<Next>
     ensures spent { run.new.1 ≤ run.old.1 }
     ensures falls { IfOk result (λ n. next_weight n < 6) }
     ensures memory { NotMemory result }
@@ -130,7 +129,7 @@ pub(crate) fn begin_predicate<S: Space>(
     run: &mut Running<S>,
     act: &mut Activation,
     turn: Loop,
-) -> Result<Next, Refusal>
+) -> Result<Next>
     ensures spent { run.new.1 ≤ run.old.1 }
     ensures few { IfOk result (λ n. next_weight n < 6) }
     ensures falls { IfOk result (λ n. charged run.new.1 + next_weight n < charged run.old.1 + 4) }
@@ -154,7 +153,7 @@ pub(crate) fn resume_turn<S: Space>(
     act: &mut Activation,
     turn: Loop,
     flow: Flow,
-) -> Result<Next, Refusal>
+) -> Result<Next>
     ensures spent { run.new.1 ≤ run.old.1 }
     ensures same { IfOk result (λ n. (again : Loop) → n ≡ next.Turn again → again ≡ turn) }
     ensures falls { IfOk result (λ n. charged run.new.1 + next_weight n < charged run.old.1 + 4) }
@@ -178,11 +177,7 @@ pub(crate) fn resume_turn<S: Space>(
 
 /// A Return whose argument was evaluated.
 #[tactic(auto, using(crate::proofs::Stepping::stepping))]
-fn resume_return<S: Space>(
-    run: &mut Running<S>,
-    act: &mut Activation,
-    flow: Flow,
-) -> Result<Next, Refusal>
+fn resume_return<S: Space>(run: &mut Running<S>, act: &mut Activation, flow: Flow) -> Result<Next>
     ensures spent { run.new.1 ≤ run.old.1 }
     ensures falls { IfOk result (λ n. next_weight n < 6) }
     ensures memory { NotMemory result }
@@ -196,11 +191,7 @@ fn resume_return<S: Space>(
 
 /// A Stall, a Sleep or a Notify, whose last operand was evaluated: no time passes, and nobody is notified.
 #[tactic(auto, using(crate::proofs::Stepping::stepping))]
-fn resume_pause<S: Space>(
-    run: &mut Running<S>,
-    act: &mut Activation,
-    flow: Flow,
-) -> Result<Next, Refusal>
+fn resume_pause<S: Space>(run: &mut Running<S>, act: &mut Activation, flow: Flow) -> Result<Next>
     ensures spent { run.new.1 ≤ run.old.1 }
     ensures falls { IfOk result (λ n. next_weight n < 6) }
     ensures memory { NotMemory result }
@@ -214,11 +205,7 @@ fn resume_pause<S: Space>(
 
 /// Fatal ends the evaluation.
 #[tactic(auto, using(crate::proofs::Stepping::stepping))]
-fn resume_fatal<S: Space>(
-    run: &mut Running<S>,
-    act: &mut Activation,
-    flow: Flow,
-) -> Result<Next, Refusal>
+fn resume_fatal<S: Space>(run: &mut Running<S>, act: &mut Activation, flow: Flow) -> Result<Next>
     ensures spent { run.new.1 ≤ run.old.1 }
     ensures falls { IfOk result (λ n. next_weight n < 6) }
     ensures memory { NotMemory result }
@@ -234,12 +221,11 @@ fn resume_fatal<S: Space>(
 #[inline(always)]
 #[tactic(auto, using(crate::proofs::Knowing::resuming))]
 pub fn resume<S: Space>(
-    alloc: Global,
     run: &mut Running<S>,
     act: &mut Activation,
     frame: Frame,
     flow: Flow,
-) -> Result<Next, Refusal>
+) -> Result<Next>
     ensures spent { run.new.1 ≤ run.old.1 }
     ensures falls { IfOk result (λ n. charged run.new.1 + next_weight n < charged run.old.1 + (weight frame + 3)) }
     ensures means { Leads S.accesses (meaning S.accesses) result act.new run.new
@@ -254,33 +240,33 @@ pub fn resume<S: Space>(
         Frame::Return => resume_return(run, act, flow),
         Frame::Pause => resume_pause(run, act, flow),
         Frame::Fatal => resume_fatal(run, act, flow),
-        Frame::Argument(call) => resume_argument(alloc, run, act, call, flow),
-        Frame::Buffer(outer) => resume_buffer(alloc, run, act, outer, flow),
-        Frame::VarPackage(levels, end) => resume_var_package(alloc, run, act, levels, end, flow),
+        Frame::Argument(call) => resume_argument(run, act, call, flow),
+        Frame::Buffer(outer) => resume_buffer(run, act, outer, flow),
+        Frame::VarPackage(levels, end) => resume_var_package(run, act, levels, end, flow),
         Frame::Element(filling) => resume_element(run, act, filling, flow),
-        Frame::Operand(kind, levels) => resume_operand(alloc, run, act, kind, levels, flow),
-        Frame::First(kind, levels) => resume_first(alloc, run, act, kind, levels, flow),
-        Frame::Second(operator) => resume_second(alloc, run, act, operator, flow),
-        Frame::Third(levels, value, at) => resume_third(alloc, run, act, levels, (value, at), flow),
+        Frame::Operand(kind, levels) => resume_operand(run, act, kind, levels, flow),
+        Frame::First(kind, levels) => resume_first(run, act, kind, levels, flow),
+        Frame::Second(operator) => resume_second(run, act, operator, flow),
+        Frame::Third(levels, value, at) => resume_third(run, act, levels, (value, at), flow),
         Frame::Give(value) => leave(Flow::Value(value)),
-        Frame::Quotient(levels, value) => resume_quotient(alloc, run, act, levels, value, flow),
+        Frame::Quotient(levels, value) => resume_quotient(run, act, levels, value, flow),
         Frame::Found => resume_found(run, act, flow),
-        Frame::IndexTarget(target_use) => resume_index_target(alloc, run, act, target_use, flow),
-        Frame::DerefTarget(target_use) => resume_dereferenced(alloc, run, act, target_use, flow),
+        Frame::IndexTarget(target_use) => resume_index_target(run, act, target_use, flow),
+        Frame::DerefTarget(target_use) => resume_dereferenced(run, act, target_use, flow),
         Frame::Referent(inquiry) => resume_referent(run, act, inquiry, flow),
-        Frame::Address(pci) => resume_address(alloc, run, act, pci, flow),
-        Frame::UnitChosen(units, unit) => read_chosen(alloc, run, act, units, unit),
-        Frame::UnitRead(units, unit) => resume_unit(alloc, run, act, units, unit, flow),
-        Frame::UnitMerged(writes, number) => write_merged(alloc, run, act, writes, number),
-        Frame::UnitWritten(writes) => next_write(alloc, run, act, writes.into_inner()),
-        Frame::BankRead(units, unit) => read_selected(alloc, run, act, units, unit),
-        Frame::BankWrite(unit, at, number) => write_selected(alloc, run, act, unit, at, number),
-        Frame::Named(name) => resume_named(alloc, run, act, name, flow),
-        Frame::Declaration(part) => resume_declaration(alloc, run, act, part, flow),
+        Frame::Address(pci) => resume_address(run, act, pci, flow),
+        Frame::UnitChosen(units, unit) => read_chosen(run, act, units, unit),
+        Frame::UnitRead(units, unit) => resume_unit(run, act, units, unit, flow),
+        Frame::UnitMerged(writes, number) => write_merged(run, act, writes, number),
+        Frame::UnitWritten(writes) => next_write(run, act, writes.into_inner()),
+        Frame::BankRead(units, unit) => read_selected(run, act, units, unit),
+        Frame::BankWrite(unit, at, number) => write_selected(run, act, unit, at, number),
+        Frame::Named(name) => resume_named(run, act, name, flow),
+        Frame::Declaration(part) => resume_declaration(run, act, part, flow),
         Frame::Scope(scope, node) => resume_scope(run, act, scope, node, flow),
-        Frame::Counted(count, counted) => resume_counted(alloc, run, act, count, counted, flow),
-        Frame::Match(levels, part) => resume_match(alloc, run, act, levels, part, flow),
-        Frame::Matched(searching) => resume_matched(alloc, run, act, searching, flow),
+        Frame::Counted(count, counted) => resume_counted(run, act, count, counted, flow),
+        Frame::Match(levels, part) => resume_match(run, act, levels, part, flow),
+        Frame::Matched(searching) => resume_matched(run, act, searching, flow),
         Frame::Wait(event) => resume_wait(run, act, event, flow),
     }
 }

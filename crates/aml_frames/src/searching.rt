@@ -20,55 +20,48 @@ use crate::frames::{Frame, MatchPart, Next, leave};
 use crate::uses::Reading;
 use aml_meaning::{Flow, Held, Running, Search, Searching};
 use aml_objects::{Field, Value};
-use ar_space::{Refusal, Space};
+use ar_space::{Result, Space};
 use std::alloc::Global;
 
 /// Match: its package is evaluated.
 #[tactic(auto, using(crate::proofs::Matching::beginning))]
-pub(crate) fn begin_match<S: Space>(
-    alloc: Global,
-    run: &Running<S>,
-    act: &Activation,
-    levels: u8,
-) -> Result<Next, Refusal>
+pub(crate) fn begin_match<S: Space>(run: &Running<S>, act: &Activation, levels: u8) -> Result<Next>
     ensures falls { IfOk result (λ n. next_weight n < step_weight) }
     ensures means { Leads S.accesses (meaning S.accesses) result act.now run.now
         (match_run S.accesses (meaning S.accesses) act.now levels) run.now }
     ensures ends { EndsAt result act.now (at_place act.now (behind_match (terms act.now levels) act.now.place)) }
 {
-    let next = wait_for(alloc, levels, MatchPart::Package)?;
+    let next = wait_for(run.world.alloc, levels, MatchPart::Package)?;
     Ok(next)
 }
 
 /// A Match of which an operand was evaluated.
 #[tactic(auto, using(crate::proofs::Stepping::stepping))]
 pub(crate) fn resume_match<S: Space>(
-    alloc: Global,
     run: &Running<S>,
     act: &mut Activation,
     levels: u8,
     part: Boxed<MatchPart>,
     flow: Flow,
-) -> Result<Next, Refusal>
+) -> Result<Next>
     ensures falls { IfOk result (λ n. next_weight n < most_searched + 7) }
     ensures means { Leads S.accesses (meaning S.accesses) result act.new run.now
         (resumed S.accesses (meaning S.accesses) (frames.Match levels part) act.old flow) run.now }
     ensures ends { EndsAt result act.new (ends (frames.Match levels part) act.old) }
 {
     let value = flow.value()?;
-    next_operand(alloc, run, act, levels, part.into_inner(), value)
+    next_operand(run, act, levels, part.into_inner(), value)
 }
 
 /// A Match an operand of which has this value: the next one is evaluated, or the search begins.
 #[tactic(auto, using(crate::proofs::Matching::matching))]
 fn next_operand<S: Space>(
-    alloc: Global,
     run: &Running<S>,
     act: &mut Activation,
     levels: u8,
     part: MatchPart,
     value: Value,
-) -> Result<Next, Refusal>
+) -> Result<Next>
     ensures falls { IfOk result (λ n. next_weight n < most_searched + 7) }
     ensures means { Leads S.accesses (meaning S.accesses) result act.new run.now
         (match_left S.accesses (meaning S.accesses) part levels value act.old) run.now }
@@ -77,23 +70,23 @@ fn next_operand<S: Space>(
     match part {
         MatchPart::Package => {
             let operator = take_byte(act);
-            let next = wait_for(alloc, levels, MatchPart::First(value, operator))?;
+            let next = wait_for(run.world.alloc, levels, MatchPart::First(value, operator))?;
             Ok(next)
         }
         MatchPart::First(source, first) => {
             let operator = take_byte(act);
             let second = MatchPart::Second(source, (first, value), operator);
-            let next = wait_for(alloc, levels, second)?;
+            let next = wait_for(run.world.alloc, levels, second)?;
             Ok(next)
         }
         MatchPart::Second(source, first, second) => {
             let start = MatchPart::Start(source, first, (second, value));
-            let next = wait_for(alloc, levels, start)?;
+            let next = wait_for(run.world.alloc, levels, start)?;
             Ok(next)
         }
         MatchPart::Start(source, first, second) => {
             let searching = run.world.begin_search(source, first, second, value)?;
-            search(alloc, run, act, searching.search, searching.left)
+            search(run, act, searching.search, searching.left)
         }
     }
 }
@@ -104,13 +97,13 @@ fn take_byte(act: &mut Activation) -> u8
     ensures byte { result ≡ next_byte act.old }
     ensures behind { act.new ≡ behind_byte act.old }
 {
-    let byte = act.first();
-    act.over(1);
+    let byte = act.next_byte();
+    act.advance(1);
     byte
 }
 
 /// The operand that stands next, and the Match that waits for it.
-fn wait_for(alloc: Global, levels: u8, part: MatchPart) -> Result<Next, Refusal>
+fn wait_for(alloc: Global, levels: u8, part: MatchPart) -> Result<Next>
     ensures next { IfOk result (λ n. n ≡ next.Term levels (frames.Match levels part)) }
     ensures falls { IfOk result (λ n. next_weight n ≤ most_searched + 4) }
     ensures memory { IfErr result (λ e. e ≡ OutOfMemory) }
@@ -122,30 +115,23 @@ fn wait_for(alloc: Global, levels: u8, part: MatchPart) -> Result<Next, Refusal>
 /// A Match whose operands all have values: the elements from its start on are looked at, which are no more than
 /// memory holds.
 #[tactic(auto, using(crate::proofs::Matching::searches))]
-fn search<S: Space>(
-    alloc: Global,
-    run: &Running<S>,
-    act: &Activation,
-    search: Search,
-    left: usize,
-) -> Result<Next, Refusal>
+fn search<S: Space>(run: &Running<S>, act: &Activation, search: Search, left: usize) -> Result<Next>
     ensures falls { IfOk result (λ n. next_weight n < most_searched + 7) }
     ensures means { Leads S.accesses (meaning S.accesses) result act.now run.now
         (searched_last S.accesses (meaning S.accesses) act.now.depth search left) run.now }
     ensures ends { EndsAt result act.now act.now }
 {
-    search_on(alloc, run, act, search, left)
+    search_on(run, act, search, left)
 }
 
 /// The elements that are left, one after another: the first that matches, or the first that is the name of a field,
 /// which is read.
 fn search_on<S: Space>(
-    alloc: Global,
     run: &Running<S>,
     act: &Activation,
     search: Search,
     left: usize,
-) -> Result<Next, Refusal>
+) -> Result<Next>
     ensures falls { IfOk result (λ n. next_weight n < search_weight left + 4) }
     ensures means { Leads S.accesses (meaning S.accesses) result act.now run.now
         (searched_last S.accesses (meaning S.accesses) act.now.depth search left) run.now }
@@ -153,7 +139,7 @@ fn search_on<S: Space>(
 {
     let mut rest = left;
     'elements: while rest > 0 {
-        let looked = look_at(alloc, run, act, search, rest)?;
+        let looked = look_at(run, act, search, rest)?;
         if let Some(next) = looked {
             return Ok(next);
         }
@@ -166,12 +152,11 @@ fn search_on<S: Space>(
 /// nothing where it does not match.
 #[tactic(auto, using(crate::proofs::Matching::looking))]
 fn look_at<S: Space>(
-    alloc: Global,
     run: &Running<S>,
     act: &Activation,
     search: Search,
     left: usize,
-) -> Result<Option<Next>, Refusal>
+) -> Result<Option<Next>>
     requires { 0 < left }
     ensures falls { IfOk result (λ o. IfSome o (λ n. next_weight n < search_weight left + 4)) }
     ensures means { IfOk result
@@ -188,14 +173,14 @@ fn look_at<S: Space>(
     match held {
         None => Ok(None),
         Some(Held::Value(value)) => {
-            let meets = run.world.value_meets(alloc, &search, value)?;
+            let meets = run.world.value_meets(&search, value)?;
             if meets {
                 return Ok(Some(Next::Flow(Flow::Value(Value::Integer(index as u64)))));
             }
             Ok(None)
         }
         Some(Held::Field(field)) => {
-            let next = read_element(alloc, act, search, left, field)?;
+            let next = read_element(run.world.alloc, act, search, left, field)?;
             Ok(Some(next))
         }
     }
@@ -208,7 +193,7 @@ fn read_element(
     search: Search,
     left: usize,
     field: Field,
-) -> Result<Next, Refusal>
+) -> Result<Next>
     requires { 0 < left }
     ensures falls { IfOk result (λ n. next_weight n < search_weight left + 4) }
     ensures next { IfOk result (λ n. n ≡ next.AccessThen (read_access act.now field reading.Value)
@@ -223,7 +208,7 @@ fn read_element(
 
 /// No element matches: Ones.
 #[tactic(auto, using(crate::proofs::Stepping::stepping), unfolding(aml_meaning::specs::MatchTerms::none_matches))]
-fn find_none<S: Space>(run: &Running<S>, act: &Activation) -> Result<Next, Refusal>
+fn find_none<S: Space>(run: &Running<S>, act: &Activation) -> Result<Next>
     ensures falls { IfOk result (λ n. next_weight n < 4) }
     ensures means { Leads S.accesses (meaning S.accesses) result act.now run.now none_matches run.now }
     ensures ends { EndsAt result act.now act.now }
@@ -235,40 +220,38 @@ fn find_none<S: Space>(run: &Running<S>, act: &Activation) -> Result<Next, Refus
 /// A search whose next element is the name of a field that was read.
 #[tactic(auto, using(crate::proofs::Stepping::stepping))]
 pub(crate) fn resume_matched<S: Space>(
-    alloc: Global,
     run: &Running<S>,
     act: &Activation,
     searching: Boxed<Searching>,
     flow: Flow,
-) -> Result<Next, Refusal>
+) -> Result<Next>
     ensures falls { IfOk result (λ n. next_weight n < search_weight (searching.left - 1) + 4) }
     ensures means { Leads S.accesses (meaning S.accesses) result act.now run.now
         (resumed S.accesses (meaning S.accesses) (frames.Matched searching) act.now flow) run.now }
     ensures ends { EndsAt result act.now act.now }
 {
     let value = flow.value()?;
-    go_on_behind(alloc, run, act, searching.into_inner(), value)
+    go_on_behind(run, act, searching.into_inner(), value)
 }
 
 /// A search whose next element has this value: it matches, or those behind it are looked at.
 #[tactic(auto, using(crate::proofs::Stepping::stepping), unfolding(crate::specs::Matching::element_read))]
 fn go_on_behind<S: Space>(
-    alloc: Global,
     run: &Running<S>,
     act: &Activation,
     searching: Searching,
     value: Value,
-) -> Result<Next, Refusal>
+) -> Result<Next>
     ensures falls { IfOk result (λ n. next_weight n < search_weight (searching.left - 1) + 4) }
     ensures means { Leads S.accesses (meaning S.accesses) result act.now run.now
         (element_read S.accesses (meaning S.accesses) act.now.depth searching value) run.now }
     ensures ends { EndsAt result act.now act.now }
 {
     let Searching { search, left } = searching;
-    let meets = run.world.value_meets(alloc, &search, value)?;
+    let meets = run.world.value_meets(&search, value)?;
     if meets {
         let found = search.count.saturating_sub(left);
         return leave(Flow::Value(Value::Integer(found as u64)));
     }
-    search_on(alloc, run, act, search, left.saturating_sub(1))
+    search_on(run, act, search, left.saturating_sub(1))
 }

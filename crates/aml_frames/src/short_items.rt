@@ -2,7 +2,10 @@
 //! or what an operator gives of two of them (ACPI 6.5, 19.6).
 //!
 //! Each function does its term whole, or answers none. Then steps may have been taken and the place may have moved, and
-//! nothing else has changed: `item_integer` gives both back.
+//! nothing else has changed: `try_item` gives both back.
+//!
+//! A term with a name as an operand or as its target is given up here. It is done the long way (`begin_term`), whose
+//! operators look for the integer at the name (`known`).
 ghost use Rattle.std.specs.Prelude.{◌≡◌, ◌≤◌, ◌<◌, Ok, None, IfSome};
 ghost use Rattle.ar_space.specs.Change.{Does};
 ghost use Rattle.aml_objects.specs.declared.value.Value.TheVariants as values;
@@ -15,17 +18,17 @@ ghost use Rattle.aml_frames.specs.Follow.{term_run, operator_run, behind_operato
 ghost use Rattle.aml_frames.specs.Places.{at_place, behind_term};
 
 use crate::activation::Activation;
+use crate::short_opcodes::take_operator;
 use crate::short_operations::operation_integer;
-use crate::short_operators::take_operator;
 use crate::short_terms::{count_slot, put_integer_to_slot, short_integer};
 use aml_convert::BinaryOperator;
 use aml_meaning::{Count, OperatorKind, Running, TwoOperands};
 use ar_space::Space;
 
-/// The integer that an item gives which stands next, where it is done at once. It takes the steps of its term and of
-/// its operands. In every other case nothing changes.
+/// Does the whole term of the item that stands next at once, its store with it, and gives the integer of the term. It
+/// takes the steps of the term and of its operands. In every other case it answers none, and nothing changes.
 #[tactic(auto, using(crate::proofs::ShortOperations::giving, crate::proofs::ShortOperators::begun))]
-pub(crate) fn item_integer<S: Space>(
+pub(crate) fn try_item<S: Space>(
     run: &mut Running<S>,
     act: &mut Activation,
     levels: u8,
@@ -69,7 +72,7 @@ fn operator_item<S: Space>(
 {
     match kind {
         OperatorKind::Two(TwoOperands::Integers(operator)) => {
-            two_to_slot(run, act, levels, operator)
+            binary_to_slot(run, act, levels, operator)
         }
         OperatorKind::Count(count) => count_of_slot(run, act, levels, count),
         OperatorKind::Store => store_to_slot(run, act, levels),
@@ -80,7 +83,7 @@ fn operator_item<S: Space>(
 /// As `operator_item`, of an operator on two integers whose target is a local or an argument.
 #[inline(always)]
 #[tactic(auto, using(crate::proofs::ShortItems::items))]
-fn two_to_slot<S: Space>(
+fn binary_to_slot<S: Space>(
     run: &mut Running<S>,
     act: &mut Activation,
     levels: u8,
@@ -101,9 +104,11 @@ fn two_to_slot<S: Space>(
     let Some(y) = operand_integer(run, act, levels) else {
         return None;
     };
-    if act.first() == 0 {
+    // A NullName: the target is left out (ACPI 6.5, 20.2.2), and there is nowhere to store.
+    if act.next_byte() == 0 {
         return None;
     }
+    // A refusal, such as DivideByZero of Mod, is dropped: the long way evaluates the term again, and refuses it.
     let Ok(number) = run.world.operate_on_integers(operator, x, y) else {
         return None;
     };

@@ -19,7 +19,7 @@ use crate::activation::Activation;
 use aml_meaning::{Count, Running, WorldState};
 use aml_objects::NodeId;
 use aml_path::Seg;
-use ar_space::{Refusal, Space};
+use ar_space::{Result, Space};
 
 /// How many bytes a name of one segment takes.
 const SEGMENT_LENGTH: usize = 4;
@@ -71,7 +71,7 @@ fn node_of_value<S>(world: &WorldState<S>, act: &Activation, levels: u8) -> Opti
 
 /// The integer that a name holds which is the node with an id, if it holds one, or the bits of a field unit that are
 /// read at once.
-fn read_node<S: Space>(world: &mut WorldState<S>, id: NodeId) -> Result<Option<u64>, Refusal>
+fn read_node<S: Space>(world: &mut WorldState<S>, id: NodeId) -> Result<Option<u64>>
     ensures read { IfOk result
         (λ read. IfSome read (λ number. Reads S.accesses id.number (Ok (flows.Value (values.Integer number)))
         world.new world.old)) }
@@ -95,7 +95,7 @@ pub(crate) fn integer_at_name<S: Space>(
     run: &mut Running<S>,
     act: &mut Activation,
     levels: u8,
-) -> Result<Option<u64>, Refusal>
+) -> Result<Option<u64>>
     ensures integer { IfOk result
         (λ read. IfSome read (λ number. Does (Ok (flows.Value (values.Integer number))) run.new
         (term_run S.accesses (meaning S.accesses) act.old levels) run.old)) }
@@ -121,7 +121,7 @@ pub(crate) fn integer_at_name<S: Space>(
             Ok(None)
         }
         Some(number) => {
-            act.over(SEGMENT_LENGTH);
+            act.advance(SEGMENT_LENGTH);
             Ok(Some(number))
         }
     }
@@ -130,7 +130,7 @@ pub(crate) fn integer_at_name<S: Space>(
 /// Stores an integer to the node with an id, where a name holds an integer there, or it is a field unit whose bits
 /// are written at once.
 #[tactic(auto, using(crate::proofs::ShortNames::puts_integer))]
-fn put_node<S: Space>(world: &mut WorldState<S>, id: NodeId, number: u64) -> Result<bool, Refusal>
+fn put_node<S: Space>(world: &mut WorldState<S>, id: NodeId, number: u64) -> Result<bool>
     ensures done { IfOk result (λ done. done ≡ true → Puts S.accesses id.number (values.Integer number) (Ok tt)
         world.new world.old) }
     ensures refused { IfErr result (λ refusal. Puts S.accesses id.number (values.Integer number) (Err refusal)
@@ -155,7 +155,7 @@ pub(crate) fn put_integer_at_name<S: Space>(
     act: &mut Activation,
     levels: u8,
     number: u64,
-) -> Result<bool, Refusal>
+) -> Result<bool>
     ensures done { IfOk result (λ done. done ≡ true → Does (Ok (flows.Value (values.Integer number))) run.new
         (target_run S.accesses (meaning S.accesses) (super levels)
         (uses.Store (values.Integer number)) act.old) run.old) }
@@ -172,7 +172,7 @@ pub(crate) fn put_integer_at_name<S: Space>(
         return Ok(false);
     };
     if put_node(&mut run.world, id, number)? {
-        act.over(SEGMENT_LENGTH);
+        act.advance(SEGMENT_LENGTH);
         return Ok(true);
     }
     Ok(false)
@@ -203,7 +203,7 @@ pub(crate) fn count_at_name<S: Space>(
     if !run.world.put_integer_at(id, number) {
         return None;
     }
-    act.over(SEGMENT_LENGTH);
+    act.advance(SEGMENT_LENGTH);
     Some(number)
 }
 
@@ -228,8 +228,8 @@ pub(crate) fn acquire_at_name<S: Space>(
     if !run.world.acquire_node(id) {
         return false;
     }
-    act.over(SEGMENT_LENGTH);
-    act.over(TIMEOUT_LENGTH);
+    act.advance(SEGMENT_LENGTH);
+    act.advance(TIMEOUT_LENGTH);
     true
 }
 
@@ -254,6 +254,6 @@ pub(crate) fn release_at_name<S: Space>(
     if !run.world.release_node(id) {
         return false;
     }
-    act.over(SEGMENT_LENGTH);
+    act.advance(SEGMENT_LENGTH);
     true
 }

@@ -15,7 +15,7 @@ ghost use Rattle.aml_frames.specs.Follow.{term_run, operator_run, behind_operato
 ghost use Rattle.aml_frames.specs.Places.{at_place, behind_term};
 
 use crate::activation::Activation;
-use crate::short_operators::take_operator;
+use crate::short_opcodes::take_operator;
 use crate::short_terms::short_integer;
 use aml_convert::BinaryOperator;
 use aml_meaning::{OperatorKind, Running, Test, TwoOperands};
@@ -69,7 +69,7 @@ fn operator_integer<S: Space>(
 {
     match kind {
         OperatorKind::Two(TwoOperands::Integers(operator)) => {
-            two_integers(run, act, levels, operator)
+            binary_without_target(run, act, levels, operator)
         }
         OperatorKind::Test(test) => test_of_integers(run, act, levels, test),
         OperatorKind::LogicalNot => not_of_integer(run, act, levels),
@@ -77,10 +77,10 @@ fn operator_integer<S: Space>(
     }
 }
 
-/// The same of an operator with two operands and a target, which is left out.
+/// As `operator_integer`, of an operator on two integers whose target is left out: a NullName stands there.
 #[inline(always)]
 #[tactic(auto, using(crate::proofs::ShortOperations::integers))]
-fn two_integers<S: Space>(
+fn binary_without_target<S: Space>(
     run: &mut Running<S>,
     act: &mut Activation,
     levels: u8,
@@ -101,17 +101,19 @@ fn two_integers<S: Space>(
     let Some(y) = short_integer(run, act, levels) else {
         return None;
     };
-    if act.first() != 0 {
+    // Anything but a NullName: a target is there.
+    if act.next_byte() != 0 {
         return None;
     }
+    // A refusal, such as DivideByZero of Mod, is dropped: the long way evaluates the term again, and refuses it.
     let Ok(number) = run.world.operate_on_integers(operator, x, y) else {
         return None;
     };
-    act.over(1);
+    act.advance(1);
     Some(number)
 }
 
-/// The same of a test of two operands.
+/// As `operator_integer`, of a test of two operands.
 #[inline(always)]
 #[tactic(auto, using(crate::proofs::ShortOperations::integers))]
 fn test_of_integers<S: Space>(
@@ -137,7 +139,7 @@ fn test_of_integers<S: Space>(
     Some(run.world.test_integers(test, x, y))
 }
 
-/// The same of LNot.
+/// As `operator_integer`, of LNot.
 #[inline(always)]
 #[tactic(auto, using(crate::proofs::ShortOperations::integers))]
 fn not_of_integer<S: Space>(run: &mut Running<S>, act: &mut Activation, levels: u8) -> Option<u64>

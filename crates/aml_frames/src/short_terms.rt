@@ -107,7 +107,7 @@ pub(crate) fn short_integer<S: Space>(
     if levels == 0 {
         return None;
     }
-    match short_at(act.first()) {
+    match short_at(act.next_byte()) {
         Short::Slot(slot) => {
             let Some(number) = run.world.slot_integer(slot) else {
                 return None;
@@ -115,24 +115,24 @@ pub(crate) fn short_integer<S: Space>(
             if !take_step(run) {
                 return None;
             }
-            act.over(1);
+            act.advance(1);
             Some(number)
         }
         Short::Constant(number) => {
             if !take_step(run) {
                 return None;
             }
-            act.over(1);
-            Some(run.world.number_kept(number))
+            act.advance(1);
+            Some(run.world.truncated_number(number))
         }
         Short::Number(count) => {
             if !take_step(run) {
                 return None;
             }
-            act.over(1);
+            act.advance(1);
             let number = number_at(act, count);
-            act.over(count);
-            Some(run.world.number_kept(number))
+            act.advance(count);
+            Some(run.world.truncated_number(number))
         }
         Short::Other => None,
     }
@@ -222,13 +222,13 @@ pub(crate) fn put_integer_to_slot<S: Space>(
     if levels == 0 {
         return false;
     }
-    let Short::Slot(slot) = short_at(act.first()) else {
+    let Short::Slot(slot) = short_at(act.next_byte()) else {
         return false;
     };
     if !run.world.put_slot_integer(slot, number) {
         return false;
     }
-    act.over(1);
+    act.advance(1);
     true
 }
 
@@ -251,7 +251,7 @@ pub(crate) fn count_slot<S: Space>(
     if levels == 0 {
         return None;
     }
-    let Short::Slot(slot) = short_at(act.first()) else {
+    let Short::Slot(slot) = short_at(act.next_byte()) else {
         return None;
     };
     let Some(before) = run.world.slot_integer(slot) else {
@@ -261,6 +261,6 @@ pub(crate) fn count_slot<S: Space>(
     if !run.world.put_slot_integer(slot, after) {
         return None;
     }
-    act.over(1);
+    act.advance(1);
     Some(after)
 }

@@ -41,19 +41,14 @@ use aml_meaning::{Count, Flow, Running, StoreTarget, is_passable};
 use aml_objects::{Field, NodeId, Reference, Value};
 use aml_path::Path;
 use aml_terms::LEVELS;
-use ar_space::{Refusal, Space};
-use std::alloc::Global;
+use ar_space::{Refusal, Result, Space};
 use std::mem;
 
 /// Evaluates the body of a control method whose slots stand already, in one loop; `body` stands at its first byte.
 /// However the body ends, its call ends, unless memory runs out: its frame of slots is closed, and the names below it
 /// are removed.
 #[tactic(auto, using(crate::proofs::Machine::beginning))]
-pub fn evaluate<S: Space>(
-    alloc: Global,
-    run: &mut Running<S>,
-    body: Activation,
-) -> Result<Flow, Refusal>
+pub fn evaluate<S: Space>(run: &mut Running<S>, body: Activation) -> Result<Flow>
     ensures { Does result run.new (body_run S.accesses (meaning S.accesses) body) run.old }
 {
     let path = match body.share_scope() {
@@ -64,7 +59,8 @@ pub fn evaluate<S: Space>(
         }
     };
     let list = whole(&body);
-    let outcome = execute(alloc, run, Stack::new(alloc, body), Control::Items(list));
+    let stack = Stack::new(run.world.alloc, body);
+    let outcome = execute(run, stack, Control::Items(list));
     end_call(run, path.path());
     of_call(outcome)
 }
@@ -72,26 +68,22 @@ pub fn evaluate<S: Space>(
 /// Evaluates the terms of a list one after another, in one loop, in the slots that stand: those of a table at the root,
 /// say.
 #[tactic(auto, using(crate::proofs::Machine::listing))]
-pub fn evaluate_list<S: Space>(
-    alloc: Global,
-    run: &mut Running<S>,
-    list: Activation,
-) -> Result<Flow, Refusal>
+pub fn evaluate_list<S: Space>(run: &mut Running<S>, list: Activation) -> Result<Flow>
     ensures { Does result run.new (list_run S.accesses (meaning S.accesses) list (all_left list walk_levels)) run.old }
 {
     let items = whole(&list);
-    execute(alloc, run, Stack::new(alloc, list), Control::Items(items))
+    let stack = Stack::new(run.world.alloc, list);
+    execute(run, stack, Control::Items(items))
 }
 
 /// Reads a field as a part of an address, in one loop, where so many calls may still be made.
 #[tactic(auto, using(crate::proofs::Machine::listing))]
 pub(crate) fn access_field<S: Space>(
-    alloc: Global,
     run: &mut Running<S>,
     act: Activation,
     calls: usize,
     field: Field,
-) -> Result<Flow, Refusal>
+) -> Result<Flow>
     ensures { Does result run.new (access_done S.accesses (meaning S.accesses) calls (object.Field field)
         (doing.Read reading.Part)) run.old }
 {
@@ -100,13 +92,13 @@ pub(crate) fn access_field<S: Space>(
         object: Accessed::Field(field),
         doing: Doing::Read(Reading::Part),
     };
-    let held = Boxed::new(alloc, access)?;
-    let stack = Stack::new(alloc, act);
-    execute(alloc, run, stack, Control::Access(held))
+    let held = Boxed::new(run.world.alloc, access)?;
+    let stack = Stack::new(run.world.alloc, act);
+    execute(run, stack, Control::Access(held))
 }
 
 /// What a call leaves whose body leaves this.
-fn of_call(outcome: Result<Flow, Refusal>) -> Result<Flow, Refusal>
+fn of_call(outcome: Result<Flow>) -> Result<Flow>
     ensures { result ≡ seen returned_by outcome }
 {
     match outcome {
@@ -124,33 +116,23 @@ fn whole(body: &Activation) -> Items
 
 /// The loop. Where a step is refused, it goes on behind an item that is passed over, or ends.
 #[tactic(auto, using(crate::proofs::Answering::unwound))]
-fn execute<S: Space>(
-    alloc: Global,
-    run: &mut Running<S>,
-    stack: Stack,
-    first: Control,
-) -> Result<Flow, Refusal>
+fn execute<S: Space>(run: &mut Running<S>, stack: Stack, first: Control) -> Result<Flow>
     ensures { Does result run.new (machine S.accesses (meaning S.accesses) first stack.act
         stack.entries.items) run.old }
 {
     let mut stack = stack;
     let mut control = first;
     'refusals: loop {
-        match take_steps(alloc, run, &mut stack, control) {
+        match take_steps(run, &mut stack, control) {
             Ok(flow) => return Ok(flow),
-            Err(refusal) => control = unwind(alloc, run, &mut stack, refusal)?,
+            Err(refusal) => control = unwind(run, &mut stack, refusal)?,
         }
     }
 }
 
 /// Steps are taken until nothing waits, or one is refused.
 #[tactic(auto, using(crate::proofs::Answering::stepped))]
-fn take_steps<S: Space>(
-    alloc: Global,
-    run: &mut Running<S>,
-    stack: &mut Stack,
-    first: Control,
-) -> Result<Flow, Refusal>
+fn take_steps<S: Space>(run: &mut Running<S>, stack: &mut Stack, first: Control) -> Result<Flow>
     ensures refused { IfErr result (λ e. is_passable e ≡ true →
         charged run.new.1 + (stack_weight stack.new.entries.items + 1) <
         charged run.old.1 + (stack_weight stack.old.entries.items + control_weight first)) }
@@ -160,19 +142,19 @@ fn take_steps<S: Space>(
     let mut control = first;
     'steps: loop {
         match control {
-            Control::Term(levels) => control = step_term(alloc, run, stack, levels)?,
-            Control::Items(items) => control = step_items(alloc, run, stack, items)?,
-            Control::Package(filling) => control = step_package(alloc, run, stack, filling)?,
+            Control::Term(levels) => control = step_term(run, stack, levels)?,
+            Control::Items(items) => control = step_items(run, stack, items)?,
+            Control::Package(filling) => control = step_package(run, stack, filling)?,
             Control::Target(target, aim) => {
-                control = step_target(alloc, run, stack, target, aim)?;
+                control = step_target(run, stack, target, aim)?;
             }
             Control::Read(field, reading) => {
-                control = step_read(alloc, run, stack, field, reading)?;
+                control = step_read(run, stack, field, reading)?;
             }
-            Control::Access(access) => control = step_access(alloc, run, stack, access)?,
+            Control::Access(access) => control = step_access(run, stack, access)?,
             Control::Flow(flow) => match stack.entries.pop() {
                 None => return Ok(flow),
-                Some(top) => control = step_entry(alloc, run, stack, top, flow)?,
+                Some(top) => control = step_entry(run, stack, top, flow)?,
             },
         }
     }
@@ -181,12 +163,7 @@ fn take_steps<S: Space>(
 /// A term begins.
 #[inline(always)]
 #[tactic(auto, using(crate::proofs::Machine::taking))]
-fn step_term<S: Space>(
-    alloc: Global,
-    run: &mut Running<S>,
-    stack: &mut Stack,
-    levels: u8,
-) -> Result<Control, Refusal>
+fn step_term<S: Space>(run: &mut Running<S>, stack: &mut Stack, levels: u8) -> Result<Control>
     ensures falls { IfOk result (λ c. charged run.new.1 + (stack_weight stack.new.entries.items + control_weight c) <
         charged run.old.1 + stack_weight stack.old.entries.items) }
     ensures refused { IfErr result (λ e. is_passable e ≡ true →
@@ -195,7 +172,7 @@ fn step_term<S: Space>(
     ensures means { Goes S.accesses (meaning S.accesses) result stack.new.act stack.new.entries.items run.new
         (machine S.accesses (meaning S.accesses) (control.Term levels) stack.old.act stack.old.entries.items) run.old }
 {
-    let next = begin_term(alloc, run, &mut stack.act, levels)?;
+    let next = begin_term(run, &mut stack.act, levels)?;
     follow(run, stack, next)
 }
 
@@ -203,11 +180,10 @@ fn step_term<S: Space>(
 #[inline(always)]
 #[tactic(auto, using(crate::proofs::Machine::taking))]
 fn step_package<S: Space>(
-    alloc: Global,
     run: &mut Running<S>,
     stack: &mut Stack,
     filling: Boxed<Package>,
-) -> Result<Control, Refusal>
+) -> Result<Control>
     ensures falls { IfOk result (λ c. charged run.new.1 + (stack_weight stack.new.entries.items + control_weight c) <
         charged run.old.1 + (stack_weight stack.old.entries.items + 4)) }
     ensures refused { IfErr result (λ e. is_passable e ≡ true →
@@ -217,7 +193,7 @@ fn step_package<S: Space>(
         (machine S.accesses (meaning S.accesses) (control.Package filling) stack.old.act
         stack.old.entries.items) run.old }
 {
-    let next = begin_element(alloc, run, &mut stack.act, filling)?;
+    let next = begin_element(run, &mut stack.act, filling)?;
     follow(run, stack, next)
 }
 
@@ -225,12 +201,11 @@ fn step_package<S: Space>(
 #[inline(always)]
 #[tactic(auto, using(crate::proofs::Machine::taking))]
 fn step_target<S: Space>(
-    alloc: Global,
     run: &mut Running<S>,
     stack: &mut Stack,
     target: Target,
     target_use: TargetUse,
-) -> Result<Control, Refusal>
+) -> Result<Control>
     ensures falls { IfOk result (λ c. charged run.new.1 + (stack_weight stack.new.entries.items + control_weight c) <
         charged run.old.1 + (stack_weight stack.old.entries.items + target_weight target_use)) }
     ensures refused { IfErr result (λ e. is_passable e ≡ true →
@@ -240,7 +215,7 @@ fn step_target<S: Space>(
         (machine S.accesses (meaning S.accesses) (control.Target target target_use) stack.old.act
         stack.old.entries.items) run.old }
 {
-    let next = begin_target(alloc, run, &mut stack.act, target, target_use)?;
+    let next = begin_target(run, &mut stack.act, target, target_use)?;
     follow(run, stack, next)
 }
 
@@ -248,11 +223,10 @@ fn step_target<S: Space>(
 #[inline(always)]
 #[tactic(auto, using(crate::proofs::Machine::taking))]
 fn step_access<S: Space>(
-    alloc: Global,
     run: &mut Running<S>,
     stack: &mut Stack,
     access: Boxed<Access>,
-) -> Result<Control, Refusal>
+) -> Result<Control>
     ensures falls { IfOk result (λ c. charged run.new.1 + (stack_weight stack.new.entries.items + control_weight c) <
         charged run.old.1 + (stack_weight stack.old.entries.items + access_weight access)) }
     ensures refused { IfErr result (λ e. is_passable e ≡ true →
@@ -262,7 +236,7 @@ fn step_access<S: Space>(
         (machine S.accesses (meaning S.accesses) (control.Access access) stack.old.act
         stack.old.entries.items) run.old }
 {
-    let next = begin_access(alloc, run, &stack.act, access.into_inner())?;
+    let next = begin_access(run, &stack.act, access.into_inner())?;
     follow(run, stack, next)
 }
 
@@ -270,12 +244,11 @@ fn step_access<S: Space>(
 #[inline(always)]
 #[tactic(auto, using(crate::proofs::Machine::taking))]
 fn step_read<S: Space>(
-    alloc: Global,
     run: &mut Running<S>,
     stack: &mut Stack,
     field: Field,
     reading: Reading,
-) -> Result<Control, Refusal>
+) -> Result<Control>
     ensures falls { IfOk result (λ c. charged run.new.1 + (stack_weight stack.new.entries.items + control_weight c) <
         charged run.old.1 + (stack_weight stack.old.entries.items + most)) }
     ensures refused { IfErr result (λ e. is_passable e ≡ true →
@@ -286,7 +259,7 @@ fn step_read<S: Space>(
         stack.old.entries.items) run.old }
 {
     let access = begin_read(&stack.act, field, reading);
-    let next = begin_access(alloc, run, &stack.act, access)?;
+    let next = begin_access(run, &stack.act, access)?;
     follow(run, stack, next)
 }
 
@@ -294,12 +267,11 @@ fn step_read<S: Space>(
 #[inline(always)]
 #[tactic(auto, using(crate::proofs::Machine::taking))]
 fn step_entry<S: Space>(
-    alloc: Global,
     run: &mut Running<S>,
     stack: &mut Stack,
     top: Entry,
     flow: Flow,
-) -> Result<Control, Refusal>
+) -> Result<Control>
     ensures falls { IfOk result (λ c. charged run.new.1 + (stack_weight stack.new.entries.items + control_weight c) <
         charged run.old.1 + (stack_weight stack.old.entries.items + entry_weight top + 3)) }
     ensures refused { IfErr result (λ e. is_passable e ≡ true →
@@ -313,7 +285,7 @@ fn step_entry<S: Space>(
         Entry::Frame(Frame::Items(items)) => next_item(run, stack, items, flow),
         Entry::Item(item) => meet_item(run, stack, item, flow),
         Entry::Frame(frame) => {
-            let next = resume(alloc, run, &mut stack.act, frame, flow)?;
+            let next = resume(run, &mut stack.act, frame, flow)?;
             follow(run, stack, next)
         }
         Entry::Leave(caller, method) => {
@@ -331,7 +303,7 @@ pub(crate) fn follow<S: Space>(
     run: &mut Running<S>,
     stack: &mut Stack,
     next: Next,
-) -> Result<Control, Refusal>
+) -> Result<Control>
     ensures falls { IfOk result (λ c. charged run.new.1 + (stack_weight stack.new.entries.items + control_weight c) ≤
         charged run.old.1 + (stack_weight stack.old.entries.items + next_weight next)) }
     ensures memory { IfErr result (λ e. e ≡ OutOfMemory) }
@@ -367,7 +339,7 @@ fn run_then<S: Space>(
     stack: &mut Stack,
     body: Activation,
     asked: Boxed<PciAccess>,
-) -> Result<Control, Refusal>
+) -> Result<Control>
     ensures falls { IfOk result (λ c. charged run.new.1 + (stack_weight stack.new.entries.items + control_weight c) ≤
         charged run.old.1 + (stack_weight stack.old.entries.items + next_weight (next.BodyThen body asked))) }
     ensures memory { IfErr result (λ e. e ≡ OutOfMemory) }
@@ -385,7 +357,7 @@ fn push_frame<S: Space>(
     stack: &mut Stack,
     body: &Activation,
     frame: Frame,
-) -> Result<(), Refusal>
+) -> Result<()>
     ensures steps { run.new.1 ≡ run.old.1 }
     ensures kept { OnOk result (run.new ≡ run.old) }
     ensures act { stack.new.act ≡ stack.old.act }
@@ -404,11 +376,7 @@ fn push_frame<S: Space>(
 
 /// Goes into the body of a control method whose slots stand already; its caller waits (`Entry::Leave`). Without memory
 /// for that the call ends.
-fn run_in<S: Space>(
-    run: &mut Running<S>,
-    stack: &mut Stack,
-    body: Activation,
-) -> Result<Control, Refusal>
+fn run_in<S: Space>(run: &mut Running<S>, stack: &mut Stack, body: Activation) -> Result<Control>
     ensures steps { run.new.1 ≡ run.old.1 }
     ensures kept { OnOk result (run.new ≡ run.old) }
     ensures act { OnOk result (stack.new.act ≡ body) }
@@ -439,12 +407,7 @@ fn run_in<S: Space>(
 /// A refusal, which is handed on: what waits is given up, and each call that is being evaluated ends, up to an item
 /// of a list that is passed over. Where there is none, the trace tells the terms that were being evaluated.
 #[cold]
-fn unwind<S: Space>(
-    alloc: Global,
-    run: &mut Running<S>,
-    stack: &mut Stack,
-    refusal: Refusal,
-) -> Result<Control, Refusal>
+fn unwind<S: Space>(run: &mut Running<S>, stack: &mut Stack, refusal: Refusal) -> Result<Control>
     ensures steps { run.new.1 ≡ run.old.1 }
     ensures passable { OnOk result (is_passable refusal ≡ true) }
     ensures falls { IfOk result (λ c. stack_weight stack.new.entries.items + control_weight c ≤
@@ -458,17 +421,17 @@ fn unwind<S: Space>(
     'entries: loop {
         match stack.entries.pop() {
             None => {
-                tell_last(alloc, run, &stack.act, &outer);
+                tell_last(run, &stack.act, &outer);
                 return Err(refusal);
             }
             Some(Entry::Frame(frame)) => give_up(&mut stack.act, &mut outer, frame),
             Some(Entry::Item(item)) => {
                 if is_passable(&refusal) {
-                    return pass_item_over(alloc, run, stack, item.into_inner(), refusal);
+                    return pass_item_over(run, stack, item.into_inner(), refusal);
                 }
             }
             Some(Entry::Leave(caller, method)) => {
-                tell_place(alloc, run, &stack.act, &outer);
+                tell_place(run, &stack.act, &outer);
                 outer = None;
                 end_call(run, method.path());
                 stack.act = caller;

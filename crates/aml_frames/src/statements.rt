@@ -28,19 +28,17 @@ use aml_convert::is_true;
 use aml_meaning::{Flow, Running, StatementKind};
 use aml_objects::Value;
 use aml_terms::ELSE;
-use ar_space::{Refusal, Space};
-use std::alloc::Global;
+use ar_space::{Result, Space};
 
 /// A statement: its first part is evaluated, or it is done.
 #[inline(always)]
 #[tactic(auto, using(crate::proofs::Using::operating))]
 pub fn begin_statement<S: Space>(
-    alloc: Global,
     run: &mut Running<S>,
     act: &mut Activation,
     levels: u8,
     kind: StatementKind,
-) -> Result<Next, Refusal>
+) -> Result<Next>
     ensures spent { run.new.1 ≤ run.old.1 }
     ensures falls { IfOk result (λ n. next_weight n < 3 * most + 100) }
     ensures means { Leads S.accesses (meaning S.accesses) result act.new run.new
@@ -55,10 +53,9 @@ pub fn begin_statement<S: Space>(
         StatementKind::Continue => leave(Flow::Continue),
         StatementKind::Noop => leave(Flow::Next),
         StatementKind::Return => begin_return(run, act, levels),
-        StatementKind::Release => begin_release(alloc, run, act, levels),
+        StatementKind::Release => begin_release(run, act, levels),
         StatementKind::Notify => {
             begin_target(
-                alloc,
                 run,
                 act,
                 Target::super_name(levels),
@@ -72,12 +69,7 @@ pub fn begin_statement<S: Space>(
 
 /// Release: a mutex that a name of one segment names is released at once.
 #[tactic(auto, using(crate::proofs::Knowing::knowing))]
-fn begin_release<S: Space>(
-    alloc: Global,
-    run: &mut Running<S>,
-    act: &mut Activation,
-    levels: u8,
-) -> Result<Next, Refusal>
+fn begin_release<S: Space>(run: &mut Running<S>, act: &mut Activation, levels: u8) -> Result<Next>
     ensures spent { run.new.1 ≤ run.old.1 }
     ensures few { IfOk result (λ n. next_weight n ≤ target_weight uses.Release) }
     ensures means { Leads S.accesses (meaning S.accesses) result act.new run.new
@@ -87,22 +79,12 @@ fn begin_release<S: Space>(
     if release_at_name(run, act, levels) {
         return Ok(Next::Flow(Flow::Next));
     }
-    begin_target(
-        alloc,
-        run,
-        act,
-        Target::super_name(levels),
-        TargetUse::Release,
-    )
+    begin_target(run, act, Target::super_name(levels), TargetUse::Release)
 }
 
 /// Return: its argument is evaluated, or it is there already.
 #[tactic(auto, using(crate::proofs::Stepping::stepping, crate::proofs::Knowing::going_on), unfolding(aml_meaning::specs::StatementTerms::return_rule))]
-fn begin_return<S: Space>(
-    run: &mut Running<S>,
-    act: &mut Activation,
-    levels: u8,
-) -> Result<Next, Refusal>
+fn begin_return<S: Space>(run: &mut Running<S>, act: &mut Activation, levels: u8) -> Result<Next>
     ensures spent { run.new.1 ≤ run.old.1 }
     ensures falls { IfOk result (λ n. next_weight n < 6) }
     ensures memory { NotMemory result }
@@ -116,11 +98,7 @@ fn begin_return<S: Space>(
 /// The argument of a Return, which stands next: an integer that is there already is returned at once.
 #[inline(always)]
 #[tactic(auto, using(crate::proofs::Knowing::taking_known))]
-fn return_value<S: Space>(
-    run: &mut Running<S>,
-    act: &mut Activation,
-    levels: u8,
-) -> Result<Next, Refusal>
+fn return_value<S: Space>(run: &mut Running<S>, act: &mut Activation, levels: u8) -> Result<Next>
     ensures spent { run.new.1 ≤ run.old.1 }
     ensures falls { IfOk result (λ n. next_weight n < 6) }
     ensures memory { NotMemory result }
@@ -136,11 +114,7 @@ fn return_value<S: Space>(
 
 /// Stall and Sleep: the time is evaluated.
 #[tactic(auto, using(crate::proofs::Stepping::stepping), unfolding(aml_meaning::specs::StatementTerms::pause_rule))]
-fn begin_pause<S: Space>(
-    run: &mut Running<S>,
-    act: &mut Activation,
-    levels: u8,
-) -> Result<Next, Refusal>
+fn begin_pause<S: Space>(run: &mut Running<S>, act: &mut Activation, levels: u8) -> Result<Next>
     ensures spent { run.new.1 ≤ run.old.1 }
     ensures falls { IfOk result (λ n. next_weight n < 6) }
     ensures memory { NotMemory result }
@@ -153,11 +127,7 @@ fn begin_pause<S: Space>(
 
 /// Fatal: its argument is evaluated, which stands behind a byte and a double word.
 #[tactic(auto, using(crate::proofs::Stepping::leads_fatal))]
-fn begin_fatal<S: Space>(
-    run: &mut Running<S>,
-    act: &mut Activation,
-    levels: u8,
-) -> Result<Next, Refusal>
+fn begin_fatal<S: Space>(run: &mut Running<S>, act: &mut Activation, levels: u8) -> Result<Next>
     ensures spent { run.new.1 ≤ run.old.1 }
     ensures falls { IfOk result (λ n. next_weight n < 6) }
     ensures memory { NotMemory result }
@@ -165,18 +135,14 @@ fn begin_fatal<S: Space>(
         (statement_run S.accesses (meaning S.accesses) statements.Fatal act.old levels) run.old }
     ensures ends { EndsAt result act.new (behind_statement_at statements.Fatal act.old levels) }
 {
-    act.over(1);
-    act.over(4);
+    act.advance(1);
+    act.advance(4);
     Ok(Next::Term(levels, Frame::Fatal))
 }
 
 /// If: its predicate is evaluated.
 #[tactic(auto, using(crate::proofs::Stepping::branching, crate::proofs::Knowing::going_on))]
-fn begin_if<S: Space>(
-    run: &mut Running<S>,
-    act: &mut Activation,
-    levels: u8,
-) -> Result<Next, Refusal>
+fn begin_if<S: Space>(run: &mut Running<S>, act: &mut Activation, levels: u8) -> Result<Next>
     ensures spent { run.new.1 ≤ run.old.1 }
     ensures falls { IfOk result (λ n. next_weight n < 6) }
     ensures memory { NotMemory result }
@@ -196,7 +162,7 @@ fn choose_branch<S: Space>(
     act: &mut Activation,
     levels: u8,
     outer: Position,
-) -> Result<Next, Refusal>
+) -> Result<Next>
     ensures spent { run.new.1 ≤ run.old.1 }
     ensures falls { IfOk result (λ n. next_weight n < 6) }
     ensures memory { NotMemory result }
@@ -218,7 +184,7 @@ pub(crate) fn next_branch<S: Space>(
     levels: u8,
     outer: Position,
     holds: bool,
-) -> Result<Next, Refusal>
+) -> Result<Next>
     ensures spent { run.new.1 ≤ run.old.1 }
     ensures falls { IfOk result (λ n. next_weight n < 6) }
     ensures memory { NotMemory result }
@@ -237,11 +203,7 @@ pub(crate) fn next_branch<S: Space>(
 
 /// The Else of an If, where it has one: it costs a step.
 #[tactic(auto, using(crate::proofs::Stepping::elses), unfolding(aml_marked::specs::Marked::maybe_else, aml_marked::specs::Marked::gives))]
-fn next_otherwise<S: Space>(
-    run: &mut Running<S>,
-    act: &mut Activation,
-    levels: u8,
-) -> Result<Next, Refusal>
+fn next_otherwise<S: Space>(run: &mut Running<S>, act: &mut Activation, levels: u8) -> Result<Next>
     ensures spent { run.new.1 ≤ run.old.1 }
     ensures falls { IfOk result (λ n. next_weight n < 6) }
     ensures memory { NotMemory result }
@@ -252,7 +214,7 @@ fn next_otherwise<S: Space>(
 {
     if act.is_next(ELSE) {
         run.charge()?;
-        act.over(1);
+        act.advance(1);
         begin_else(run, act, levels)
     } else {
         leave(Flow::Next)
@@ -261,7 +223,7 @@ fn next_otherwise<S: Space>(
 
 /// Else: its list is evaluated.
 #[tactic(auto, using(crate::proofs::Stepping::stepping))]
-fn begin_else<S: Space>(run: &Running<S>, act: &mut Activation, levels: u8) -> Result<Next, Refusal>
+fn begin_else<S: Space>(run: &Running<S>, act: &mut Activation, levels: u8) -> Result<Next>
     ensures falls { IfOk result (λ n. next_weight n < 6) }
     ensures memory { NotMemory result }
     ensures means { Leads S.accesses (meaning S.accesses) result act.new run.now
@@ -274,11 +236,7 @@ fn begin_else<S: Space>(run: &Running<S>, act: &mut Activation, levels: u8) -> R
 
 /// While: its predicate is evaluated.
 #[tactic(auto, using(crate::proofs::Stepping::looping, crate::proofs::Knowing::going_on))]
-fn begin_while<S: Space>(
-    run: &mut Running<S>,
-    act: &mut Activation,
-    levels: u8,
-) -> Result<Next, Refusal>
+fn begin_while<S: Space>(run: &mut Running<S>, act: &mut Activation, levels: u8) -> Result<Next>
     ensures spent { run.new.1 ≤ run.old.1 }
     ensures falls { IfOk result (λ n. next_weight n < 6) }
     ensures memory { NotMemory result }

@@ -20,8 +20,7 @@ use aml_meaning::{
     Count, EventChange, Flow, Held, Referent, Running, StoreTarget, Stored, WorldState,
 };
 use aml_objects::{Field, Value};
-use ar_space::{Refusal, Space};
-use std::alloc::Global;
+use ar_space::{Result, Space};
 
 /// How many bytes the timeout of Acquire takes.
 const TIMEOUT_LENGTH: usize = 2;
@@ -29,12 +28,11 @@ const TIMEOUT_LENGTH: usize = 2;
 /// What is done with a target.
 #[tactic(auto, using(crate::proofs::Using::using_targets))]
 pub(crate) fn use_target<S: Space>(
-    alloc: Global,
     run: &mut Running<S>,
     act: &mut Activation,
     target: StoreTarget,
     target_use: TargetUse,
-) -> Result<Next, Refusal>
+) -> Result<Next>
     ensures spent { run.new.1 ≤ run.old.1 }
     ensures falls { IfOk result (λ n. next_weight n < use_weight target_use) }
     ensures means { Leads S.accesses (meaning S.accesses) result act.new run.new
@@ -42,27 +40,27 @@ pub(crate) fn use_target<S: Space>(
     ensures ends { EndsAt result act.new (use_ends target_use act.old) }
 {
     match target_use {
-        TargetUse::Store(value) => store_value(alloc, run, act, &target, value),
+        TargetUse::Store(value) => store_value(run, act, &target, value),
         TargetUse::CopyObject(value) => {
-            let stored = run.world.copy_to(alloc, &target, value)?;
-            complete(alloc, run, act, stored, value)
+            let stored = run.world.copy_to(&target, value)?;
+            complete(run, act, stored, value)
         }
         TargetUse::Form(value) => {
-            let stored = run.world.store_formed(alloc, &target, value)?;
-            complete(alloc, run, act, stored, value)
+            let stored = run.world.store_formed(&target, value)?;
+            complete(run, act, stored, value)
         }
-        TargetUse::Count(count) => count_target(alloc, run, act, target, count),
+        TargetUse::Count(count) => count_target(run, act, target, count),
         TargetUse::Inquire(inquiry) => {
             let referent = run.world.target_referent(&target)?;
             inquire(run, act, inquiry, referent)
         }
         TargetUse::Acquire => {
-            run.world.acquire(alloc, &target)?;
-            act.over(TIMEOUT_LENGTH);
+            run.world.acquire(&target)?;
+            act.advance(TIMEOUT_LENGTH);
             Ok(Next::Flow(Flow::Value(Value::Integer(0))))
         }
         TargetUse::Release => {
-            run.world.release(alloc, &target)?;
+            run.world.release(&target)?;
             Ok(Next::Flow(Flow::Next))
         }
         TargetUse::RefOf => {
@@ -87,7 +85,7 @@ fn change_event<S: Space>(
     act: &Activation,
     target: &StoreTarget,
     change: EventChange,
-) -> Result<Next, Refusal>
+) -> Result<Next>
     ensures spent { run.new.1 ≤ run.old.1 }
     ensures falls { IfOk result (λ n. next_weight n < use_weight (uses.Event change)) }
     ensures means { Leads S.accesses (meaning S.accesses) result act.now run.new
@@ -106,7 +104,7 @@ fn begin_wait<S: Space>(
     act: &Activation,
     target: &StoreTarget,
     levels: u8,
-) -> Result<Next, Refusal>
+) -> Result<Next>
     ensures falls { IfOk result (λ n. next_weight n < use_weight (uses.Wait levels)) }
     ensures means { Leads S.accesses (meaning S.accesses) result act.now run.now
         (used S.accesses (meaning S.accesses) (uses.Wait levels) act.now target.now) run.now }
@@ -119,31 +117,29 @@ fn begin_wait<S: Space>(
 /// A value is stored to a target, and is the value of the term.
 #[tactic(auto, using(crate::proofs::Using::using_targets), unfolding(crate::specs::Uses::stored_at, aml_meaning::specs::FieldCalls::stored_to))]
 fn store_value<S: Space>(
-    alloc: Global,
     run: &mut Running<S>,
     act: &Activation,
     target: &StoreTarget,
     value: Value,
-) -> Result<Next, Refusal>
+) -> Result<Next>
     ensures spent { run.new.1 ≤ run.old.1 }
     ensures falls { IfOk result (λ n. next_weight n < most + 4) }
     ensures means { Leads S.accesses (meaning S.accesses) result act.now run.new
         (stored_at S.accesses (meaning S.accesses) value act.now target.now) run.old }
     ensures ends { EndsAt result act.now act.now }
 {
-    let stored = run.world.store(alloc, target, value)?;
-    complete(alloc, run, act, stored, value)
+    let stored = run.world.store(target, value)?;
+    complete(run, act, stored, value)
 }
 
 /// A store is done, or a field is written next.
 #[tactic(auto, using(crate::proofs::Using::using_targets))]
 fn complete<S: Space>(
-    alloc: Global,
     run: &Running<S>,
     act: &Activation,
     stored: Stored,
     value: Value,
-) -> Result<Next, Refusal>
+) -> Result<Next>
     ensures falls { IfOk result (λ n. next_weight n < most + 4) }
     ensures means { Leads S.accesses (meaning S.accesses) result act.now run.now
         (put_complete S.accesses (meaning S.accesses) stored value act.now) run.now }
@@ -151,19 +147,18 @@ fn complete<S: Space>(
 {
     match stored {
         Stored::Done => Ok(Next::Flow(Flow::Value(value))),
-        Stored::Field(field) => begin_write(alloc, run, act, field, value),
+        Stored::Field(field) => begin_write(run, act, field, value),
     }
 }
 
 /// Increment and Decrement: what the target holds is read; that of a field is waited for.
 #[tactic(auto, using(crate::proofs::Using::using_targets), unfolding(crate::specs::Uses::counted_back))]
 fn count_target<S: Space>(
-    alloc: Global,
     run: &mut Running<S>,
     act: &Activation,
     target: StoreTarget,
     count: Count,
-) -> Result<Next, Refusal>
+) -> Result<Next>
     ensures spent { run.new.1 ≤ run.old.1 }
     ensures falls { IfOk result (λ n. next_weight n < 2 * most + 12) }
     ensures means { Leads S.accesses (meaning S.accesses) result act.now run.new
@@ -175,22 +170,24 @@ fn count_target<S: Space>(
         Held::Value(value) => {
             let number = integer_of(&run.world, value)?;
             let result = run.world.count(count, number)?;
-            store_back(alloc, run, act, &target, held, result)
+            store_back(run, act, &target, held, result)
         }
-        Held::Field(field) => Ok(Next::Counted(count, Boxed::new(alloc, (target, field))?)),
+        Held::Field(field) => Ok(Next::Counted(
+            count,
+            Boxed::new(run.world.alloc, (target, field))?,
+        )),
     }
 }
 
 /// Increment or Decrement of a field that was read.
 #[tactic(auto, using(crate::proofs::Using::using_targets), unfolding(crate::specs::Uses::counted_back))]
 pub(crate) fn resume_counted<S: Space>(
-    alloc: Global,
     run: &mut Running<S>,
     act: &Activation,
     count: Count,
     counted: Boxed<(StoreTarget, Field)>,
     flow: Flow,
-) -> Result<Next, Refusal>
+) -> Result<Next>
     ensures spent { run.new.1 ≤ run.old.1 }
     ensures falls { IfOk result (λ n. next_weight n < most + 4) }
     ensures means { Leads S.accesses (meaning S.accesses) result act.now run.new
@@ -201,20 +198,19 @@ pub(crate) fn resume_counted<S: Space>(
     let number = integer_of(&run.world, value)?;
     let result = run.world.count(count, number)?;
     let (target, field) = counted.into_inner();
-    store_back(alloc, run, act, &target, Held::Field(field), result)
+    store_back(run, act, &target, Held::Field(field), result)
 }
 
 /// A store to a target whose value was read before; a field that was read is the one that is written, unless an
 /// element of a package named it: then the element is replaced.
 #[tactic(auto, using(crate::proofs::Using::using_targets), unfolding(crate::specs::Uses::stored_at))]
 fn store_back<S: Space>(
-    alloc: Global,
     run: &mut Running<S>,
     act: &Activation,
     target: &StoreTarget,
     held: Held,
     value: Value,
-) -> Result<Next, Refusal>
+) -> Result<Next>
     ensures spent { run.new.1 ≤ run.old.1 }
     ensures falls { IfOk result (λ n. next_weight n < most + 4) }
     ensures means { Leads S.accesses (meaning S.accesses) result act.now run.new
@@ -222,11 +218,11 @@ fn store_back<S: Space>(
     ensures ends { EndsAt result act.now act.now }
 {
     if target.is_element() {
-        return store_value(alloc, run, act, target, value);
+        return store_value(run, act, target, value);
     }
     match held {
-        Held::Value(_) => store_value(alloc, run, act, target, value),
-        Held::Field(field) => begin_write(alloc, run, act, field, value),
+        Held::Value(_) => store_value(run, act, target, value),
+        Held::Field(field) => begin_write(run, act, field, value),
     }
 }
 
@@ -237,7 +233,7 @@ pub(crate) fn inquire<S: Space>(
     act: &Activation,
     inquiry: Inquiry,
     referent: Referent,
-) -> Result<Next, Refusal>
+) -> Result<Next>
     ensures falls { IfOk result (λ n. next_weight n < most + 4) }
     ensures memory { NotMemory result }
     ensures means { Leads S.accesses (meaning S.accesses) result act.now run.now
@@ -255,11 +251,7 @@ pub(crate) fn inquire<S: Space>(
 
 /// What SizeOf and ObjectType tell of a referent that is no field.
 #[tactic(auto, using(aml_meaning::proofs::Runs::running))]
-pub(crate) fn tell<S>(
-    world: &WorldState<S>,
-    inquiry: Inquiry,
-    referent: Referent,
-) -> Result<Value, Refusal>
+pub(crate) fn tell<S>(world: &WorldState<S>, inquiry: Inquiry, referent: Referent) -> Result<Value>
     ensures answer { Does result world.now (told inquiry referent) world.now }
     ensures memory { NotMemory result }
 {

@@ -23,19 +23,17 @@ use crate::target_uses::use_target;
 use crate::tracing::told_here;
 use crate::uses::{Target, TargetForm, TargetUse};
 use aml_meaning::{Flow, Running, StoreTarget, TargetKind, reference_in};
-use ar_space::{NameFault, Refusal, Space};
-use std::alloc::Global;
+use ar_space::{NameFault, Refusal, Result, Space};
 
 /// The target that stands next is found and used, or what it refers to is evaluated first.
 #[inline(always)]
 #[tactic(auto, using(crate::proofs::Using::finding))]
 pub(crate) fn begin_target<S: Space>(
-    alloc: Global,
     run: &mut Running<S>,
     act: &mut Activation,
     target: Target,
     target_use: TargetUse,
-) -> Result<Next, Refusal>
+) -> Result<Next>
     ensures spent { run.new.1 ≤ run.old.1 }
     ensures few { IfOk result (λ n. next_weight n ≤ target_weight target_use) }
     ensures falls { IfOk result (λ n. charged run.new.1 + next_weight n <
@@ -45,21 +43,20 @@ pub(crate) fn begin_target<S: Space>(
     ensures ends { EndsAt result act.new (target_ends target target_use act.old) }
 {
     match target.form {
-        TargetForm::SuperName => begin_super_name(alloc, run, act, target.levels, target_use),
-        TargetForm::Target => begin_optional(alloc, run, act, target.levels, target_use),
+        TargetForm::SuperName => begin_super_name(run, act, target.levels, target_use),
+        TargetForm::Target => begin_optional(run, act, target.levels, target_use),
     }
 }
 
-/// A target that may be left out.
+/// A target that may be left out: a NullName stands there then (ACPI 6.5, 20.2.2).
 #[inline(always)]
 #[tactic(auto, using(crate::proofs::Using::finding))]
 fn begin_optional<S: Space>(
-    alloc: Global,
     run: &mut Running<S>,
     act: &mut Activation,
     levels: u8,
     target_use: TargetUse,
-) -> Result<Next, Refusal>
+) -> Result<Next>
     ensures spent { run.new.1 ≤ run.old.1 }
     ensures few { IfOk result (λ n. next_weight n ≤ target_weight target_use) }
     ensures falls { IfOk result (λ n. charged run.new.1 + next_weight n <
@@ -68,11 +65,11 @@ fn begin_optional<S: Space>(
         (target_run S.accesses (meaning S.accesses) (optional levels) target_use act.old) run.old }
     ensures ends { EndsAt result act.new (target_ends (optional levels) target_use act.old) }
 {
-    if act.first() == 0 {
-        act.over(1);
-        use_target(alloc, run, act, StoreTarget::Nowhere, target_use)
+    if act.next_byte() == 0 {
+        act.advance(1);
+        use_target(run, act, StoreTarget::Nowhere, target_use)
     } else {
-        begin_super_name(alloc, run, act, levels, target_use)
+        begin_super_name(run, act, levels, target_use)
     }
 }
 
@@ -80,12 +77,11 @@ fn begin_optional<S: Space>(
 #[inline(always)]
 #[tactic(auto, using(crate::proofs::Knowing::knowing))]
 fn begin_super_name<S: Space>(
-    alloc: Global,
     run: &mut Running<S>,
     act: &mut Activation,
     levels: u8,
     target_use: TargetUse,
-) -> Result<Next, Refusal>
+) -> Result<Next>
     ensures spent { run.new.1 ≤ run.old.1 }
     ensures few { IfOk result (λ n. next_weight n ≤ target_weight target_use) }
     ensures falls { IfOk result (λ n. charged run.new.1 + next_weight n <
@@ -96,19 +92,18 @@ fn begin_super_name<S: Space>(
 {
     match use_known(run, act, levels, target_use) {
         Ok(Some(value)) => Ok(Next::Flow(Flow::Value(value))),
-        Ok(None) => begin_any_super_name(alloc, run, act, levels, target_use),
+        Ok(None) => begin_any_super_name(run, act, levels, target_use),
         Err(refusal) => Err(refusal),
     }
 }
 
 /// A name, or a term that refers to a target.
 fn begin_any_super_name<S: Space>(
-    alloc: Global,
     run: &mut Running<S>,
     act: &mut Activation,
     levels: u8,
     target_use: TargetUse,
-) -> Result<Next, Refusal>
+) -> Result<Next>
     ensures spent { run.new.1 ≤ run.old.1 }
     ensures few { IfOk result (λ n. next_weight n ≤ target_weight target_use) }
     ensures falls { IfOk result (λ n. charged run.new.1 + next_weight n <
@@ -118,21 +113,20 @@ fn begin_any_super_name<S: Space>(
     ensures ends { EndsAt result act.new (target_ends (super levels) target_use act.old) }
 {
     if act.is_at_name() {
-        begin_named(alloc, run, act, levels, target_use)
+        begin_named(run, act, levels, target_use)
     } else {
-        begin_referring(alloc, run, act, levels, target_use)
+        begin_referring(run, act, levels, target_use)
     }
 }
 
 /// What a name names.
 #[tactic(auto, using(crate::proofs::Using::naming), unfolding(aml_marked::specs::Marked::a_name))]
 fn begin_named<S: Space>(
-    alloc: Global,
     run: &mut Running<S>,
     act: &mut Activation,
     levels: u8,
     target_use: TargetUse,
-) -> Result<Next, Refusal>
+) -> Result<Next>
     requires { starts_name (first act.old.place.rest) ≡ true }
     ensures spent { run.new.1 ≤ run.old.1 }
     ensures few { IfOk result (λ n. next_weight n ≤ target_weight target_use) }
@@ -142,34 +136,29 @@ fn begin_named<S: Space>(
         (target_run S.accesses (meaning S.accesses) (super levels) target_use act.old) run.old }
     ensures ends { EndsAt result act.new (target_ends (super levels) target_use act.old) }
 {
-    let found = target_at_name(alloc, run, act);
-    let target = told_here(alloc, &mut run.world, act, found)?;
+    let found = target_at_name(run, act);
+    let target = told_here(&mut run.world, act, found)?;
     act.over_name();
-    use_target(alloc, run, act, target, target_use)
+    use_target(run, act, target, target_use)
 }
 
 /// The target that a name names.
 #[tactic(auto, using(aml_meaning::proofs::Runs::running))]
-fn target_at_name<S: Space>(
-    alloc: Global,
-    run: &Running<S>,
-    act: &Activation,
-) -> Result<StoreTarget, Refusal>
+fn target_at_name<S: Space>(run: &Running<S>, act: &Activation) -> Result<StoreTarget>
     ensures { Does result run.now (lift (target_named act.now.scope (a_name act.now.place).0)) run.now }
 {
-    let name = act.name(alloc)?;
-    run.world.target_named(alloc, act.scope(), &name)
+    let name = act.name(run.world.alloc)?;
+    run.world.target_named(act.scope(), &name)
 }
 
 /// What a term refers to that stands as a target: Debug, a local, an argument, RefOf, DerefOf or Index.
 #[tactic(auto, using(crate::proofs::Using::referring))]
 fn begin_referring<S: Space>(
-    alloc: Global,
     run: &mut Running<S>,
     act: &mut Activation,
     levels: u8,
     target_use: TargetUse,
-) -> Result<Next, Refusal>
+) -> Result<Next>
     requires { starts_name (first act.old.place.rest) ≡ false }
     ensures spent { run.new.1 ≤ run.old.1 }
     ensures few { IfOk result (λ n. next_weight n ≤ target_weight target_use) }
@@ -182,11 +171,11 @@ fn begin_referring<S: Space>(
     match act.target_kind(levels) {
         TargetKind::Nowhere => {
             act.over_term(levels);
-            use_target(alloc, run, act, StoreTarget::Nowhere, target_use)
+            use_target(run, act, StoreTarget::Nowhere, target_use)
         }
         TargetKind::Slot(slot) => {
             act.over_term(levels);
-            use_target(alloc, run, act, StoreTarget::Slot(slot), target_use)
+            use_target(run, act, StoreTarget::Slot(slot), target_use)
         }
         TargetKind::RefOf => begin_operand_target(run, act, levels, target_use),
         TargetKind::DerefOf => begin_dereferenced(run, act, levels, target_use),
@@ -202,7 +191,7 @@ fn begin_operand_target<S: Space>(
     act: &mut Activation,
     levels: u8,
     target_use: TargetUse,
-) -> Result<Next, Refusal>
+) -> Result<Next>
     requires { target_kind (code_of (next_term act.old levels)) ≡ kinds.RefOf }
     ensures spent { run.new.1 ≤ run.old.1 }
     ensures few { IfOk result (λ n. next_weight n ≤ target_weight target_use) }
@@ -227,7 +216,7 @@ fn begin_dereferenced<S: Space>(
     act: &mut Activation,
     levels: u8,
     target_use: TargetUse,
-) -> Result<Next, Refusal>
+) -> Result<Next>
     requires { target_kind (code_of (next_term act.old levels)) ≡ kinds.DerefOf }
     ensures spent { run.new.1 ≤ run.old.1 }
     ensures few { IfOk result (λ n. next_weight n < target_weight target_use) }
@@ -246,12 +235,11 @@ fn begin_dereferenced<S: Space>(
 /// A target that is an Index whose value was evaluated.
 #[tactic(auto, using(crate::proofs::Using::using_targets))]
 pub(crate) fn resume_index_target<S: Space>(
-    alloc: Global,
     run: &mut Running<S>,
     act: &mut Activation,
     target_use: TargetUse,
     flow: Flow,
-) -> Result<Next, Refusal>
+) -> Result<Next>
     ensures spent { run.new.1 ≤ run.old.1 }
     ensures falls { IfOk result (λ n. next_weight n < use_weight target_use) }
     ensures means { Leads S.accesses (meaning S.accesses) result act.new run.new
@@ -260,18 +248,17 @@ pub(crate) fn resume_index_target<S: Space>(
 {
     let value = flow.value()?;
     let reference = reference_in(value)?;
-    use_target(alloc, run, act, StoreTarget::Refers(reference), target_use)
+    use_target(run, act, StoreTarget::Refers(reference), target_use)
 }
 
 /// A target that is a DerefOf whose operand was evaluated.
 #[tactic(auto, using(crate::proofs::Using::using_targets))]
 pub(crate) fn resume_dereferenced<S: Space>(
-    alloc: Global,
     run: &mut Running<S>,
     act: &mut Activation,
     target_use: TargetUse,
     flow: Flow,
-) -> Result<Next, Refusal>
+) -> Result<Next>
     ensures spent { run.new.1 ≤ run.old.1 }
     ensures falls { IfOk result (λ n. next_weight n < use_weight target_use) }
     ensures means { Leads S.accesses (meaning S.accesses) result act.new run.new
@@ -281,5 +268,5 @@ pub(crate) fn resume_dereferenced<S: Space>(
     let value = flow.value()?;
     let reference = reference_in(value)?;
     run.world.test_reference(reference)?;
-    use_target(alloc, run, act, StoreTarget::Refers(reference), target_use)
+    use_target(run, act, StoreTarget::Refers(reference), target_use)
 }

@@ -21,18 +21,16 @@ use crate::statements::begin_statement;
 use crate::wide::begin_wide;
 use aml_meaning::{Running, TermKind, kind_of};
 use aml_terms::RowPlace;
-use ar_space::{EvaluationFault, NameFault, Refusal, Space};
-use std::alloc::Global;
+use ar_space::{EvaluationFault, NameFault, Refusal, Result, Space};
 
 /// Begins the term that stands next, with so many levels: it costs a step.
 #[inline(always)]
 #[tactic(auto, using(crate::proofs::Using::beginning_terms), unfolding(aml_meaning::specs::Evaluation::rule))]
 pub(crate) fn begin_term<S: Space>(
-    alloc: Global,
     run: &mut Running<S>,
     act: &mut Activation,
     levels: u8,
-) -> Result<Next, Refusal>
+) -> Result<Next>
     ensures paid { OnOk result (run.new.1 < run.old.1) }
     ensures refused { IfErr result (λ e. is_passable e ≡ true → run.new.1 < run.old.1) }
     ensures falls { IfOk result (λ n. next_weight n < step_weight) }
@@ -41,18 +39,13 @@ pub(crate) fn begin_term<S: Space>(
     ensures ends { EndsAt result act.new (behind_term act.old levels) }
 {
     run.charge()?;
-    begin_paid(alloc, run, act, levels)
+    begin_paid(run, act, levels)
 }
 
 /// A term whose step is paid.
 #[inline(always)]
 #[tactic(auto, using(crate::proofs::Using::beginning_terms, crate::proofs::Stepping::coding))]
-fn begin_paid<S: Space>(
-    alloc: Global,
-    run: &mut Running<S>,
-    act: &mut Activation,
-    levels: u8,
-) -> Result<Next, Refusal>
+fn begin_paid<S: Space>(run: &mut Running<S>, act: &mut Activation, levels: u8) -> Result<Next>
     ensures spent { run.new.1 ≤ run.old.1 }
     ensures falls { IfOk result (λ n. next_weight n < step_weight) }
     ensures means { Leads S.accesses (meaning S.accesses) result act.new run.new
@@ -60,19 +53,14 @@ fn begin_paid<S: Space>(
     ensures ends { EndsAt result act.new (behind_term act.old levels) }
 {
     match act.take_opcode(levels) {
-        Some(place) => begin_coded(alloc, run, act, levels - 1, place),
-        None => begin_uncoded(alloc, run, act, levels),
+        Some(place) => begin_coded(run, act, levels - 1, place),
+        None => begin_uncoded(run, act, levels),
     }
 }
 
 /// A term without an opcode: a name with its arguments. Nothing else is evaluated.
 #[tactic(auto, using(crate::proofs::Using::beginning_terms))]
-fn begin_uncoded<S: Space>(
-    alloc: Global,
-    run: &mut Running<S>,
-    act: &mut Activation,
-    levels: u8,
-) -> Result<Next, Refusal>
+fn begin_uncoded<S: Space>(run: &mut Running<S>, act: &mut Activation, levels: u8) -> Result<Next>
     requires { (opcode : Opcode) → code_of (next_term act.old levels) ≢ codes.Opcode opcode }
     ensures spent { run.new.1 ≤ run.old.1 }
     ensures falls { IfOk result (λ n. next_weight n < step_weight) }
@@ -81,7 +69,7 @@ fn begin_uncoded<S: Space>(
     ensures ends { EndsAt result act.new (behind_term act.old levels) }
 {
     if act.is_at_call(levels) {
-        return begin_name(alloc, run, act, levels - 1);
+        return begin_name(run, act, levels - 1);
     }
     Err(Refusal::Name(NameFault::BadName))
 }
@@ -90,12 +78,11 @@ fn begin_uncoded<S: Space>(
 #[inline(always)]
 #[tactic(auto, using(crate::proofs::Using::beginning_terms, crate::proofs::Stepping::coding, crate::proofs::DeclaringFields::coded_regions, crate::proofs::WideSteps::beginning_wide))]
 fn begin_coded<S: Space>(
-    alloc: Global,
     run: &mut Running<S>,
     act: &mut Activation,
     levels: u8,
     place: RowPlace,
-) -> Result<Next, Refusal>
+) -> Result<Next>
     ensures spent { run.new.1 ≤ run.old.1 }
     ensures falls { IfOk result (λ n. next_weight n < step_weight) }
     ensures means { Leads S.accesses (meaning S.accesses) result act.new run.new
@@ -103,12 +90,12 @@ fn begin_coded<S: Space>(
     ensures ends { EndsAt result act.new (behind_coded place act.old levels) }
 {
     match kind_of(place.row().0) {
-        TermKind::Operator(kind) => begin_operator(alloc, run, act, levels, kind),
-        TermKind::Statement(kind) => begin_statement(alloc, run, act, levels, kind),
-        TermKind::Data(kind) => begin_data(alloc, run, act, levels, place, kind),
-        TermKind::Declaration(kind) => begin_declaration(alloc, run, act, levels, place, kind),
-        TermKind::Region(kind) => begin_region_term(alloc, run, act, levels, place, kind),
-        TermKind::Wide(kind) => begin_wide(alloc, run, act, levels, place.row().0, kind),
+        TermKind::Operator(kind) => begin_operator(run, act, levels, kind),
+        TermKind::Statement(kind) => begin_statement(run, act, levels, kind),
+        TermKind::Data(kind) => begin_data(run, act, levels, place, kind),
+        TermKind::Declaration(kind) => begin_declaration(run, act, levels, place, kind),
+        TermKind::Region(kind) => begin_region_term(run, act, levels, place, kind),
+        TermKind::Wide(kind) => begin_wide(run, act, levels, place.row().0, kind),
         TermKind::Unsupported => {
             Err(Refusal::Evaluation(EvaluationFault::Unsupported(place.row().0.number())))
         }

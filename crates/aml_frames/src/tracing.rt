@@ -7,7 +7,7 @@ use crate::frames::{Frame, Loop, Next};
 use crate::position::MethodPath;
 use aml_meaning::{Running, TracePlace, WorldState};
 use aml_path::{NameString, Path};
-use ar_space::Refusal;
+use ar_space::{Refusal, Result};
 use std::alloc::Global;
 
 /// The opcode of While.
@@ -29,40 +29,27 @@ pub(crate) fn give_up(act: &mut Activation, outer: &mut Option<MethodPath>, fram
 }
 
 /// The last list that is given up, which is the outermost one: the trace is told whole.
-pub(crate) fn tell_last<S>(
-    alloc: Global,
-    run: &mut Running<S>,
-    act: &Activation,
-    outer: &Option<MethodPath>,
-)
+pub(crate) fn tell_last<S>(run: &mut Running<S>, act: &Activation, outer: &Option<MethodPath>)
     ensures { run.new ≡ run.old }
 {
-    tell_place(alloc, run, act, outer);
+    tell_place(run, act, outer);
     run.world.end_trace(run.steps);
 }
 
 /// The list that is given up, with the scope that was around those in the body of a control method. One without bytes
 /// is none: no term stands in it.
-pub(crate) fn tell_place<S>(
-    alloc: Global,
-    run: &mut Running<S>,
-    act: &Activation,
-    outer: &Option<MethodPath>,
-)
+pub(crate) fn tell_place<S>(run: &mut Running<S>, act: &Activation, outer: &Option<MethodPath>)
     ensures { run.new ≡ run.old }
 {
     if act.bytes().is_empty() {
         return;
     }
-    run.world.put_trace_place(place_of(alloc, act, outer));
+    let place = place_of(run.world.alloc, act, outer);
+    run.world.put_trace_place(place);
 }
 
 /// The place of the term that was being evaluated in a list.
-fn place_of(
-    alloc: Global,
-    act: &Activation,
-    outer: &Option<MethodPath>,
-) -> Result<TracePlace, Refusal> {
+fn place_of(alloc: Global, act: &Activation, outer: &Option<MethodPath>) -> Result<TracePlace> {
     let is_body = act.depth() > 0;
     let scope = if is_body {
         method_of(act, outer)
@@ -106,19 +93,18 @@ fn code_of(first: u8) -> Option<u16> {
 /// What came of a name, which the trace tells where it is refused.
 #[inline(always)]
 pub(crate) fn told<S, A>(
-    alloc: Global,
     world: &mut WorldState<S>,
     act: &Activation,
     name: &NameString,
-    outcome: Result<A, Refusal>,
-) -> Result<A, Refusal>
+    outcome: Result<A>,
+) -> Result<A>
     ensures same { result ≡ outcome }
     ensures world { world.new ≡ world.old }
 {
     match outcome {
         Ok(value) => Ok(value),
         Err(refusal) => {
-            world.put_trace_name(alloc, name, act.scope().path);
+            world.put_trace_name(name, act.scope().path);
             Err(refusal)
         }
     }
@@ -127,18 +113,17 @@ pub(crate) fn told<S, A>(
 /// What came of the name that stands next, which the trace tells where it is refused.
 #[inline(always)]
 pub(crate) fn told_here<S, A>(
-    alloc: Global,
     world: &mut WorldState<S>,
     act: &Activation,
-    outcome: Result<A, Refusal>,
-) -> Result<A, Refusal>
+    outcome: Result<A>,
+) -> Result<A>
     ensures same { result ≡ outcome }
     ensures world { world.new ≡ world.old }
 {
     match outcome {
         Ok(value) => Ok(value),
         Err(refusal) => {
-            tell_name(alloc, world, act);
+            tell_name(world, act);
             Err(refusal)
         }
     }
@@ -146,29 +131,28 @@ pub(crate) fn told_here<S, A>(
 
 /// The name that stands next is told.
 #[cold]
-fn tell_name<S>(alloc: Global, world: &mut WorldState<S>, act: &Activation)
+fn tell_name<S>(world: &mut WorldState<S>, act: &Activation)
     ensures { world.new ≡ world.old }
 {
-    match act.name(alloc) {
-        Ok(name) => world.put_trace_name(alloc, &name, act.scope().path),
+    match act.name(world.alloc) {
+        Ok(name) => world.put_trace_name(&name, act.scope().path),
         Err(_) => {}
     }
 }
 
 /// What came of the object at a path, which the trace tells where it is refused.
 pub(crate) fn told_path<S, A>(
-    alloc: Global,
     world: &mut WorldState<S>,
     path: &Path,
-    outcome: Result<A, Refusal>,
-) -> Result<A, Refusal>
+    outcome: Result<A>,
+) -> Result<A>
     ensures same { result ≡ outcome }
     ensures world { world.new ≡ world.old }
 {
     match outcome {
         Ok(value) => Ok(value),
         Err(refusal) => {
-            world.put_trace_path(alloc, path);
+            world.put_trace_path(path);
             Err(refusal)
         }
     }
@@ -186,11 +170,7 @@ pub(crate) fn told_loop(act: &mut Activation, turn: Loop, refusal: Refusal) -> R
 
 /// What came of the predicate of a While at a further turn: where it is refused, the While is told.
 #[inline(always)]
-pub(crate) fn told_turn(
-    act: &mut Activation,
-    turn: Loop,
-    outcome: Result<Next, Refusal>,
-) -> Result<Next, Refusal>
+pub(crate) fn told_turn(act: &mut Activation, turn: Loop, outcome: Result<Next>) -> Result<Next>
     ensures same { result ≡ outcome }
     ensures act { act.new ≡ act.old }
 {

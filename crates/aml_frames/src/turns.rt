@@ -13,7 +13,7 @@ use crate::resuming::resume_turn;
 use crate::stack::follow;
 use crate::waiting::{Stack, go_to_flow, go_to_items};
 use aml_meaning::{Flow, Running};
-use ar_space::{Refusal, Space};
+use ar_space::{Result, Space};
 
 /// The While that waits on the top of the stack, if one does.
 #[inline(always)]
@@ -29,10 +29,7 @@ fn waiting_loop(stack: &Stack) -> Option<Loop>
 /// A list has ended without Break, Continue or Return. Where a While waits for it, that goes on here; whatever else
 /// waits is handed `Flow::Next`.
 #[tactic(auto, using(crate::proofs::LoopTurns::turning))]
-pub(crate) fn end_list<S: Space>(
-    run: &mut Running<S>,
-    stack: &mut Stack,
-) -> Result<Control, Refusal>
+pub(crate) fn end_list<S: Space>(run: &mut Running<S>, stack: &mut Stack) -> Result<Control>
     ensures falls { IfOk result (λ c. charged run.new.1 + (stack_weight stack.new.entries.items + control_weight c) <
         charged run.old.1 + (stack_weight stack.old.entries.items + 4)) }
     ensures refused { IfErr result (λ e. is_passable e ≡ true →
@@ -52,11 +49,7 @@ pub(crate) fn end_list<S: Space>(
 /// where the predicate doesn't hold, isn't an integer that is there already, or is refused.
 #[inline(always)]
 #[tactic(auto, using(crate::proofs::LoopTurns::turning))]
-fn end_turn<S: Space>(
-    run: &mut Running<S>,
-    stack: &mut Stack,
-    turn: Loop,
-) -> Result<Control, Refusal>
+fn end_turn<S: Space>(run: &mut Running<S>, stack: &mut Stack, turn: Loop) -> Result<Control>
     requires { TurnWaits turn stack.old.entries.items }
     ensures falls { IfOk result (λ c. charged run.new.1 + (stack_weight stack.new.entries.items + control_weight c) <
         charged run.old.1 + (stack_weight stack.old.entries.items + 4)) }

@@ -7,12 +7,12 @@ ghost use Rattle.aml_meaning.specs.Readings.{integer_in};
 
 use aml_meaning::{Flow, WorldState};
 use aml_objects::Value;
-use ar_space::Refusal;
+use ar_space::Result;
 
 /// The integer that a value is converted to: an integer is it already.
 #[inline(always)]
 #[tactic(auto, unfolding(aml_meaning::specs::Readings::integer_in))]
-pub(crate) fn integer_of<S>(world: &WorldState<S>, value: Value) -> Result<u64, Refusal>
+pub(crate) fn integer_of<S>(world: &WorldState<S>, value: Value) -> Result<u64>
     ensures answer { Does result world.now (integer_in value) world.now }
     ensures memory { NotMemory result }
 {

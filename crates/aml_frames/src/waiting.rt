@@ -17,7 +17,7 @@ use crate::position::MethodPath;
 use crate::uses::{Access, Reading, Target, TargetUse};
 use aml_meaning::{Count, Flow, StoreTarget};
 use aml_objects::{Field, NodeId, Reference, Value};
-use ar_space::Refusal;
+use ar_space::Result;
 use std::alloc::Global;
 
 /// The machine's state: the activation that is evaluated, and the entries that wait for it.
@@ -41,7 +41,7 @@ impl Stack {
 
     /// The term that stands next, and the frame that waits for it.
     #[inline(always)]
-    pub(crate) fn wait_for_term(&mut self, levels: u8, frame: Frame) -> Result<Control, Refusal>
+    pub(crate) fn wait_for_term(&mut self, levels: u8, frame: Frame) -> Result<Control>
         ensures act { OnOk result (self.new.act ≡ self.old.act) }
         ensures pushed { OnOk result (self.new.entries.items ≡ self.old.entries.items ++ entry.Frame frame ∷ []) }
         ensures next { IfOk result (λ c. c ≡ control.Term levels) }
@@ -53,7 +53,7 @@ impl Stack {
 
     /// The list of a While, and what is left of the While.
     #[inline(always)]
-    pub(crate) fn wait_for_turn(&mut self, turn: Loop) -> Result<Control, Refusal>
+    pub(crate) fn wait_for_turn(&mut self, turn: Loop) -> Result<Control>
         ensures act { OnOk result (self.new.act ≡ self.old.act) }
         ensures pushed { OnOk result (self.new.entries.items ≡ self.old.entries.items ++
             entry.Frame (frames.Turn turn) ∷ []) }
@@ -71,7 +71,7 @@ impl Stack {
         items: Items,
         path: MethodPath,
         node: NodeId,
-    ) -> Result<Control, Refusal>
+    ) -> Result<Control>
         ensures act { OnOk result (self.new.act ≡ self.old.act) }
         ensures pushed { OnOk result (self.new.entries.items ≡ self.old.entries.items ++
             entry.Frame (frames.Scope path node) ∷ []) }
@@ -88,7 +88,7 @@ impl Stack {
         levels: u8,
         remainder: Value,
         quotient: Value,
-    ) -> Result<Control, Refusal>
+    ) -> Result<Control>
         ensures act { OnOk result (self.new.act ≡ self.old.act) }
         ensures pushed { OnOk result (self.new.entries.items ≡ self.old.entries.items ++
             entry.Frame (frames.Quotient levels quotient) ∷ []) }
@@ -101,11 +101,7 @@ impl Stack {
     }
 
     /// The reference of a CondRefOf is stored.
-    pub(crate) fn wait_for_reference(
-        &mut self,
-        levels: u8,
-        reference: Reference,
-    ) -> Result<Control, Refusal>
+    pub(crate) fn wait_for_reference(&mut self, levels: u8, reference: Reference) -> Result<Control>
         ensures act { OnOk result (self.new.act ≡ self.old.act) }
         ensures pushed { OnOk result (self.new.entries.items ≡ self.old.entries.items ++
             entry.Frame frames.Found ∷ []) }
@@ -125,7 +121,7 @@ impl Stack {
         &mut self,
         count: Count,
         counted: Boxed<(StoreTarget, Field)>,
-    ) -> Result<Control, Refusal>
+    ) -> Result<Control>
         ensures act { OnOk result (self.new.act ≡ self.old.act) }
         ensures pushed { OnOk result (self.new.entries.items ≡ self.old.entries.items ++
             entry.Frame (frames.Counted count counted) ∷ []) }
@@ -140,11 +136,7 @@ impl Stack {
 
     /// An access of a field, and the frame that waits for it.
     #[inline(always)]
-    pub(crate) fn wait_for_access(
-        &mut self,
-        access: Boxed<Access>,
-        frame: Frame,
-    ) -> Result<Control, Refusal>
+    pub(crate) fn wait_for_access(&mut self, access: Boxed<Access>, frame: Frame) -> Result<Control>
         ensures act { OnOk result (self.new.act ≡ self.old.act) }
         ensures pushed { OnOk result (self.new.entries.items ≡ self.old.entries.items ++ entry.Frame frame ∷ []) }
         ensures next { IfOk result (λ c. c ≡ control.Access access) }
@@ -155,7 +147,7 @@ impl Stack {
     }
 
     /// A flow, and the frame that it is handed to.
-    pub(crate) fn wait_for_flow(&mut self, flow: Flow, frame: Frame) -> Result<Control, Refusal>
+    pub(crate) fn wait_for_flow(&mut self, flow: Flow, frame: Frame) -> Result<Control>
         ensures act { OnOk result (self.new.act ≡ self.old.act) }
         ensures pushed { OnOk result (self.new.entries.items ≡ self.old.entries.items ++ entry.Frame frame ∷ []) }
         ensures next { IfOk result (λ c. c ≡ control.Flow flow) }
@@ -168,7 +160,7 @@ impl Stack {
 
 /// A flow is handed to what waits.
 #[inline(always)]
-pub(crate) fn go_to_flow(flow: Flow) -> Result<Control, Refusal>
+pub(crate) fn go_to_flow(flow: Flow) -> Result<Control>
     ensures { result ≡ Ok (control.Flow flow) }
 {
     Ok(Control::Flow(flow))
@@ -176,7 +168,7 @@ pub(crate) fn go_to_flow(flow: Flow) -> Result<Control, Refusal>
 
 /// A list begins next.
 #[inline(always)]
-pub(crate) fn go_to_items(items: Items) -> Result<Control, Refusal>
+pub(crate) fn go_to_items(items: Items) -> Result<Control>
     ensures { result ≡ Ok (control.Items items) }
 {
     Ok(Control::Items(items))
@@ -184,7 +176,7 @@ pub(crate) fn go_to_items(items: Items) -> Result<Control, Refusal>
 
 /// The next element of a package begins next.
 #[inline(always)]
-pub(crate) fn go_to_package(filling: Boxed<Package>) -> Result<Control, Refusal>
+pub(crate) fn go_to_package(filling: Boxed<Package>) -> Result<Control>
     ensures { result ≡ Ok (control.Package filling) }
 {
     Ok(Control::Package(filling))
@@ -192,7 +184,7 @@ pub(crate) fn go_to_package(filling: Boxed<Package>) -> Result<Control, Refusal>
 
 /// A target is found next.
 #[inline(always)]
-pub(crate) fn go_to_target(target: Target, target_use: TargetUse) -> Result<Control, Refusal>
+pub(crate) fn go_to_target(target: Target, target_use: TargetUse) -> Result<Control>
     ensures { result ≡ Ok (control.Target target target_use) }
 {
     Ok(Control::Target(target, target_use))
@@ -200,7 +192,7 @@ pub(crate) fn go_to_target(target: Target, target_use: TargetUse) -> Result<Cont
 
 /// A field is read next.
 #[inline(always)]
-pub(crate) fn go_to_read(field: Field, reading: Reading) -> Result<Control, Refusal>
+pub(crate) fn go_to_read(field: Field, reading: Reading) -> Result<Control>
     ensures { result ≡ Ok (control.Read field reading) }
 {
     Ok(Control::Read(field, reading))

@@ -16,19 +16,17 @@ use crate::uses::{Dyadic, Monadic, Target, TargetUse};
 use aml_grammar::Opcode;
 use aml_meaning::{Flow, Running, WideKind};
 use aml_objects::Value;
-use ar_space::{Refusal, Space};
-use std::alloc::Global;
+use ar_space::{Result, Space};
 
 /// A term of the wide profile: a world of another one refuses it.
 #[tactic(auto, using(crate::proofs::Using::using_targets, crate::proofs::Knowing::going_on))]
 pub(crate) fn begin_wide<S: Space>(
-    alloc: Global,
     run: &mut Running<S>,
     act: &mut Activation,
     levels: u8,
     opcode: Opcode,
     kind: WideKind,
-) -> Result<Next, Refusal>
+) -> Result<Next>
     ensures spent { run.new.1 ≤ run.old.1 }
     ensures falls { IfOk result (λ n. next_weight n < step_weight) }
     ensures means { Leads S.accesses (meaning S.accesses) result act.new run.new
@@ -36,18 +34,17 @@ pub(crate) fn begin_wide<S: Space>(
     ensures ends { EndsAt result act.new (behind_wide_at kind act.old levels) }
 {
     run.world.ask_for(opcode)?;
-    begin_asked(alloc, run, act, levels, kind)
+    begin_asked(run, act, levels, kind)
 }
 
 /// A term of the wide profile, in a world of that profile: its first operand is evaluated.
 #[tactic(auto, using(crate::proofs::Using::using_targets, crate::proofs::Knowing::going_on, crate::proofs::WideSteps::beginning_events))]
 fn begin_asked<S: Space>(
-    alloc: Global,
     run: &mut Running<S>,
     act: &mut Activation,
     levels: u8,
     kind: WideKind,
-) -> Result<Next, Refusal>
+) -> Result<Next>
     ensures spent { run.new.1 ≤ run.old.1 }
     ensures falls { IfOk result (λ n. next_weight n < step_weight) }
     ensures means { Leads S.accesses (meaning S.accesses) result act.new run.new
@@ -56,33 +53,32 @@ fn begin_asked<S: Space>(
 {
     match kind {
         WideKind::Convert(conversion) => {
-            begin_monadic(alloc, run, act, Monadic::Convert(conversion), levels)
+            begin_monadic(run, act, Monadic::Convert(conversion), levels)
         }
-        WideKind::ToString => begin_dyadic(alloc, run, act, Dyadic::ToString, levels),
-        WideKind::Mid => begin_dyadic(alloc, run, act, Dyadic::Mid, levels),
-        WideKind::Match => begin_match(alloc, run, act, levels),
+        WideKind::ToString => begin_dyadic(run, act, Dyadic::ToString, levels),
+        WideKind::Mid => begin_dyadic(run, act, Dyadic::Mid, levels),
+        WideKind::Match => begin_match(run, act, levels),
         WideKind::Event(change) => {
             let event = Target::super_name(levels);
-            begin_target(alloc, run, act, event, TargetUse::Event(change))
+            begin_target(run, act, event, TargetUse::Event(change))
         }
         WideKind::Wait => {
             let event = Target::super_name(levels);
-            begin_target(alloc, run, act, event, TargetUse::Wait(levels))
+            begin_target(run, act, event, TargetUse::Wait(levels))
         }
-        WideKind::BankField => begin_bank_fields(alloc, run, act, levels),
+        WideKind::BankField => begin_bank_fields(run, act, levels),
     }
 }
 
 /// A Mid whose third operand was evaluated, with the first two.
 #[tactic(auto, using(crate::proofs::Using::using_targets))]
 pub(crate) fn resume_third<S: Space>(
-    alloc: Global,
     run: &mut Running<S>,
     act: &mut Activation,
     levels: u8,
     before: (Value, Value),
     flow: Flow,
-) -> Result<Next, Refusal>
+) -> Result<Next>
     ensures spent { run.new.1 ≤ run.old.1 }
     ensures falls { IfOk result (λ n. next_weight n < most + 15) }
     ensures means { Leads S.accesses (meaning S.accesses) result act.new run.new
@@ -91,14 +87,8 @@ pub(crate) fn resume_third<S: Space>(
 {
     let count = flow.value()?;
     let (source, start) = before;
-    let result = run.world.middle(alloc, source, start, count)?;
-    begin_target(
-        alloc,
-        run,
-        act,
-        Target::optional(levels),
-        TargetUse::Store(result),
-    )
+    let result = run.world.middle(source, start, count)?;
+    begin_target(run, act, Target::optional(levels), TargetUse::Store(result))
 }
 
 /// A Wait whose timeout was evaluated, for the event that its operand names.
@@ -108,7 +98,7 @@ pub(crate) fn resume_wait<S: Space>(
     act: &mut Activation,
     event: Option<u64>,
     flow: Flow,
-) -> Result<Next, Refusal>
+) -> Result<Next>
     ensures spent { run.new.1 ≤ run.old.1 }
     ensures falls { IfOk result (λ n. next_weight n < 6) }
     ensures memory { NotMemory result }

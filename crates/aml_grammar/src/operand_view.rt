@@ -9,7 +9,7 @@ use crate::term::Operand;
 use crate::term_part::TermPart;
 use crate::term_reader::OperandView;
 use aml_path::NameString;
-use ar_space::{NameFault, Refusal};
+use ar_space::{NameFault, Refusal, Result};
 use std::alloc::Global;
 
 /// An operand of a term, from 0, where it has so many.
@@ -42,7 +42,7 @@ pub(crate) fn view_of(operand: &Operand) -> OperandView<TermPart<'_>>
     }
 }
 
-pub(crate) fn name_of(alloc: Global, operand: &Operand) -> Result<NameString, Refusal>
+pub(crate) fn name_of(alloc: Global, operand: &Operand) -> Result<NameString>
     ensures { Answers result (name_of (Some (part_view operand.now))) }
 {
     match operand {
@@ -51,7 +51,7 @@ pub(crate) fn name_of(alloc: Global, operand: &Operand) -> Result<NameString, Re
     }
 }
 
-pub(crate) fn bytes_of(alloc: Global, operand: &Operand) -> Result<Vec<u8>, Refusal>
+pub(crate) fn bytes_of(alloc: Global, operand: &Operand) -> Result<Vec<u8>>
     ensures { Answers (seen (λ v. v.items) result) (bytes_of (Some (part_view operand.now))) }
 {
     match operand {

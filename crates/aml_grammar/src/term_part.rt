@@ -4,7 +4,7 @@ use crate::operand_view::{bytes_of, name_of, operand_at, view_of};
 use crate::term::Term;
 use crate::term_reader::{Item, OperandView, TermReader};
 use aml_path::NameString;
-use ar_space::{NameFault, Refusal};
+use ar_space::{NameFault, Refusal, Result};
 use std::alloc::Global;
 
 /// A term in memory, or a list of them.
@@ -37,14 +37,14 @@ impl<'a> TermReader for TermPart<'a> {
         }
     }
 
-    fn name(self, alloc: Global, index: usize) -> Result<NameString, Refusal> {
+    fn name(self, alloc: Global, index: usize) -> Result<NameString> {
         match operand_at(self, index) {
             Some(operand) => name_of(alloc, operand),
             None => Err(Refusal::Name(NameFault::BadName)),
         }
     }
 
-    fn bytes(self, alloc: Global, index: usize) -> Result<Vec<u8>, Refusal> {
+    fn bytes(self, alloc: Global, index: usize) -> Result<Vec<u8>> {
         match operand_at(self, index) {
             Some(operand) => bytes_of(alloc, operand),
             None => Err(Refusal::Name(NameFault::BadName)),

@@ -4,7 +4,7 @@ ghost use Rattle.std.specs.Prelude.{◌≡◌, ℕ};
 use crate::opcode::TermCode;
 use crate::term::{Operand, Term};
 use aml_path::NameString;
-use ar_space::Refusal;
+use ar_space::Result;
 use std::alloc::Global;
 
 /// What an operand of a term is. Names and bytes are read by `name` and `bytes`.
@@ -57,11 +57,11 @@ pub trait TermReader: Copy {
         ensures { Shows tree list result (operand_of (tree self) index) };
 
     /// The name that is an operand of the term; an operand that is none is refused as `BadName`.
-    fn name(self, alloc: Global, index: usize) -> Result<NameString, Refusal>
+    fn name(self, alloc: Global, index: usize) -> Result<NameString>
         ensures { Answers result (name_of (operand_of (tree self) index)) };
 
     /// The bytes that are an operand of the term; an operand that is none is refused as `BadName`.
-    fn bytes(self, alloc: Global, index: usize) -> Result<Vec<u8>, Refusal>
+    fn bytes(self, alloc: Global, index: usize) -> Result<Vec<u8>>
         ensures { Answers (seen (λ v. v.items) result) (bytes_of (operand_of (tree self) index)) };
 
     /// The first item of the list and the list of the others, where it has one.

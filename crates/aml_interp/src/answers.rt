@@ -14,7 +14,7 @@ use aml_frames::call_method;
 use aml_meaning::{Datum, Invocation, Running, World, WorldState};
 use aml_objects::Value;
 use aml_path::{NameString, Path, Prefix};
-use ar_space::{Refusal, Space};
+use ar_space::{Result, Space};
 use std::alloc::Global;
 
 /// How many calls the address of a field may make one inside another: reading the field counts as one.
@@ -33,18 +33,19 @@ pub fn eval<S: Space>(
     path: &Path,
     arguments: Vec<Value>,
     budget: u64,
-) -> Result<(Value, u64), Refusal>
+) -> Result<(Value, u64)>
     ensures { Does result world.new (evaluated S.accesses path.now arguments.items budget) world.old }
 {
     let run = &mut world.running;
+    run.world.alloc = alloc;
     run.world.begin_trace(budget);
     run.steps = budget;
-    let value = call(alloc, run, path, &arguments);
+    let value = call(run, path, &arguments);
     tell_steps(run, &value);
     with_rest(value, run.steps)
 }
 
-fn with_rest(value: Result<Value, Refusal>, rest: u64) -> Result<(Value, u64), Refusal>
+fn with_rest(value: Result<Value>, rest: u64) -> Result<(Value, u64)>
     ensures { result ≡ with_rest value rest }
 {
     match value {
@@ -71,20 +72,21 @@ pub fn answer<S: Space>(
     path: &Path,
     arguments: Vec<Datum>,
     budget: u64,
-) -> Result<Datum, Refusal>
+) -> Result<Datum>
     ensures { Does (seen given_of result) world.new (answered S.accesses path.now
         (map given_of arguments.items) budget) world.old }
 {
     let run = &mut world.running;
+    run.world.alloc = alloc;
     run.world.begin_trace(budget);
-    let outcome = with_steps(alloc, run, path, &arguments, budget);
+    let outcome = with_steps(run, path, &arguments, budget);
     tell_steps(run, &outcome);
     run.world.release_mutexes();
     outcome
 }
 
 /// Where an evaluation is refused, its trace tells how many steps were left.
-fn tell_steps<S, A>(run: &mut Running<S>, outcome: &Result<A, Refusal>)
+fn tell_steps<S, A>(run: &mut Running<S>, outcome: &Result<A>)
     ensures { run.new ≡ run.old }
 {
     if outcome.is_err() {
@@ -94,132 +96,108 @@ fn tell_steps<S, A>(run: &mut Running<S>, outcome: &Result<A, Refusal>)
 
 #[tactic(auto, using(aml_meaning::proofs::Runs::calling))]
 fn with_steps<S: Space>(
-    alloc: Global,
     run: &mut Running<S>,
     path: &Path,
     arguments: &[Datum],
     steps: u64,
-) -> Result<Datum, Refusal>
+) -> Result<Datum>
     ensures { Does (seen given_of result) run.new.0 (with_steps steps
         (answer_exported S.accesses path.now (length arguments.now) (map given_of arguments.now))) run.old.0 }
 {
     run.steps = steps;
-    answer_exported(alloc, run, path, arguments)
+    answer_exported(run, path, arguments)
 }
 
 #[tactic(auto, using(aml_meaning::proofs::Runs::calling), unfolding(aml_meaning::specs::Calling::answer_exported))]
 fn answer_exported<S: Space>(
-    alloc: Global,
     run: &mut Running<S>,
     path: &Path,
     arguments: &[Datum],
-) -> Result<Datum, Refusal>
+) -> Result<Datum>
     ensures { Does (seen given_of result) run.new (answer_exported S.accesses path.now (length arguments.now)
         (map given_of arguments.now)) run.old }
 {
-    let found = invocation(alloc, &run.world, path, arguments.len());
-    let invocation = told(alloc, run, path, found)?;
-    let values = run.world.import_all(alloc, arguments)?;
-    invocation_exported(alloc, run, invocation, &values)
+    let found = invocation(&run.world, path, arguments.len());
+    let invocation = told(run, path, found)?;
+    let values = run.world.import_all(arguments)?;
+    invocation_exported(run, invocation, &values)
 }
 
 /// What the object at a path gives, handed out: the bits of a field as they are, and of any other its value.
 #[tactic(auto, using(aml_meaning::proofs::Runs::calling))]
 fn invocation_exported<S: Space>(
-    alloc: Global,
     run: &mut Running<S>,
     invocation: Invocation,
     arguments: &[Value],
-) -> Result<Datum, Refusal>
+) -> Result<Datum>
     ensures { Does (seen given_of result) run.new (invocation_exported S.accesses invocation arguments.now) run.old }
 {
     match invocation {
-        Invocation::Field(field) => field_given(alloc, run, CALLS_OF_A_FIELD, field),
+        Invocation::Field(field) => field_given(run, CALLS_OF_A_FIELD, field),
         other => {
-            let value = value_of(alloc, run, other, arguments)?;
-            exported(alloc, run, value)
+            let value = value_of(run, other, arguments)?;
+            exported(run, value)
         }
     }
 }
 
 /// The value of the object at a path, with these arguments.
 #[tactic(auto, using(aml_meaning::proofs::Runs::calling), unfolding(aml_meaning::specs::Calling::called))]
-fn call<S: Space>(
-    alloc: Global,
-    run: &mut Running<S>,
-    path: &Path,
-    arguments: &[Value],
-) -> Result<Value, Refusal>
+fn call<S: Space>(run: &mut Running<S>, path: &Path, arguments: &[Value]) -> Result<Value>
     ensures { Does result run.new (called S.accesses path.now arguments.now) run.old }
 {
-    let found = invocation(alloc, &run.world, path, arguments.len());
-    let invocation = told(alloc, run, path, found)?;
-    value_of(alloc, run, invocation, arguments)
+    let found = invocation(&run.world, path, arguments.len());
+    let invocation = told(run, path, found)?;
+    value_of(run, invocation, arguments)
 }
 
 /// Where the object at a path is refused, its trace tells the path.
-fn told<S>(
-    alloc: Global,
-    run: &mut Running<S>,
-    path: &Path,
-    found: Result<Invocation, Refusal>,
-) -> Result<Invocation, Refusal>
+fn told<S>(run: &mut Running<S>, path: &Path, found: Result<Invocation>) -> Result<Invocation>
     ensures same { result ≡ found }
     ensures run { run.new ≡ run.old }
 {
     if found.is_err() {
-        run.world.put_trace_path(alloc, path);
+        run.world.put_trace_path(path);
     }
     found
 }
 
 /// What the object at a path is that is asked for with so many arguments.
-fn invocation<S: Space>(
-    alloc: Global,
-    world: &WorldState<S>,
-    path: &Path,
-    count: usize,
-) -> Result<Invocation, Refusal>
+fn invocation<S: Space>(world: &WorldState<S>, path: &Path, count: usize) -> Result<Invocation>
     ensures { Does result world.now (invocation_found [] (absolute path.now) count) world.now }
 {
-    match absolute(alloc, path) {
-        Ok(name) => from_root(alloc, world, &name, count),
+    match absolute(world.alloc, path) {
+        Ok(name) => from_root(world, &name, count),
         Err(refusal) => Err(refusal),
     }
 }
 
 /// What the object is that a name finds from the root and that is asked for with so many arguments.
-fn from_root<S: Space>(
-    alloc: Global,
-    world: &WorldState<S>,
-    name: &NameString,
-    count: usize,
-) -> Result<Invocation, Refusal>
+fn from_root<S: Space>(world: &WorldState<S>, name: &NameString, count: usize) -> Result<Invocation>
     ensures { Does result world.now (invocation_found [] name.now count) world.now }
 {
-    let root = Path::root(alloc);
-    world.invocation(alloc, world.scope(&root), name, count)
+    let root = Path::root(world.alloc);
+    world.invocation(world.scope(&root), name, count)
 }
 
 #[tactic(auto, using(aml_meaning::proofs::Runs::calling))]
 fn value_of<S: Space>(
-    alloc: Global,
     run: &mut Running<S>,
     invocation: Invocation,
     arguments: &[Value],
-) -> Result<Value, Refusal>
+) -> Result<Value>
     ensures { Does result run.new (value_of S.accesses invocation arguments.now) run.old }
 {
     match invocation {
         Invocation::Value(value) => Ok(value),
-        Invocation::Field(field) => field_value(alloc, run, CALLS_OF_A_FIELD, field),
-        Invocation::Method(path, body) => call_method(alloc, run, 0, (path, body), arguments),
+        Invocation::Field(field) => field_value(run, CALLS_OF_A_FIELD, field),
+        Invocation::Method(path, body) => call_method(run, 0, (path, body), arguments),
         Invocation::Osi => run.world.osi(arguments),
     }
 }
 
 /// A path, as a name that stands for it anywhere.
-fn absolute(alloc: Global, path: &Path) -> Result<NameString, Refusal>
+fn absolute(alloc: Global, path: &Path) -> Result<NameString>
     ensures { Answers result (Ok (absolute path.now)) }
 {
     Ok(NameString::new(Prefix::Root, path.copy(alloc)?.into_vec()))

@@ -13,19 +13,17 @@ use aml_fields::{Region, Unit, bytes_for, bytes_of, copy_from_unit, units};
 use aml_frames::Selector;
 use aml_meaning::Running;
 use aml_objects::{Bank, FieldUnit};
-use ar_space::{Refusal, Space, Width};
-use std::alloc::Global;
+use ar_space::{Result, Space, Width};
 
 /// The bits of a field in a bank of the region with the number of a declaration.
 #[tactic(auto, using(aml_meaning::proofs::Runs::running), unfolding(aml_meaning::specs::Fields::bank_bits))]
 pub(crate) fn bank_bits<S: Space>(
-    alloc: Global,
     run: &mut Running<S>,
     calls: usize,
     region: u64,
     bank: Bank,
     field: FieldUnit,
-) -> Result<Vec<u8>, Refusal>
+) -> Result<Vec<u8>>
     ensures { Does (seen (λ v. v.items) result) run.new (bank_bits S.accesses
         (asking S.accesses (meaning S.accesses) calls) region bank field) run.old }
 {
@@ -33,26 +31,25 @@ pub(crate) fn bank_bits<S: Space>(
         field: run.world.field_declared(bank.field)?,
         value: bank.value,
     };
-    let region = located(alloc, run, calls, region)?;
-    bank_reads(alloc, run, calls, selector, region, field)
+    let region = located(run, calls, region)?;
+    bank_reads(run, calls, selector, region, field)
 }
 
 /// Each unit is read, lowest first.
 #[tactic(auto, using(aml_meaning::proofs::Runs::running))]
 fn bank_reads<S: Space>(
-    alloc: Global,
     run: &mut Running<S>,
     calls: usize,
     bank: Selector,
     region: Region,
     field: FieldUnit,
-) -> Result<Vec<u8>, Refusal>
+) -> Result<Vec<u8>>
     ensures { Does (seen (λ v. v.items) result) run.new (bits_read (bank_unit S.accesses
         (asking S.accesses (meaning S.accesses) calls) bank.field bank.value region field.access) field) run.old }
 {
-    let mut bits = vec![in alloc; 0; bytes_for(field.bits as usize)]?;
+    let mut bits = vec![in run.world.alloc; 0; bytes_for(field.bits as usize)]?;
     for unit in units(field.bit_offset, field.bits, field.access) {
-        let value = bank_unit(alloc, run, calls, bank, (region, field.access), unit)?;
+        let value = bank_unit(run, calls, bank, (region, field.access), unit)?;
         copy_from_unit(&mut bits, unit.position, value, unit.first, unit.count);
     }
     Ok(bits)
@@ -61,32 +58,26 @@ fn bank_reads<S: Space>(
 /// One unit is read: the bank is selected, and the unit with a width is read in the region.
 #[tactic(auto, using(aml_meaning::proofs::Runs::running), unfolding(aml_meaning::specs::Fields::bank_unit))]
 fn bank_unit<S: Space>(
-    alloc: Global,
     run: &mut Running<S>,
     calls: usize,
     bank: Selector,
     lies_in: (Region, Width),
     unit: Unit,
-) -> Result<u64, Refusal>
+) -> Result<u64>
     ensures { Does result run.new (bank_unit S.accesses (asking S.accesses (meaning S.accesses) calls) bank.field
         bank.value lies_in.0 lies_in.1 unit) run.old }
 {
     let (region, width) = lies_in;
-    select(alloc, run, calls, bank)?;
+    select(run, calls, bank)?;
     run.world.read_unit(region, width, unit)
 }
 
 /// The bank is selected: its value is written to the bank field. A value that the bank field can't hold is refused.
 #[tactic(auto, using(aml_meaning::proofs::Runs::running), unfolding(aml_meaning::specs::Fields::bank_selected))]
-fn select<S: Space>(
-    alloc: Global,
-    run: &mut Running<S>,
-    calls: usize,
-    bank: Selector,
-) -> Result<(), Refusal>
+fn select<S: Space>(run: &mut Running<S>, calls: usize, bank: Selector) -> Result<()>
     ensures { Does result run.new (bank_selected S.accesses (asking S.accesses (meaning S.accesses) calls)
         bank.field bank.value) run.old }
 {
     bank.field.must_hold(bank.value)?;
-    region_written(alloc, run, calls, bank.field, &bytes_of(bank.value))
+    region_written(run, calls, bank.field, &bytes_of(bank.value))
 }

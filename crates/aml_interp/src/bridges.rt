@@ -9,26 +9,24 @@ ghost use Rattle.aml_frames.specs.Uses.{asking};
 use aml_frames::ask_integer;
 use aml_meaning::{Running, adr};
 use aml_path::Path;
-use ar_space::{Refusal, Space};
-use std::alloc::Global;
+use ar_space::{Result, Space};
 use std::collections::VecDeque;
 
 /// The bus behind bridges that stand one below another, the outermost of them on a bus of a segment group.
 pub(crate) fn bus_behind_all<S: Space>(
-    alloc: Global,
     run: &mut Running<S>,
     calls: usize,
     segment: u64,
     bus: u64,
     bridges: VecDeque<Path>,
-) -> Result<u64, Refusal>
+) -> Result<u64>
     ensures { Does result run.new (bus_behind_all S.accesses (asking S.accesses (meaning S.accesses) calls)
         segment bus bridges.items) run.old }
 {
     let mut left = bridges;
     let mut behind = bus;
     while let Some(bridge) = left.pop_front() {
-        behind = bus_behind(alloc, run, calls, segment, behind, &bridge)?;
+        behind = bus_behind(run, calls, segment, behind, &bridge)?;
     }
     Ok(behind)
 }
@@ -36,17 +34,16 @@ pub(crate) fn bus_behind_all<S: Space>(
 /// The bus behind one bridge: its address is asked for, and its secondary bus is read.
 #[tactic(auto, using(aml_meaning::proofs::Runs::running), unfolding(aml_meaning::specs::Fields::bus_behind))]
 fn bus_behind<S: Space>(
-    alloc: Global,
     run: &mut Running<S>,
     calls: usize,
     segment: u64,
     bus: u64,
     bridge: &Path,
-) -> Result<u64, Refusal>
+) -> Result<u64>
     ensures { Does result run.new (bus_behind S.accesses (asking S.accesses (meaning S.accesses) calls)
         segment bus bridge.now) run.old }
 {
-    let object = bridge.child(alloc, adr())?;
-    let address = ask_integer(alloc, run, calls, &object)?;
+    let object = bridge.child(run.world.alloc, adr())?;
+    let address = ask_integer(run, calls, &object)?;
     run.world.secondary_bus(segment, bus, address)
 }

@@ -13,22 +13,17 @@ use crate::fields::field_given;
 use aml_meaning::{Datum, NameUse, Running};
 use aml_objects::{Element, Reference, Value};
 use aml_path::{NameString, Path};
-use ar_space::{EvaluationFault, Refusal, Space};
-use std::alloc::Global;
+use ar_space::{EvaluationFault, Refusal, Result, Space};
 
 /// How deep packages may nest that are handed out.
 const MAX_NESTING: usize = 64;
 
 /// A value as an answer hands it out.
 #[tactic(auto, unfolding(aml_meaning::specs::Exporting::exported))]
-pub(crate) fn exported<S: Space>(
-    alloc: Global,
-    run: &mut Running<S>,
-    value: Value,
-) -> Result<Datum, Refusal>
+pub(crate) fn exported<S: Space>(run: &mut Running<S>, value: Value) -> Result<Datum>
     ensures { Does (seen given.given_of result) run.new (exported S.accesses value) run.old }
 {
-    value_exported(alloc, run, MAX_NESTING, value)
+    value_exported(run, MAX_NESTING, value)
 }
 
 /// The value of a package with these elements.
@@ -39,31 +34,27 @@ fn package(list: Vec<Datum>) -> Datum
 }
 
 #[tactic(auto, using(aml_meaning::proofs::Exports::exporting), unfolding(aml_meaning::specs::Exporting::text_exported))]
-fn text_exported<S: Space>(alloc: Global, run: &Running<S>, object: u32) -> Result<Datum, Refusal>
+fn text_exported<S: Space>(run: &Running<S>, object: u32) -> Result<Datum>
     ensures { Does (seen given.given_of result) run.now (text_exported object) run.now }
 {
-    let bytes = run.world.string(alloc, object)?;
+    let bytes = run.world.string(object)?;
     Ok(Datum::Text(bytes))
 }
 
 #[tactic(auto, using(aml_meaning::proofs::Exports::exporting), unfolding(aml_meaning::specs::Exporting::bytes_exported))]
-fn bytes_exported<S: Space>(alloc: Global, run: &Running<S>, object: u32) -> Result<Datum, Refusal>
+fn bytes_exported<S: Space>(run: &Running<S>, object: u32) -> Result<Datum>
     ensures { Does (seen given.given_of result) run.now (bytes_exported object) run.now }
 {
-    let bytes = run.world.buffer(alloc, object)?;
+    let bytes = run.world.buffer(object)?;
     Ok(Datum::Bytes(bytes))
 }
 
 #[tactic(auto, using(aml_meaning::proofs::Exports::exporting), unfolding(aml_meaning::specs::Exporting::reference_exported))]
-fn reference_exported<S: Space>(
-    alloc: Global,
-    run: &Running<S>,
-    reference: Reference,
-) -> Result<Datum, Refusal>
+fn reference_exported<S: Space>(run: &Running<S>, reference: Reference) -> Result<Datum>
     ensures { Does (seen given.given_of result) run.now (reference_exported reference) run.now }
 {
     match reference {
-        Reference::Name(number) => run.world.path_of(alloc, number),
+        Reference::Name(number) => run.world.path_of(number),
         Reference::Slot(_, _) => Ok(Datum::Reference),
         Reference::Element(_, _) => Ok(Datum::Reference),
         Reference::Byte(_, _) => Ok(Datum::Reference),
@@ -72,71 +63,55 @@ fn reference_exported<S: Space>(
 
 #[cycle(exporting)]
 #[tactic(auto, using(aml_meaning::proofs::Exports::exporting), unfolding(aml_meaning::specs::Exporting::value_exported))]
-fn value_exported<S: Space>(
-    alloc: Global,
-    run: &mut Running<S>,
-    levels: usize,
-    value: Value,
-) -> Result<Datum, Refusal>
+fn value_exported<S: Space>(run: &mut Running<S>, levels: usize, value: Value) -> Result<Datum>
     ensures { Does (seen given.given_of result) run.new (value_exported S.accesses
         (package_exported S.accesses levels) value) run.old }
 {
     match value {
         Value::Uninitialized => Ok(Datum::Nothing),
         Value::Integer(number) => Ok(Datum::Integer(number)),
-        Value::String(object) => text_exported(alloc, run, object),
-        Value::Buffer(object) => bytes_exported(alloc, run, object),
-        Value::Package(object) => package_exported(alloc, run, levels, object),
-        Value::Reference(reference) => reference_exported(alloc, run, reference),
+        Value::String(object) => text_exported(run, object),
+        Value::Buffer(object) => bytes_exported(run, object),
+        Value::Package(object) => package_exported(run, levels, object),
+        Value::Reference(reference) => reference_exported(run, reference),
     }
 }
 
 #[cycle(exporting)]
 #[tactic(auto, using(aml_meaning::proofs::Exports::exporting))]
-fn package_exported<S: Space>(
-    alloc: Global,
-    run: &mut Running<S>,
-    levels: usize,
-    object: u32,
-) -> Result<Datum, Refusal>
+fn package_exported<S: Space>(run: &mut Running<S>, levels: usize, object: u32) -> Result<Datum>
     ensures { Does (seen given.given_of result) run.new (package_exported S.accesses levels object) run.old }
 {
     if levels == 0 {
         return Err(Refusal::Evaluation(EvaluationFault::ObjectLimit));
     }
-    elements_exported(alloc, run, levels - 1, object)
+    elements_exported(run, levels - 1, object)
 }
 
 #[cycle(exporting)]
 #[tactic(auto, using(aml_meaning::proofs::Exports::exporting), unfolding(aml_meaning::specs::Exporting::elements_exported))]
-fn elements_exported<S: Space>(
-    alloc: Global,
-    run: &mut Running<S>,
-    levels: usize,
-    object: u32,
-) -> Result<Datum, Refusal>
+fn elements_exported<S: Space>(run: &mut Running<S>, levels: usize, object: u32) -> Result<Datum>
     ensures { Does (seen given.given_of result) run.new (elements_exported S.accesses
         (package_exported S.accesses levels) object) run.old }
 {
-    let elements = run.world.elements(alloc, object)?;
-    let list = each_exported(alloc, run, levels, elements.as_slice())?;
+    let elements = run.world.elements(object)?;
+    let list = each_exported(run, levels, elements.as_slice())?;
     Ok(package(list))
 }
 
 #[cycle(exporting)]
 #[tactic(auto, using(aml_meaning::proofs::Exports::exporting))]
 fn each_exported<S: Space>(
-    alloc: Global,
     run: &mut Running<S>,
     levels: usize,
     elements: &[Element],
-) -> Result<Vec<Datum>, Refusal>
+) -> Result<Vec<Datum>>
     ensures { Does (seen (λ v. map given.given_of v.items) result) run.new
         (each_exported S.accesses (package_exported S.accesses levels) elements.now []) run.old }
 {
-    let mut done = Vec::new(alloc);
+    let mut done = Vec::new(run.world.alloc);
     for element in elements {
-        let datum = element_exported(alloc, run, levels, element)?;
+        let datum = element_exported(run, levels, element)?;
         done.push(datum)?;
     }
     Ok(done)
@@ -146,65 +121,53 @@ fn each_exported<S: Space>(
 #[cycle(exporting)]
 #[tactic(auto, using(aml_meaning::proofs::Exports::exporting), unfolding(aml_meaning::specs::Exporting::element_exported))]
 fn element_exported<S: Space>(
-    alloc: Global,
     run: &mut Running<S>,
     levels: usize,
     element: &Element,
-) -> Result<Datum, Refusal>
+) -> Result<Datum>
     ensures { Does (seen given.given_of result) run.new (element_exported S.accesses
         (package_exported S.accesses levels) element.now) run.old }
 {
     run.charge()?;
-    held_exported(alloc, run, levels, element)
+    held_exported(run, levels, element)
 }
 
 #[cycle(exporting)]
 #[tactic(auto, using(aml_meaning::proofs::Exports::exporting), unfolding(aml_meaning::specs::Exporting::held_exported))]
-fn held_exported<S: Space>(
-    alloc: Global,
-    run: &mut Running<S>,
-    levels: usize,
-    element: &Element,
-) -> Result<Datum, Refusal>
+fn held_exported<S: Space>(run: &mut Running<S>, levels: usize, element: &Element) -> Result<Datum>
     ensures { Does (seen given.given_of result) run.new (held_exported S.accesses (package_exported S.accesses levels)
         element.now) run.old }
 {
     match element {
-        Element::Value(value) => value_exported(alloc, run, levels, *value),
-        Element::Name(name, scope) => name_exported(alloc, run, levels, name, scope),
+        Element::Value(value) => value_exported(run, levels, *value),
+        Element::Name(name, scope) => name_exported(run, levels, name, scope),
     }
 }
 
 #[cycle(exporting)]
 #[tactic(auto, using(aml_meaning::proofs::Exports::exporting), unfolding(aml_meaning::specs::Exporting::name_exported))]
 fn name_exported<S: Space>(
-    alloc: Global,
     run: &mut Running<S>,
     levels: usize,
     name: &NameString,
     scope: &Path,
-) -> Result<Datum, Refusal>
+) -> Result<Datum>
     ensures { Does (seen given.given_of result) run.new (name_exported S.accesses (package_exported S.accesses levels)
         name.now scope.now) run.old }
 {
-    let found = run.world.name_use(alloc, name, scope)?;
-    use_exported(alloc, run, levels, found)
+    let found = run.world.name_use(name, scope)?;
+    use_exported(run, levels, found)
 }
 
 #[cycle(exporting)]
 #[tactic(auto, using(aml_meaning::proofs::Exports::exporting), unfolding(aml_meaning::specs::Exporting::use_exported))]
-fn use_exported<S: Space>(
-    alloc: Global,
-    run: &mut Running<S>,
-    levels: usize,
-    found: NameUse,
-) -> Result<Datum, Refusal>
+fn use_exported<S: Space>(run: &mut Running<S>, levels: usize, found: NameUse) -> Result<Datum>
     ensures { Does (seen given.given_of result) run.new (use_exported S.accesses
         (package_exported S.accesses levels) found) run.old }
 {
     match found {
-        NameUse::Value(value) => value_exported(alloc, run, levels, value),
-        NameUse::Field(field) => field_given(alloc, run, CALLS_OF_A_FIELD, field),
+        NameUse::Value(value) => value_exported(run, levels, value),
+        NameUse::Field(field) => field_given(run, CALLS_OF_A_FIELD, field),
         NameUse::Path(path) => Ok(Datum::Named(path)),
     }
 }

@@ -19,21 +19,19 @@ use aml_meaning::{
 };
 use aml_objects::{Field, FieldSource, Octets, Value};
 use aml_path::{Path, Seg};
-use ar_space::{EvaluationFault, Refusal, Space};
-use std::alloc::Global;
+use ar_space::{EvaluationFault, Refusal, Result, Space};
 
 /// The bits of a field, as a value.
 #[tactic(auto, using(aml_meaning::proofs::Runs::running), unfolding(aml_meaning::specs::Fields::field_value))]
 pub(crate) fn field_value<S: Space>(
-    alloc: Global,
     run: &mut Running<S>,
     calls: usize,
     field: Field,
-) -> Result<Value, Refusal>
+) -> Result<Value>
     ensures { Does result run.new
         (field_value S.accesses (asking S.accesses (meaning S.accesses) calls) field) run.old }
 {
-    let bytes = bits_in(alloc, run, calls, field)?;
+    let bytes = bits_in(run, calls, field)?;
     run.world
         .value_of_bits(field.bits(), Octets::from_vec(bytes))
 }
@@ -41,87 +39,70 @@ pub(crate) fn field_value<S: Space>(
 /// The bits of a field, as they are handed out.
 #[tactic(auto, using(aml_meaning::proofs::Runs::running), unfolding(aml_meaning::specs::Fields::field_given))]
 pub(crate) fn field_given<S: Space>(
-    alloc: Global,
     run: &mut Running<S>,
     calls: usize,
     field: Field,
-) -> Result<Datum, Refusal>
+) -> Result<Datum>
     ensures { Does (seen given_of result) run.new (field_given S.accesses
         (asking S.accesses (meaning S.accesses) calls) field) run.old }
 {
-    let bytes = bits_in(alloc, run, calls, field)?;
+    let bytes = bits_in(run, calls, field)?;
     run.world
         .datum_of_bits(field.bits(), Octets::from_vec(bytes))
 }
 
 #[tactic(auto, using(aml_meaning::proofs::Runs::running))]
-fn bits_in<S: Space>(
-    alloc: Global,
-    run: &mut Running<S>,
-    calls: usize,
-    field: Field,
-) -> Result<Vec<u8>, Refusal>
+fn bits_in<S: Space>(run: &mut Running<S>, calls: usize, field: Field) -> Result<Vec<u8>>
     ensures { Does (seen (λ v. v.items) result) run.new (bits_in S.accesses
         (asking S.accesses (meaning S.accesses) calls) field) run.old }
 {
     match field {
         Field::Unit(unit) => match unit.source {
-            FieldSource::Region(region) => {
-                region_bits(alloc, run, calls, RegionField { region, unit })
-            }
-            FieldSource::Index(index, behind) => {
-                index_bits(alloc, run, calls, index, behind, unit)
-            }
-            FieldSource::Bank(region, bank) => bank_bits(alloc, run, calls, region, bank, unit),
+            FieldSource::Region(region) => { region_bits(run, calls, RegionField { region, unit }) }
+            FieldSource::Index(index, behind) => { index_bits(run, calls, index, behind, unit) }
+            FieldSource::Bank(region, bank) => bank_bits(run, calls, region, bank, unit),
         },
-        Field::Buffer(field) => run.world.read_buffer_field(alloc, field),
+        Field::Buffer(field) => run.world.read_buffer_field(field),
     }
 }
 
 /// The bits of a field of a region.
 #[tactic(auto, using(aml_meaning::proofs::Runs::running), unfolding(aml_meaning::specs::Fields::region_bits))]
 pub(crate) fn region_bits<S: Space>(
-    alloc: Global,
     run: &mut Running<S>,
     calls: usize,
     field: RegionField,
-) -> Result<Vec<u8>, Refusal>
+) -> Result<Vec<u8>>
     ensures { Does (seen (λ v. v.items) result) run.new (region_bits S.accesses
         (asking S.accesses (meaning S.accesses) calls) field) run.old }
 {
-    let region = located(alloc, run, calls, field.region)?;
-    run.world.read_field(alloc, region, field.unit)
+    let region = located(run, calls, field.region)?;
+    run.world.read_field(region, field.unit)
 }
 
 /// Writes a field of a region.
 #[tactic(auto, using(aml_meaning::proofs::Runs::running), unfolding(aml_meaning::specs::Fields::region_written))]
 pub(crate) fn region_written<S: Space>(
-    alloc: Global,
     run: &mut Running<S>,
     calls: usize,
     field: RegionField,
     bytes: &[u8],
-) -> Result<(), Refusal>
+) -> Result<()>
     ensures { Does result run.new (region_written S.accesses (asking S.accesses (meaning S.accesses) calls)
         field bytes.now) run.old }
 {
-    let region = located(alloc, run, calls, field.region)?;
+    let region = located(run, calls, field.region)?;
     run.world.write_field(region, field.unit, bytes)
 }
 
 /// Where the region with the number of a declaration is; its address is asked for.
 #[tactic(auto, using(aml_meaning::proofs::Runs::running), unfolding(aml_meaning::specs::Fields::located))]
-pub(crate) fn located<S: Space>(
-    alloc: Global,
-    run: &mut Running<S>,
-    calls: usize,
-    number: u64,
-) -> Result<Region, Refusal>
+pub(crate) fn located<S: Space>(run: &mut Running<S>, calls: usize, number: u64) -> Result<Region>
     ensures { Does result run.new (located S.accesses (asking S.accesses (meaning S.accesses) calls) number) run.old }
 {
-    let (scope, region) = run.world.region_declared(alloc, number)?;
+    let (scope, region) = run.world.region_declared(number)?;
     let kind = space_numbered(region.space);
-    let space = space_at(alloc, run, calls, kind, &scope)?;
+    let space = space_at(run, calls, kind, &scope)?;
     Ok(Region {
         space,
         offset: region.offset,
@@ -131,19 +112,18 @@ pub(crate) fn located<S: Space>(
 
 #[tactic(auto, using(aml_meaning::proofs::Runs::running))]
 fn space_at<S: Space>(
-    alloc: Global,
     run: &mut Running<S>,
     calls: usize,
     kind: RegionSpace,
     scope: &Path,
-) -> Result<AddressSpace, Refusal>
+) -> Result<AddressSpace>
     ensures { Does result run.new (space_at S.accesses (asking S.accesses (meaning S.accesses) calls)
         kind scope.now) run.old }
 {
     match kind {
         RegionSpace::SystemMemory => Ok(AddressSpace::Memory),
         RegionSpace::SystemIo => Ok(AddressSpace::Io),
-        RegionSpace::PciConfig => pci_address(alloc, run, calls, scope),
+        RegionSpace::PciConfig => pci_address(run, calls, scope),
         RegionSpace::Other => Err(Refusal::Evaluation(EvaluationFault::SpaceKind)),
     }
 }
@@ -151,42 +131,31 @@ fn space_at<S: Space>(
 /// The registers of the PCI function that a scope belongs to: its segment group, its bus, the buses behind the bridges
 /// above it and its address are asked for, in this order.
 #[tactic(auto, using(aml_meaning::proofs::Runs::running), unfolding(aml_meaning::specs::Fields::pci_address))]
-fn pci_address<S: Space>(
-    alloc: Global,
-    run: &mut Running<S>,
-    calls: usize,
-    scope: &Path,
-) -> Result<AddressSpace, Refusal>
+fn pci_address<S: Space>(run: &mut Running<S>, calls: usize, scope: &Path) -> Result<AddressSpace>
     ensures { Does result run.new
         (pci_address S.accesses (asking S.accesses (meaning S.accesses) calls) scope.now) run.old }
 {
-    let device = run.world.pci_function(alloc, scope)?;
-    let bridges = run.world.bridges_above(alloc, &device)?;
-    let segment = inherited(alloc, run, calls, segment_group(), &device)?;
-    let bus = inherited(alloc, run, calls, base_bus(), &device)?;
-    let behind = bus_behind_all(alloc, run, calls, segment, bus, bridges)?;
-    let object = device.child(alloc, adr())?;
-    let address = ask_integer(alloc, run, calls, &object)?;
+    let device = run.world.pci_function(scope)?;
+    let bridges = run.world.bridges_above(&device)?;
+    let segment = inherited(run, calls, segment_group(), &device)?;
+    let bus = inherited(run, calls, base_bus(), &device)?;
+    let behind = bus_behind_all(run, calls, segment, bus, bridges)?;
+    let object = device.child(run.world.alloc, adr())?;
+    let address = ask_integer(run, calls, &object)?;
     pci_space(segment, behind, address)
 }
 
 /// What the nearest object of a name answers, from a device on upward; 0 where there is none.
 #[tactic(auto, using(aml_meaning::proofs::Runs::running), unfolding(aml_meaning::specs::Fields::inherited))]
-fn inherited<S: Space>(
-    alloc: Global,
-    run: &mut Running<S>,
-    calls: usize,
-    name: Seg,
-    device: &Path,
-) -> Result<u64, Refusal>
+fn inherited<S: Space>(run: &mut Running<S>, calls: usize, name: Seg, device: &Path) -> Result<u64>
     ensures { Does result run.new (inherited S.accesses (asking S.accesses (meaning S.accesses) calls) name
         device.now) run.old }
 {
-    match run.world.nearest(alloc, Sought::Parent(name), device)? {
+    match run.world.nearest(Sought::Parent(name), device)? {
         None => Ok(0),
         Some(scope) => {
-            let object = scope.child(alloc, name)?;
-            ask_integer(alloc, run, calls, &object)
+            let object = scope.child(run.world.alloc, name)?;
+            ask_integer(run, calls, &object)
         }
     }
 }

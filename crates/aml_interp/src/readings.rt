@@ -7,22 +7,17 @@ ghost use Rattle.aml_meaning.specs.Calling.{table_terms};
 
 use aml_meaning::WorldState;
 use aml_terms::{Marks, scan_table_within};
-use ar_space::Refusal;
-use std::alloc::Global;
+use ar_space::Result;
 
 /// The marks of a table, given without its header; the names that it declares take their arguments from now on. It is
 /// refused as `scan_table_within` refuses it, within the levels that the world allows, and then nothing changes.
 #[tactic(auto, using(crate::proofs::Tables::table_read))]
-pub(crate) fn read_table<S>(
-    alloc: Global,
-    world: &mut WorldState<S>,
-    bytes: &[u8],
-) -> Result<Marks, Refusal>
+pub(crate) fn read_table<S>(world: &mut WorldState<S>, bytes: &[u8]) -> Result<Marks>
     ensures { Does (seen (λ m. trees_of (trees_by m bytes.now)) result) world.new (table_terms bytes.now) world.old }
 {
     let levels = world.nesting().levels;
-    let mut arities = world.take_arities(alloc);
-    let marks = scan_table_within(alloc, levels, bytes, &mut arities);
+    let mut arities = world.take_arities();
+    let marks = scan_table_within(world.alloc, levels, bytes, &mut arities);
     world.set_arities(arities);
     marks
 }

@@ -14,7 +14,9 @@ use Rattle.aml_path.specs.declared.segment.Seg.{Seg}
 use Rattle.aml_path.specs.Paths.{resolved}
 use Rattle.aml_objects.specs.Contents.{Buffer}
 use Rattle.aml_objects.specs.Fields.{bits_of_field}
+use Rattle.aml_objects.specs.declared.value.Reference.TheVariants as reference
 use Rattle.aml_objects.specs.declared.value.Value.{Value}
+use Rattle.aml_objects.specs.declared.value.Value.TheVariants as value
 use Rattle.aml_objects.specs.declared.entry.Entry.{Entry}
 use Rattle.aml_objects.specs.declared.entry.Field.{Field}
 use Rattle.aml_objects.specs.declared.entry.Method.{Method}
@@ -35,11 +37,13 @@ use Rattle.aml_meaning.specs.Readings.{absolute, arguments_of, entry_found, argu
 use Rattle.aml_meaning.specs.Regions.{integer_only, integer_of_bits, integer_alone}
 use Rattle.aml_meaning.specs.Run.{Run, lift}
 use Rattle.aml_meaning.specs.State.{State}
-use Rattle.aml_laws.specs.AddressObjects.{IsAskedAt, TakesNoArguments, IsPartOfAddress, an_integer, no_value, a_string, a_buffer, a_package, a_reference}
+use Rattle.aml_laws.specs.AddressObjects.{IsAskedAt, TakesNoArguments, HoldsNoValueAt, IsPartOfAddress, an_integer, no_value, a_string, a_buffer, a_package, a_reference}
 use Rattle.aml_laws.specs.AddressObjects.{ObjectAnswers, of_data, of_field, of_wide_field, of_refused_field, of_method, of_refused_method}
 use Rattle.aml_laws.specs.DeclaredObjects.{method_of}
 use Rattle.aml_laws.specs.FieldNames.{IsField, of_unit, of_buffer}
 use Rattle.aml_laws.specs.Histories.{numbered_entry}
+use Rattle.aml_laws.specs.StoredParts.{HoldsNothing}
+use Rattle.aml_laws.specs.StoredParts as nothing
 use Rattle.aml_laws.proofs.LimitsRefused.{call_is_allowed, call_set}
 use Rattle.aml_laws.proofs.NamesSearched.{one_path_found}
 
@@ -106,6 +110,18 @@ used p n (named.BufferField b) = (_, refl)
 used p n (named.Mutex c) = (_, refl)
 used p n (named.Event c) = (_, refl)
 used p n (named.Alias q) = (_, refl)
+
+-- what holds no value stands for a reference to itself
+itself_used : (p : List Seg) (n : ℕ) (o : NamedObject) → HoldsNothing o → ((m : Method) → o ≢ named.Method m) → invocation_of_object p n o ≡ Ok (invocation.Value (value.Reference (reference.Name n)))
+itself_used p n _ nothing.scope other = refl
+itself_used p n _ nothing.device other = refl
+itself_used p n _ nothing.processor other = refl
+itself_used p n _ nothing.power_resource other = refl
+itself_used p n _ nothing.thermal_zone other = refl
+itself_used p n _ (nothing.method m) other = absurd (other m refl)
+itself_used p n _ (nothing.region r) other = refl
+itself_used p n _ (nothing.mutex count) other = refl
+itself_used p n _ (nothing.event count) other = refl
 
 differs : (n k : ℕ) (b : Bool) → (n == k) ≡ b → n ≢ k → b ≡ false
 differs n k true is h = absurd (h (eqb-true n k is))
@@ -237,3 +253,12 @@ module _ {S : Type 0} (accesses : Accesses S) (depth : ℕ) (less : depth < 32) 
   answers _ is _ _ (of_refused_field o f bits e after kind read) = of_bits o f bits (Err e) after is kind (stopped accesses (called_at accesses (meaning accesses) (depth + 1)) f (w, steps) e after read)
   answers _ is _ _ (of_method flags body v r after none value part) = of_body flags body r after is none (returned accesses depth at body (w, steps) v r after value part)
   answers _ is _ _ (of_refused_method flags body e after none value) = of_body flags body (Err e) after is none (not_returned accesses depth at body (w, steps) e after value)
+
+-- ---- what holds no value
+
+module _ {S : Type 0} (accesses : Accesses S) (depth : ℕ) (less : depth < 32) (w : State S) (few : depth < w.nesting.calls) (steps : ℕ) (path : List Seg) where
+  pub tells_none : HoldsNoValueAt w path → called_at accesses (meaning accesses) depth path (w, steps) ≡ (Err (refusal.Value WrongType), (w, steps))
+  unfolding settle
+  tells_none h =
+      called_so accesses w steps path h.place h.object h.asked_there (invocation.Value (value.Reference (reference.Name h.asked_there.number)))
+      (none_taken h.object (λ m is. absurd (h.no_method m is))) (itself_used h.place h.asked_there.number h.object h.holds_nothing h.no_method) depth less few

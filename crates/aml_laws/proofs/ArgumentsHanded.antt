@@ -23,7 +23,7 @@ use Rattle.aml_laws.specs.NamesWritten.{from_root}
 use Rattle.aml_laws.proofs.ArgumentsInTurn.{as_many_as, not_as_many}
 
 module _ {S : Type 0} where
-  one_more : (g : Given) (gs : List Given) (v : Value) (done : List Value) (w between : State S) → imported g w ≡ (Ok v, between) → all_imported (g ∷ gs) done w ≡ all_imported gs (done ++ v ∷ []) between
+  pub one_more : (g : Given) (gs : List Given) (v : Value) (done : List Value) (w between : State S) → imported g w ≡ (Ok v, between) → all_imported (g ∷ gs) done w ≡ all_imported gs (done ++ v ∷ []) between
   unfolding all_imported go_on ◌>>=◌
   one_more g gs v done w between is = rw is refl
 
@@ -33,7 +33,7 @@ module _ {S : Type 0} where
   behind_done _ _ _ _ done (first_data g gs v vs w between after is others) =
       one_more g gs v done w between is ∙ behind_done gs between after vs (done ++ v ∷ []) others ∙ ap (λ (l : List Value). (Ok l, after)) (append_assoc done (v ∷ []) vs)
 
-  handed_in_turn : (gs : List Given) (w after : State S) (vs : List Value) → HandedInTurn gs w vs after → all_imported gs [] w ≡ (Ok vs, after)
+  pub handed_in_turn : (gs : List Given) (w after : State S) (vs : List Value) → HandedInTurn gs w vs after → all_imported gs [] w ≡ (Ok vs, after)
   handed_in_turn gs w after vs h = behind_done gs w after vs [] h
 
   module _ (accesses : Accesses S) (p path : List Seg) (gs : List Given) (w : State S) (number flags : ℕ) (body : List ℕ) (steps : ℕ) (finds : found w.names.map [] (from_root p) ≡ Ok (path, method_entry number flags body)) where

@@ -43,7 +43,7 @@ not_held : (b : Bool) (e : Refusal) → b ≡ false → ◌≡◌ {A = Outcome (
 not_held true e is = absurd (cc is)
 not_held false e is = refl
 
-value_held : (bank : RegionField) (value : ℕ) → value < 2 ^ bank.unit.bits → bank_held bank value ≡ Ok tt
+pub value_held : (bank : RegionField) (value : ℕ) → value < 2 ^ bank.unit.bits → bank_held bank value ≡ Ok tt
 value_held bank value fits = held (nat_lt value (2 ^ bank.unit.bits)) _ (lt-ltb value (2 ^ bank.unit.bits) fits)
 
 value_not_held : (bank : RegionField) (value : ℕ) → 2 ^ bank.unit.bits ≤ value → bank_held bank value ≡ Err (refusal.Field RegionLimit)
@@ -135,11 +135,11 @@ module _ {S : Type 0} (accesses : Accesses S) (call : List Seg → Run S ℕ) (b
 
 module _ {S : Type 0} (accesses : Accesses S) (call : List Seg → Run S ℕ) (n : ℕ) (b : Bank) (bank : RegionField) (s : State S × ℕ) (is : IsFieldUnit s.0 b.field bank) where
   -- once the bank field is found
-  read_where : (f : FieldUnit) (region : Outcome Region) (after : State S × ℕ) → located accesses call n s ≡ (region, after) → bank_bits accesses call n b f s ≡ go_on region after (λ r. bits_read (bank_unit accesses call bank b.value r f.access) f)
+  pub read_where : (f : FieldUnit) (region : Outcome Region) (after : State S × ℕ) → located accesses call n s ≡ (region, after) → bank_bits accesses call n b f s ≡ go_on region after (λ r. bits_read (bank_unit accesses call bank b.value r f.access) f)
   unfolding bank_bits field_declared declaration lift settle ◌>>=◌ go_on
   read_where f region after there = rw (is.stands, is.declared, there) refl
 
-  written_where : (f : FieldUnit) (bytes : List ℕ) (region : Outcome Region) (after : State S × ℕ) → located accesses call n s ≡ (region, after)
+  pub written_where : (f : FieldUnit) (bytes : List ℕ) (region : Outcome Region) (after : State S × ℕ) → located accesses call n s ≡ (region, after)
       → bank_written accesses call n b f bytes s ≡ go_on region after (λ r. write_units (bank_unit_written accesses call bank b.value r f bytes) (units_of f.bit_offset f.bits f.access))
   unfolding bank_written field_declared declaration lift settle ◌>>=◌ go_on
   written_where f bytes region after there = rw (is.stands, is.declared, there) refl

@@ -72,7 +72,7 @@ module _ {S : Type 0} (w : State S) (v : Value) where
   unfolding new_buffer_of buffer_bytes go_on ◌>>=◌
   new_buffer_refused e is = rw is refl
 
-by_new_buffer : {S : Type 0} (v : Value) → IsNoBuffer v → to_buffer_in {S = S} v ≡ new_buffer_of v
+pub by_new_buffer : {S : Type 0} (v : Value) → IsNoBuffer v → to_buffer_in {S = S} v ≡ new_buffer_of v
 by_new_buffer value.Uninitialized differs = refl
 by_new_buffer (value.Integer n) differs = refl
 by_new_buffer (value.String o) differs = refl
@@ -85,7 +85,7 @@ module _ {S : Type 0} (accesses : Accesses S) (scope : List Seg) (depth : ℕ) (
   unfolding rule one_rule value_at operand_value settle lift go_on ◌>>=◌
   stops_so k op e is stops = rw (is, gives, stops) refl
 
-  one_stops : (k : OneOperand) (op : Opcode) (e : Refusal) → kind_of op ≡ kinds.Operator (operators.One k) → result_of_one k v after.0 ≡ (Err e, after.0) → IsRefused accesses scope depth (one_to op x p) (w, suc steps) e after
+  pub one_stops : (k : OneOperand) (op : Opcode) (e : Refusal) → kind_of op ≡ kinds.Operator (operators.One k) → result_of_one k v after.0 ≡ (Err e, after.0) → IsRefused accesses scope depth (one_to op x p) (w, suc steps) e after
   one_stops k op e is stops = (term_begins accesses (task scope depth (one_to op x p))).paid w steps ∙ stops_so k op e is stops
 
   pub to_integer : (n : ℕ) (end : State S) → explicit_integer_of after.0.width (content_in after.0.objects v) ≡ Ok n → StoresTo scope p (value.Integer n) after.0 end → Gives accesses scope depth (one_to opcodes.ToInteger x p) (w, suc steps) n (end, after.1)
@@ -136,7 +136,7 @@ same_string : {S : Type 0} (w : State S) (o : ℕ) → (decimal_string_in (value
 unfolding give
 same_string w o = (refl, refl)
 
-by_new_decimal : {S : Type 0} (v : Value) → IsNoString v → decimal_string_in {S = S} v ≡ new_decimal_string v
+pub by_new_decimal : {S : Type 0} (v : Value) → IsNoString v → decimal_string_in {S = S} v ≡ new_decimal_string v
 by_new_decimal value.Uninitialized differs = refl
 by_new_decimal (value.Integer n) differs = refl
 by_new_decimal (value.String o) differs = absurd (differs o refl)

@@ -24,11 +24,11 @@ pub record Answers {A : Type 0} (count : ℕ) (h : Objects) (p : Outcome A × Ob
   pub is : p ≡ (Ok given, h ++ made)
   pub many : length made ≡ count
 
-none_made : {A : Type 0} (h : Objects) (a : A) → Answers 0 h (Ok a, h)
+pub none_made : {A : Type 0} (h : Objects) (a : A) → Answers 0 h (Ok a, h)
 none_made h a = record { given = a; made = []; is = ap (λ x. (Ok a, x)) (sym (append-nil h)); many = refl }
 
 -- so many objects, and then so many more
-two_lots : {A : Type 0} (m n : ℕ) (h first second : Objects) (a : A) (p : Outcome A × Objects) → length first ≡ m → length second ≡ n → p ≡ (Ok a, (h ++ first) ++ second) → Answers (m + n) h p
+pub two_lots : {A : Type 0} (m n : ℕ) (h first second : Objects) (a : A) (p : Outcome A × Objects) → length first ≡ m → length second ≡ n → p ≡ (Ok a, (h ++ first) ++ second) → Answers (m + n) h p
 two_lots m n h first second a p is_m is_n is = record {
   given = a;
   made = first ++ second;
@@ -55,7 +55,7 @@ object_answers cs h room = record {
 
 -- what stands is what it was, whatever is made meanwhile
 module _ (h : Objects) where
-  string_answers : (later : Objects) (o : ℕ) (bytes : List ℕ) → slice_get h o ≡ Some (object.String bytes) → length bytes ≤ 1048576 → length (h ++ later) + 1 ≤ 262144 → Answers 1 (h ++ later) (string_copy o (h ++ later))
+  pub string_answers : (later : Objects) (o : ℕ) (bytes : List ℕ) → slice_get h o ≡ Some (object.String bytes) → length bytes ≤ 1048576 → length (h ++ later) + 1 ≤ 262144 → Answers 1 (h ++ later) (string_copy o (h ++ later))
   unfolding string_copy string_at go_on ◌>>=◌
   string_answers later o bytes at short room = record {
     given = value.String (length (h ++ later));
@@ -64,7 +64,7 @@ module _ (h : Objects) where
     many = refl;
   }
 
-  buffer_answers : (later : Objects) (o : ℕ) (bytes : List ℕ) → slice_get h o ≡ Some (object.Buffer bytes) → length bytes ≤ 1048576 → length (h ++ later) + 1 ≤ 262144 → Answers 1 (h ++ later) (buffer_copy o (h ++ later))
+  pub buffer_answers : (later : Objects) (o : ℕ) (bytes : List ℕ) → slice_get h o ≡ Some (object.Buffer bytes) → length bytes ≤ 1048576 → length (h ++ later) + 1 ≤ 262144 → Answers 1 (h ++ later) (buffer_copy o (h ++ later))
   unfolding buffer_copy buffer_at go_on ◌>>=◌
   buffer_answers later o bytes at short room = record {
     given = value.Buffer (length (h ++ later));
@@ -73,7 +73,7 @@ module _ (h : Objects) where
     many = refl;
   }
 
-  package_answers : (n count o : ℕ) (later : Objects) (es : List Element) → slice_get h o ≡ Some (object.Package es) → length (h ++ later) + suc count ≤ 262144 → Answers count (h ++ later) (copies_of (package_copy n) es [] (h ++ later)) → Answers (suc count) (h ++ later) (package_copy (suc n) o (h ++ later))
+  pub package_answers : (n count o : ℕ) (later : Objects) (es : List Element) → slice_get h o ≡ Some (object.Package es) → length (h ++ later) + suc count ≤ 262144 → Answers count (h ++ later) (copies_of (package_copy n) es [] (h ++ later)) → Answers (suc count) (h ++ later) (package_copy (suc n) o (h ++ later))
   unfolding package_copy whole_copy elements_at go_on ◌>>=◌
   package_answers n count o later es at room all =
       let more : count + 1 ≡ suc count = omega arith in
@@ -85,7 +85,7 @@ module _ (h : Objects) where
 
   -- ---- values, and elements one after another
 
-  held_answers : (deep count : ℕ) (v : Value) (later : Objects) → Answers count (h ++ later) (value_copy (package_copy deep) v (h ++ later)) → Answers count (h ++ later) (held_copy (package_copy deep) v (h ++ later))
+  pub held_answers : (deep count : ℕ) (v : Value) (later : Objects) → Answers count (h ++ later) (value_copy (package_copy deep) v (h ++ later)) → Answers count (h ++ later) (held_copy (package_copy deep) v (h ++ later))
   unfolding held_copy give go_on ◌>>=◌
   held_answers deep count v later one = record { given = element.Value one.given; made = one.made; is = ap (λ (p : Outcome Value × Objects). go_on p.0 p.1 (λ u. give (element.Value u))) one.is; many = one.many }
 
@@ -96,7 +96,7 @@ module _ (h : Objects) where
   mutual
     unfolding value_copy held_copy element_copy copies_of give ◌>>=◌
 
-    value_answers : (deep count : ℕ) (v : Value) (later : Objects) → IsCopyable h deep count v → length (h ++ later) + count ≤ 262144 → Answers count (h ++ later) (value_copy (package_copy deep) v (h ++ later))
+    pub value_answers : (deep count : ℕ) (v : Value) (later : Objects) → IsCopyable h deep count v → length (h ++ later) + count ≤ 262144 → Answers count (h ++ later) (value_copy (package_copy deep) v (h ++ later))
     value_answers deep _ _ later (nothing _) room = none_made (h ++ later) value.Uninitialized
     value_answers deep _ _ later (integer _ n) room = none_made (h ++ later) (value.Integer n)
     value_answers deep _ _ later (reference _ r) room = none_made (h ++ later) (value.Reference r)
@@ -104,7 +104,7 @@ module _ (h : Objects) where
     value_answers deep _ _ later (buffer _ o bytes at short) room = buffer_answers later o bytes at short room
     value_answers _ _ _ later (of_package deep count o es at all) room = package_answers deep count o later es at room (elements_answer deep count es [] later all (omega (arith, room)))
 
-    elements_answer : (deep count : ℕ) (es done : List Element) (later : Objects) → AreCopyable h deep count es → length (h ++ later) + count ≤ 262144 → Answers count (h ++ later) (copies_of (package_copy deep) es done (h ++ later))
+    pub elements_answer : (deep count : ℕ) (es done : List Element) (later : Objects) → AreCopyable h deep count es → length (h ++ later) + count ≤ 262144 → Answers count (h ++ later) (copies_of (package_copy deep) es done (h ++ later))
     elements_answer deep _ _ done later (no_elements _) room = none_made (h ++ later) done
     elements_answer deep _ _ done later (of_value _ count rest v es one all) room =
         then_answers count rest (h ++ later) (held_copy (package_copy deep) v (h ++ later)) (λ c. copies_of (package_copy deep) es (done ++ c ∷ []))

@@ -1,5 +1,5 @@
--- A table that is loaded, an object that is evaluated, and a caller that is answered, begin no more terms than there are steps; counting
--- changes nothing else.
+-- A table that is loaded, an object that is evaluated, and a caller that is answered, begin no more terms, and no more trees, than there are
+-- steps; counting changes nothing else.
 use Rattle.std.specs.Prelude.{◌≡◌, ℕ, zero, suc, ◌==◌, ◌+◌, ◌-◌, ◌^◌, ◌≤◌, List, [], ◌∷◌, length, Ok, Err, refl}
 use Rattle.std.proofs.Common.{arith, ap, ◌∙◌}
 use Rattle.ar_space.specs.Accesses.{Accesses}
@@ -15,6 +15,7 @@ use Rattle.aml_objects.specs.declared.value.Reference.{Reference}
 use Rattle.aml_objects.specs.declared.value.Reference.TheVariants as reference
 use Rattle.aml_objects.specs.declared.value.Value.{Value}
 use Rattle.aml_objects.specs.declared.value.Value.TheVariants as value
+use Rattle.aml_meaning.specs.declared.flow.Flow.{Flow}
 use Rattle.aml_meaning.specs.declared.invocation.Invocation.{Invocation}
 use Rattle.aml_meaning.specs.declared.invocation.Invocation.TheVariants as invocation
 use Rattle.aml_meaning.specs.declared.name_use.NameUse.{NameUse}
@@ -22,18 +23,21 @@ use Rattle.aml_meaning.specs.declared.name_use.NameUse.TheVariants as uses
 use Rattle.aml_meaning.specs.Given as given
 use Rattle.aml_meaning.specs.State.{State}
 use Rattle.aml_meaning.specs.Run.{Run}
+use Rattle.aml_meaning.specs.Tasks.{Task}
 use Rattle.aml_meaning.specs.Slots.{opened, closed}
 use Rattle.aml_meaning.specs.Importing.{reference_to, imported_by, each_imported, elements_imported, package_imported, taken_back, imported, all_imported}
 use Rattle.aml_meaning.specs.Exporting.{text_exported, bytes_exported, path_of, reference_exported, name_use, value_exported, use_exported, name_exported, held_exported, element_exported, each_exported, elements_exported, package_exported, exported}
 use Rattle.aml_meaning.specs.Calling.{released, ending, with_steps, framed, in_frame, terms_kept, table_terms, at_root, table_run, loaded, value_of, called, with_rest, counted, evaluated, invocation_exported, answer_exported, answered}
 use Rattle.aml_meaning.specs.Meaning.{meaning}
 use Rattle.aml_laws.specs.Counted.{beside_counter, terms_begun, without_counter, counted_meaning}
+use Rattle.aml_laws.specs.CountedTrees.{trees_begun, counted_trees}
 use Rattle.aml_laws.specs.CountedEvaluations.{counted_at_root, counted_table_run, counted_loaded, counted_value_of, counted_called, counted_evaluated, counted_use_exported, counted_held_exported, counted_element_exported, counted_each_exported, counted_elements_exported, counted_package_exported, counted_invocation_exported, counted_answer_exported, counted_answered}
 use Rattle.aml_laws.proofs.CountedChanges.{Counts, RunCounts, give_counts, stop_counts, then_counts, direct_counts, either_branch_counts, on_objects_counts, lift_counts, charge_counts}
 use Rattle.aml_laws.proofs.CountedOperations.{integer_kept_counts, entry_found_counts, osi_answered_counts, invocation_found_counts}
 use Rattle.aml_laws.proofs.CountedFields.{field_given_counts}
 use Rattle.aml_laws.proofs.CountedCalls.{in_turn_counts, method_value_counts, called_at_counts, field_read_counts}
 use Rattle.aml_laws.proofs.CountedTerms.{meaning_counts}
+use Rattle.aml_laws.proofs.CountedTrees.{term_total, counting_changes_nothing}
 
 -- ---- with so many steps
 
@@ -168,7 +172,8 @@ module _ {S : Type 0} where
   unfolding name_use
   name_use_counts n scope = direct_counts _ _ (λ w. refl) (λ w. refl)
 
-module _ {S : Type 0} (accesses : Accesses S) where
+-- ev: what a term evaluates to, counted
+module _ {S : Type 0} (accesses : Accesses S) (ev : Task → Run (S × ℕ) Flow) (parts : (t : Task) → RunCounts (ev t) (meaning accesses t)) where
   module _ (pack : ℕ → Run (S × ℕ) given.Given) (other : ℕ → Run S given.Given) (packs : (o : ℕ) → RunCounts (pack o) (other o)) where
     value_exported_counts : (v : Value) → RunCounts (value_exported (beside_counter accesses) pack v) (value_exported accesses other v)
     unfolding value_exported
@@ -179,93 +184,129 @@ module _ {S : Type 0} (accesses : Accesses S) where
     value_exported_counts (value.Package o) = packs o
     value_exported_counts (value.Reference r) = reference_exported_counts r
 
-    use_exported_counts : (u : NameUse) → RunCounts (counted_use_exported accesses pack u) (use_exported accesses other u)
+    use_exported_counts : (u : NameUse) → RunCounts (counted_use_exported accesses ev pack u) (use_exported accesses other u)
     unfolding counted_use_exported use_exported
     use_exported_counts (uses.Value v) = value_exported_counts v
-    use_exported_counts (uses.Field f) = field_given_counts accesses _ _ (called_at_counts accesses (counted_meaning accesses) (meaning accesses) (meaning_counts accesses) 1) f
+    use_exported_counts (uses.Field f) = field_given_counts accesses _ _ (called_at_counts accesses ev (meaning accesses) parts 1) f
     use_exported_counts (uses.Path p) = give_counts _
 
-    held_exported_counts : (e : Element) → RunCounts (counted_held_exported accesses pack e) (held_exported accesses other e)
+    held_exported_counts : (e : Element) → RunCounts (counted_held_exported accesses ev pack e) (held_exported accesses other e)
     unfolding counted_held_exported held_exported name_exported
     held_exported_counts (element.Value v) = value_exported_counts v
     held_exported_counts (element.Name n scope) = then_counts _ _ _ _ (lift_counts _ _ (name_use_counts n scope)) use_exported_counts
 
-    element_exported_counts : (e : Element) → RunCounts (counted_element_exported accesses pack e) (element_exported accesses other e)
+    element_exported_counts : (e : Element) → RunCounts (counted_element_exported accesses ev pack e) (element_exported accesses other e)
     unfolding counted_element_exported element_exported
     element_exported_counts e = then_counts _ _ _ _ charge_counts (λ step. held_exported_counts e)
 
-    each_exported_counts : (es : List Element) (done : List given.Given) → RunCounts (counted_each_exported accesses pack es done) (each_exported accesses other es done)
+    each_exported_counts : (es : List Element) (done : List given.Given) → RunCounts (counted_each_exported accesses ev pack es done) (each_exported accesses other es done)
     unfolding counted_each_exported each_exported
     each_exported_counts [] done = give_counts _
     each_exported_counts (e ∷ es) done = then_counts _ _ _ _ (element_exported_counts e) (λ g. each_exported_counts es _)
 
-    elements_exported_counts : (o : ℕ) → RunCounts (counted_elements_exported accesses pack o) (elements_exported accesses other o)
+    elements_exported_counts : (o : ℕ) → RunCounts (counted_elements_exported accesses ev pack o) (elements_exported accesses other o)
     unfolding counted_elements_exported elements_exported
     elements_exported_counts o = then_counts _ _ _ _ (lift_counts _ _ (on_objects_counts _)) (λ es. then_counts _ _ _ _ (each_exported_counts es []) (λ gs. give_counts _))
 
-  package_exported_counts : (n o : ℕ) → RunCounts (counted_package_exported accesses n o) (package_exported accesses n o)
+  package_exported_counts : (n o : ℕ) → RunCounts (counted_package_exported accesses ev n o) (package_exported accesses n o)
   unfolding counted_package_exported package_exported
   package_exported_counts zero o = stop_counts _
   package_exported_counts (suc n) o = elements_exported_counts _ _ (package_exported_counts n) o
 
-  value_of_counts : (i : Invocation) (vs : List Value) → RunCounts (counted_value_of accesses i vs) (value_of accesses i vs)
+  value_of_counts : (i : Invocation) (vs : List Value) → RunCounts (counted_value_of accesses ev i vs) (value_of accesses i vs)
   value_of_counts (invocation.Value v) vs = give_counts _
-  value_of_counts (invocation.Field f) vs = field_read_counts accesses (counted_meaning accesses) (meaning accesses) (meaning_counts accesses) 1 f
-  value_of_counts (invocation.Method p body) vs = method_value_counts accesses (counted_meaning accesses) (meaning accesses) (meaning_counts accesses) 0 p body vs
+  value_of_counts (invocation.Field f) vs = field_read_counts accesses ev (meaning accesses) parts 1 f
+  value_of_counts (invocation.Method p body) vs = method_value_counts accesses ev (meaning accesses) parts 0 p body vs
   value_of_counts invocation.Osi vs = lift_counts _ _ (osi_answered_counts vs)
 
-  called_counts : (p : List Seg) (arguments : List Value) → RunCounts (counted_called accesses p arguments) (called accesses p arguments)
+  called_counts : (p : List Seg) (arguments : List Value) → RunCounts (counted_called accesses ev p arguments) (called accesses p arguments)
   unfolding counted_called called
   called_counts p arguments = then_counts _ _ _ _ (lift_counts _ _ (invocation_found_counts _ _ _)) (λ i. value_of_counts i arguments)
 
-  invocation_exported_counts : (i : Invocation) (vs : List Value) → RunCounts (counted_invocation_exported accesses i vs) (invocation_exported accesses i vs)
+  invocation_exported_counts : (i : Invocation) (vs : List Value) → RunCounts (counted_invocation_exported accesses ev i vs) (invocation_exported accesses i vs)
   unfolding exported
   invocation_exported_counts (invocation.Value v) vs = then_counts _ _ _ _ (value_of_counts (invocation.Value v) vs) (value_exported_counts _ _ (package_exported_counts 64))
-  invocation_exported_counts (invocation.Field f) vs = field_given_counts accesses _ _ (called_at_counts accesses (counted_meaning accesses) (meaning accesses) (meaning_counts accesses) 1) f
+  invocation_exported_counts (invocation.Field f) vs = field_given_counts accesses _ _ (called_at_counts accesses ev (meaning accesses) parts 1) f
   invocation_exported_counts (invocation.Method p body) vs = then_counts _ _ _ _ (value_of_counts (invocation.Method p body) vs) (value_exported_counts _ _ (package_exported_counts 64))
   invocation_exported_counts invocation.Osi vs = then_counts _ _ _ _ (value_of_counts invocation.Osi vs) (value_exported_counts _ _ (package_exported_counts 64))
 
-  answer_exported_counts : (p : List Seg) (count : ℕ) (arguments : List given.Given) → RunCounts (counted_answer_exported accesses p count arguments) (answer_exported accesses p count arguments)
+  answer_exported_counts : (p : List Seg) (count : ℕ) (arguments : List given.Given) → RunCounts (counted_answer_exported accesses ev p count arguments) (answer_exported accesses p count arguments)
   unfolding counted_answer_exported answer_exported
   answer_exported_counts p count arguments =
       then_counts _ _ _ _ (lift_counts _ _ (invocation_found_counts _ _ _)) (λ i.
       then_counts _ _ _ _ (lift_counts _ _ (all_imported_counts arguments [])) (λ vs. invocation_exported_counts i vs))
 
-  at_root_counts : (ts : Trees) → RunCounts (counted_at_root accesses ts) (at_root accesses ts)
+  at_root_counts : (ts : Trees) → RunCounts (counted_at_root accesses ev ts) (at_root accesses ts)
   unfolding counted_at_root at_root
-  at_root_counts ts = then_counts _ _ _ _ (in_turn_counts accesses (counted_meaning accesses) (meaning accesses) (meaning_counts accesses) [] 0 ts) (λ last. give_counts _)
+  at_root_counts ts = then_counts _ _ _ _ (in_turn_counts accesses ev (meaning accesses) parts [] 0 ts) (λ last. give_counts _)
 
-  -- ---- what the law says
+  -- ---- whole evaluations
 
-  loaded_begins : (bytes : List ℕ) (steps : ℕ) → BeginsWithin steps (counted_loaded accesses bytes steps) (loaded accesses bytes steps)
+  loaded_begins : (bytes : List ℕ) (steps : ℕ) → BeginsWithin steps (counted_loaded accesses ev bytes steps) (loaded accesses bytes steps)
   unfolding counted_loaded loaded counted_table_run table_run in_frame
   loaded_begins bytes steps =
       ending_begins steps _ _ (then_begins steps _ _ (λ ts. then_begins steps _ _ (λ n. framed_begins steps _ _ (run_begins steps _ _ (at_root_counts ts))) _ _ (opened_counts _)) _ _ (table_terms_counts bytes))
 
-  evaluated_begins : (p : List Seg) (arguments : List Value) (steps : ℕ) → BeginsWithin steps (counted_evaluated accesses p arguments steps) (evaluated accesses p arguments steps)
+  evaluated_begins : (p : List Seg) (arguments : List Value) (steps : ℕ) → BeginsWithin steps (counted_evaluated accesses ev p arguments steps) (evaluated accesses p arguments steps)
   unfolding counted_evaluated evaluated
   evaluated_begins p arguments steps = counted_begins steps _ _ (called_counts p arguments)
 
-  answered_begins : (p : List Seg) (arguments : List given.Given) (steps : ℕ) → BeginsWithin steps (counted_answered accesses p arguments steps) (answered accesses p arguments steps)
+  answered_begins : (p : List Seg) (arguments : List given.Given) (steps : ℕ) → BeginsWithin steps (counted_answered accesses ev p arguments steps) (answered accesses p arguments steps)
   unfolding counted_answered answered
   answered_begins p arguments steps = ending_begins steps _ _ (run_begins steps _ _ (answer_exported_counts p (length arguments) arguments))
 
-  pub table_is_bounded : (bytes : List ℕ) (steps : ℕ) (w : State (S × ℕ)) → terms_begun (counted_loaded accesses bytes steps w).1 ≤ terms_begun w + steps
-  table_is_bounded bytes steps w = (loaded_begins bytes steps).most w
+-- ---- what the laws say
 
-  pub table_is_the_same : (bytes : List ℕ) (steps : ℕ) (w : State (S × ℕ)) → loaded accesses bytes steps (without_counter w) ≡ ((counted_loaded accesses bytes steps w).0, without_counter (counted_loaded accesses bytes steps w).1)
-  table_is_the_same bytes steps w = (loaded_begins bytes steps).same w
+module _ {S : Type 0} (accesses : Accesses S) where
+  -- ---- of terms
 
-  pub value_is_bounded : (p : List Seg) (arguments : List Value) (steps : ℕ) (w : State (S × ℕ)) → terms_begun (counted_evaluated accesses p arguments steps w).1 ≤ terms_begun w + steps
-  value_is_bounded p arguments steps w = (evaluated_begins p arguments steps).most w
+  pub table_is_bounded : (bytes : List ℕ) (steps : ℕ) (w : State (S × ℕ)) → terms_begun (counted_loaded accesses (counted_meaning accesses) bytes steps w).1 ≤ terms_begun w + steps
+  table_is_bounded bytes steps w = (loaded_begins accesses (counted_meaning accesses) (meaning_counts accesses) bytes steps).most w
 
-  pub value_is_the_same : (p : List Seg) (arguments : List Value) (steps : ℕ) (w : State (S × ℕ)) → evaluated accesses p arguments steps (without_counter w) ≡ ((counted_evaluated accesses p arguments steps w).0, without_counter (counted_evaluated accesses p arguments steps w).1)
-  value_is_the_same p arguments steps w = (evaluated_begins p arguments steps).same w
+  pub table_is_the_same : (bytes : List ℕ) (steps : ℕ) (w : State (S × ℕ))
+      → loaded accesses bytes steps (without_counter w) ≡ ((counted_loaded accesses (counted_meaning accesses) bytes steps w).0, without_counter (counted_loaded accesses (counted_meaning accesses) bytes steps w).1)
+  table_is_the_same bytes steps w = (loaded_begins accesses (counted_meaning accesses) (meaning_counts accesses) bytes steps).same w
 
-  pub answer_is_bounded : (p : List Seg) (arguments : List given.Given) (steps : ℕ) (w : State (S × ℕ)) → terms_begun (counted_answered accesses p arguments steps w).1 ≤ terms_begun w + steps
-  answer_is_bounded p arguments steps w = (answered_begins p arguments steps).most w
+  pub value_is_bounded : (p : List Seg) (arguments : List Value) (steps : ℕ) (w : State (S × ℕ)) → terms_begun (counted_evaluated accesses (counted_meaning accesses) p arguments steps w).1 ≤ terms_begun w + steps
+  value_is_bounded p arguments steps w = (evaluated_begins accesses (counted_meaning accesses) (meaning_counts accesses) p arguments steps).most w
 
-  pub answer_is_the_same : (p : List Seg) (arguments : List given.Given) (steps : ℕ) (w : State (S × ℕ)) → answered accesses p arguments steps (without_counter w) ≡ ((counted_answered accesses p arguments steps w).0, without_counter (counted_answered accesses p arguments steps w).1)
-  answer_is_the_same p arguments steps w = (answered_begins p arguments steps).same w
+  pub value_is_the_same : (p : List Seg) (arguments : List Value) (steps : ℕ) (w : State (S × ℕ))
+      → evaluated accesses p arguments steps (without_counter w) ≡ ((counted_evaluated accesses (counted_meaning accesses) p arguments steps w).0, without_counter (counted_evaluated accesses (counted_meaning accesses) p arguments steps w).1)
+  value_is_the_same p arguments steps w = (evaluated_begins accesses (counted_meaning accesses) (meaning_counts accesses) p arguments steps).same w
+
+  pub answer_is_bounded : (p : List Seg) (arguments : List given.Given) (steps : ℕ) (w : State (S × ℕ)) → terms_begun (counted_answered accesses (counted_meaning accesses) p arguments steps w).1 ≤ terms_begun w + steps
+  answer_is_bounded p arguments steps w = (answered_begins accesses (counted_meaning accesses) (meaning_counts accesses) p arguments steps).most w
+
+  pub answer_is_the_same : (p : List Seg) (arguments : List given.Given) (steps : ℕ) (w : State (S × ℕ))
+      → answered accesses p arguments steps (without_counter w) ≡ ((counted_answered accesses (counted_meaning accesses) p arguments steps w).0, without_counter (counted_answered accesses (counted_meaning accesses) p arguments steps w).1)
+  answer_is_the_same p arguments steps w = (answered_begins accesses (counted_meaning accesses) (meaning_counts accesses) p arguments steps).same w
+
+  -- ---- of trees
+
+  trees_count : (t : Task) → RunCounts (counted_trees accesses t) (meaning accesses t)
+  trees_count t = record { same = counting_changes_nothing (meaning accesses t); leads = λ s. let e = term_total accesses t s in omega (arith, e) }
+
+  pub trees_of_table_bounded : (bytes : List ℕ) (steps : ℕ) (w : State (S × ℕ)) → trees_begun (counted_loaded accesses (counted_trees accesses) bytes steps w).1 ≤ trees_begun w + steps
+  trees_of_table_bounded bytes steps w = (loaded_begins accesses (counted_trees accesses) trees_count bytes steps).most w
+
+  pub trees_of_table_same : (bytes : List ℕ) (steps : ℕ) (w : State (S × ℕ))
+      → loaded accesses bytes steps (without_counter w) ≡ ((counted_loaded accesses (counted_trees accesses) bytes steps w).0, without_counter (counted_loaded accesses (counted_trees accesses) bytes steps w).1)
+  trees_of_table_same bytes steps w = (loaded_begins accesses (counted_trees accesses) trees_count bytes steps).same w
+
+  pub trees_of_value_bounded : (p : List Seg) (arguments : List Value) (steps : ℕ) (w : State (S × ℕ)) → trees_begun (counted_evaluated accesses (counted_trees accesses) p arguments steps w).1 ≤ trees_begun w + steps
+  trees_of_value_bounded p arguments steps w = (evaluated_begins accesses (counted_trees accesses) trees_count p arguments steps).most w
+
+  pub trees_of_value_same : (p : List Seg) (arguments : List Value) (steps : ℕ) (w : State (S × ℕ))
+      → evaluated accesses p arguments steps (without_counter w) ≡ ((counted_evaluated accesses (counted_trees accesses) p arguments steps w).0, without_counter (counted_evaluated accesses (counted_trees accesses) p arguments steps w).1)
+  trees_of_value_same p arguments steps w = (evaluated_begins accesses (counted_trees accesses) trees_count p arguments steps).same w
+
+  pub trees_of_answer_bounded : (p : List Seg) (arguments : List given.Given) (steps : ℕ) (w : State (S × ℕ)) → trees_begun (counted_answered accesses (counted_trees accesses) p arguments steps w).1 ≤ trees_begun w + steps
+  trees_of_answer_bounded p arguments steps w = (answered_begins accesses (counted_trees accesses) trees_count p arguments steps).most w
+
+  pub trees_of_answer_same : (p : List Seg) (arguments : List given.Given) (steps : ℕ) (w : State (S × ℕ))
+      → answered accesses p arguments steps (without_counter w) ≡ ((counted_answered accesses (counted_trees accesses) p arguments steps w).0, without_counter (counted_answered accesses (counted_trees accesses) p arguments steps w).1)
+  trees_of_answer_same p arguments steps w = (answered_begins accesses (counted_trees accesses) trees_count p arguments steps).same w
 
 pub ruleset terms_of_tables_and_answers_are_counted = (table_is_bounded, table_is_the_same, value_is_bounded, value_is_the_same, answer_is_bounded, answer_is_the_same)
+
+pub ruleset trees_of_tables_and_answers_are_counted = (trees_of_table_bounded, trees_of_table_same, trees_of_value_bounded, trees_of_value_same, trees_of_answer_bounded, trees_of_answer_same)

@@ -49,7 +49,7 @@ module _ {S : Type 0} (accesses : Accesses S) (scope : List Seg) (depth : ℕ) w
   pub string_formed : (text : List ℕ) (w : State S) (steps : ℕ) → Fits w text → GivesValue accesses scope depth (string_term text) (w, suc steps) (value.String (length w.objects)) (with_object w (object.String text), steps)
   string_formed text w steps fits = (term_begins accesses (task scope depth (string_term text))).paid w steps ∙ string_so text w steps fits
 
-  integer_so : (x : Tree) (s : State S × ℕ) (n : ℕ) (after : State S × ℕ) → OneInteger accesses scope depth x s n after → operand_integer (meaning accesses) scope depth x s ≡ (Ok n, after)
+  pub integer_so : (x : Tree) (s : State S × ℕ) (n : ℕ) (after : State S × ℕ) → OneInteger accesses scope depth x s n after → operand_integer (meaning accesses) scope depth x s ≡ (Ok n, after)
   unfolding operand_integer operand_value settle lift go_on ◌>>=◌
   integer_so x s n after h = rw (h.gives, h.converts) refl
 
@@ -76,7 +76,7 @@ module _ {S : Type 0} (accesses : Accesses S) (scope : List Seg) (depth : ℕ) w
   unfolding named_element settle give go_on ◌>>=◌
   named_is m w steps = rw (charge_one w steps) refl
 
-  in_turn_so : (n : ℕ) (ts : Trees) (s : State S × ℕ) (es : List Element) (after : State S × ℕ) → GivesElements accesses scope depth n ts s es after → (done : List Element) → elements_in_turn (meaning accesses) scope depth n ts done s ≡ (Ok (done ++ es), after)
+  pub in_turn_so : (n : ℕ) (ts : Trees) (s : State S × ℕ) (es : List Element) (after : State S × ℕ) → GivesElements accesses scope depth n ts s es after → (done : List Element) → elements_in_turn (meaning accesses) scope depth n ts done s ≡ (Ok (done ++ es), after)
   unfolding elements_in_turn give go_on ◌>>=◌
   in_turn_so _ _ _ _ _ (enough ts s) done = ap (λ (l : List Element). (Ok l, s)) (sym (append-nil done))
   in_turn_so _ _ _ _ _ (no_more n s) done = ap (λ (l : List Element). (Ok l, s)) (sym (append-nil done))
@@ -99,7 +99,7 @@ module _ {S : Type 0} (accesses : Accesses S) (scope : List Seg) (depth : ℕ) w
   unfolding package_of lift give go_on ◌>>=◌
   package_is n ts s es after given fits = rw (in_turn_so n ts s es after given [], package_there after.0 n es fits) refl
 
-  counted_so : (n : ℕ) (ts : Trees) (w : State S) (steps : ℕ) → rule accesses (meaning accesses) (task scope depth (package_term n ts)) (w, steps) ≡ package_of (meaning accesses) scope depth n ts (w, steps)
+  pub counted_so : (n : ℕ) (ts : Trees) (w : State S) (steps : ℕ) → rule accesses (meaning accesses) (task scope depth (package_term n ts)) (w, steps) ≡ package_of (meaning accesses) scope depth n ts (w, steps)
   unfolding rule package_rule settle go_on ◌>>=◌
   counted_so n ts w steps = refl
 
@@ -107,7 +107,7 @@ module _ {S : Type 0} (accesses : Accesses S) (scope : List Seg) (depth : ℕ) w
       → GivesValue accesses scope depth (package_term n ts) (w, suc steps) (value.Package (length after.0.objects)) (with_object after.0 (object.Package (filled_with_none n es)), after.1)
   package_formed n ts w steps es after given fits = (term_begins accesses (task scope depth (package_term n ts))).paid w steps ∙ (counted_so n ts w steps ∙ package_is n ts (w, steps) es after given fits)
 
-  sized_so : (x : Tree) (n : ℕ) (ts : Trees) (w : State S) (steps : ℕ) (between : State S × ℕ) → OneInteger accesses scope depth x (w, steps) n between → n ≤ 65535
+  pub sized_so : (x : Tree) (n : ℕ) (ts : Trees) (w : State S) (steps : ℕ) (between : State S × ℕ) → OneInteger accesses scope depth x (w, steps) n between → n ≤ 65535
       → rule accesses (meaning accesses) (task scope depth (var_package_term x ts)) (w, steps) ≡ package_of (meaning accesses) scope depth n ts between
   unfolding rule var_package_rule settle lift go_on ◌>>=◌
   sized_so x n ts w steps between h less = rw (integer_so x (w, steps) n between h, few_so 65535 n between.0 less) refl

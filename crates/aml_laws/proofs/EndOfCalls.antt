@@ -25,7 +25,7 @@ use Rattle.aml_laws.proofs.OutsideOfMethods.{retained_apart}
 
 -- ---- the names below a path, removed
 
-below_alike : (p r x : List Seg) → path_cmp r x ≡ Equal → not (is_below p x) ≡ not (is_below p r)
+pub below_alike : (p r x : List Seg) → path_cmp r x ≡ Equal → not (is_below p x) ≡ not (is_below p r)
 below_alike p r x e = ap (λ y. not (is_below p y)) (sym (only_equal r x e))
 
 none_below_removed : {S : Type 0} (w : State S) (p : List Seg) → NoneBelow (record w { names = without_below p w.names }) p

@@ -58,7 +58,7 @@ clean_refusal_spent : (low : Bool) (e : Refusal) (rest : ℕ) → CleanRefusalWi
 clean_refusal_spent low (refusals.Evaluation f) rest c = clean_fault_spent low f rest c
 clean_refusal_spent low _ rest c = tt
 
-clean_spent : {A : Type 0} (low : Bool) (x : Outcome A) (rest : ℕ) → CleanWithin low x → Spent x rest
+pub clean_spent : {A : Type 0} (low : Bool) (x : Outcome A) (rest : ℕ) → CleanWithin low x → Spent x rest
 clean_spent low (Ok a) rest c = tt
 clean_spent low (Err e) rest c = clean_refusal_spent low e rest c
 

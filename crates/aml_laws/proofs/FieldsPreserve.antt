@@ -56,19 +56,19 @@ use Rattle.aml_laws.proofs.StoreTargetsPreserve.{declaration_preserves, bytes_in
 module _ {S : Type 0} {listed : Bool} {accesses : Accesses S} {relation : WorldRelationOf listed accesses} where
   -- ---- changes of the world
 
-  nearest_preserves : (x : Sought) (q : List Seg) → Preserves relation (nearest x q)
+  pub nearest_preserves : (x : Sought) (q : List Seg) → Preserves relation (nearest x q)
   unfolding nearest
   nearest_preserves x q = unchanged_preserves _ (λ w. refl)
 
-  region_declared_preserves : (n : ℕ) → Preserves relation (region_declared n)
+  pub region_declared_preserves : (n : ℕ) → Preserves relation (region_declared n)
   unfolding region_declared
   region_declared_preserves n = then_preserves _ _ (declaration_preserves n) (λ e. then_preserves _ _ (settle_preserves _) (λ r. give_preserves _))
 
-  field_declared_preserves : (n : ℕ) → Preserves relation (field_declared n)
+  pub field_declared_preserves : (n : ℕ) → Preserves relation (field_declared n)
   unfolding field_declared
   field_declared_preserves n = then_preserves _ _ (declaration_preserves n) (λ e. settle_preserves _)
 
-  integer_of_bits_preserves : (bytes : List ℕ) → Preserves relation (integer_of_bits bytes)
+  pub integer_of_bits_preserves : (bytes : List ℕ) → Preserves relation (integer_of_bits bytes)
   unfolding integer_of_bits
   integer_of_bits_preserves bytes = unchanged_preserves _ (λ w. refl)
 
@@ -76,15 +76,15 @@ module _ {S : Type 0} {listed : Bool} {accesses : Accesses S} {relation : WorldR
   unfolding integer_value
   integer_value_preserves bytes = then_preserves _ _ (integer_of_bits_preserves bytes) (λ n. give_preserves _)
 
-  integer_alone_preserves : (count : ℕ) (bytes : List ℕ) → Preserves relation (integer_alone count bytes)
+  pub integer_alone_preserves : (count : ℕ) (bytes : List ℕ) → Preserves relation (integer_alone count bytes)
   unfolding integer_alone
   integer_alone_preserves count bytes = record { preserves = λ w. either_branch (λ (x : Outcome ℕ × State S). relation.Leads w x.1) (nat_lt (bits_of w.width) count) _ _ (relation.reflexive w) ((integer_of_bits_preserves bytes).preserves w) }
 
-  referent_of_bits_preserves : (count : ℕ) (bytes : List ℕ) → Preserves relation (referent_of_bits count bytes)
+  pub referent_of_bits_preserves : (count : ℕ) (bytes : List ℕ) → Preserves relation (referent_of_bits count bytes)
   unfolding referent_of_bits
   referent_of_bits_preserves count bytes = record { preserves = λ w. either_branch (λ (x : Outcome Referent × State S). relation.Leads w x.1) (nat_lt (bits_of w.width) count) _ _ (relation.reflexive w) (relation.reflexive w) }
 
-  value_of_bits_preserves : (count : ℕ) (bytes : List ℕ) → Preserves relation (value_of_bits count bytes)
+  pub value_of_bits_preserves : (count : ℕ) (bytes : List ℕ) → Preserves relation (value_of_bits count bytes)
   unfolding value_of_bits
   value_of_bits_preserves count bytes = record { preserves = λ w. either_branch (λ (x : Outcome Value × State S). relation.Leads w x.1) (nat_lt (bits_of w.width) count) _ _ ((on_objects_preserves {relation = relation} (make_buffer bytes) (make_buffer_keeps_kinds bytes)).preserves w) ((integer_value_preserves bytes).preserves w) }
 

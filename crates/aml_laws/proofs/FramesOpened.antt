@@ -26,7 +26,7 @@ use Rattle.aml_laws.proofs.FieldsInOrder.{settled}
 
 -- ---- the frame
 
-empty_local : (i : ℕ) → i < 8 → slice_index_or (replicate 8 value.Uninitialized) i value.Uninitialized ≡ value.Uninitialized
+pub empty_local : (i : ℕ) → i < 8 → slice_index_or (replicate 8 value.Uninitialized) i value.Uninitialized ≡ value.Uninitialized
 empty_local zero less = refl
 empty_local (suc zero) less = refl
 empty_local (suc (suc zero)) less = refl

@@ -25,15 +25,15 @@ use Rattle.aml_laws.proofs.NamesSearched.{one_path_found}
 use Rattle.aml_laws.proofs.LimitsTaken.{string_made, buffer_made, package_made}
 
 -- the world with other objects
-abbrev over : {S : Type 0} → State S → Objects → State S
+abbrev pub over : {S : Type 0} → State S → Objects → State S
 over w objects = record w { objects = objects }
 
 -- A value is given, and so many objects are made for it, behind those of a world.
-record Takes {S A : Type 0} (count : ℕ) (w : State S) (h : Objects) (p : Outcome A × State S) : Type 0 where
-  given : A
-  made : Objects
-  is : p ≡ (Ok given, over w (h ++ made))
-  so_many : length made ≡ count
+pub record Takes {S A : Type 0} (count : ℕ) (w : State S) (h : Objects) (p : Outcome A × State S) : Type 0 where
+  pub given : A
+  pub made : Objects
+  pub is : p ≡ (Ok given, over w (h ++ made))
+  pub so_many : length made ≡ count
 
 none_made : {S A : Type 0} (w : State S) (h : Objects) (a : A) → Takes 0 w h (Ok a, over w h)
 none_made w h a = record { given = a; made = []; is = ap (λ x. (Ok a, over w x)) (sym (append-nil h)); so_many = refl }
@@ -96,9 +96,9 @@ module _ {S : Type 0} (w : State S) where
 
   -- ---- elements one after another; so many are done
 
-  record All (count n : ℕ) (h : Objects) (p : Outcome (List Element) × State S) : Type 0 where
-    takes : Takes count w h p
-    elements : length takes.given ≡ n
+  pub record All (count n : ℕ) (h : Objects) (p : Outcome (List Element) × State S) : Type 0 where
+    pub takes : Takes count w h p
+    pub elements : length takes.given ≡ n
 
   then_all : (m n count : ℕ) (h : Objects) (p : Outcome Value × State S) (k : Value → Change (State S) (List Element)) → Takes m w h p → ((a : Value) (made : Objects) → length made ≡ m → All n count (h ++ made) (k a (over w (h ++ made)))) → All (m + n) count h (go_on p.0 p.1 k)
   unfolding then_takes
@@ -134,7 +134,7 @@ module _ {S : Type 0} (w : State S) where
   mutual
     unfolding each_imported integer_kept give ◌>>=◌
 
-    given_takes : (deep count : ℕ) (g : Given) (h : Objects) → MayBeHandedIn w.names.map deep count g → length h + count ≤ 262144 → Takes count w h (imported_by (package_imported deep) g (over w h))
+    pub given_takes : (deep count : ℕ) (g : Given) (h : Objects) → MayBeHandedIn w.names.map deep count g → length h + count ≤ 262144 → Takes count w h (imported_by (package_imported deep) g (over w h))
     given_takes deep _ _ h (nothing _) room = none_made w h value.Uninitialized
     given_takes deep _ _ h (integer _ n) room = none_made w h _
     given_takes deep _ _ h (text _ bytes short) room = text_takes h bytes short room
@@ -142,7 +142,7 @@ module _ {S : Type 0} (w : State S) where
     given_takes deep _ _ h (named _ path at entry other stands leads) room = name_takes h path at entry other stands leads
     given_takes _ _ _ h (of_package deep count gs few all) room = package_takes deep count gs h few room (subst (λ k. All count k h (each_imported (package_imported deep) gs [] (over w h))) (none_and gs) (all_take deep count gs [] h all (omega (arith, room))))
 
-    all_take : (deep count : ℕ) (gs : Givens) (done : List Element) (h : Objects) → AllMayBeHandedIn w.names.map deep count gs → length h + count ≤ 262144 → All count (length done + many gs) h (each_imported (package_imported deep) gs done (over w h))
+    pub all_take : (deep count : ℕ) (gs : Givens) (done : List Element) (h : Objects) → AllMayBeHandedIn w.names.map deep count gs → length h + count ≤ 262144 → All count (length done + many gs) h (each_imported (package_imported deep) gs done (over w h))
     all_take deep _ _ done h (no_more _) room = no_more_taken h done
     all_take deep _ _ done h (one_more _ count rest g gs one all) room =
         then_all count rest (length done + suc (many gs)) h (imported_by (package_imported deep) g (over w h)) (λ v. each_imported (package_imported deep) gs (done ++ element.Value v ∷ []))

@@ -67,7 +67,7 @@ nothing_above WriteAsOnes W16 x = omega arith
 nothing_above WriteAsOnes W32 x = omega arith
 nothing_above WriteAsOnes W64 x = omega arith
 
-whole_merged : (rule : UpdateRule) (w : Width) (n : ℕ) → merged (rest_of_unit rule w 0) 0 (bits_from n 0 (bit_count w)) ≡ n % 2 ^ bit_count w
+pub whole_merged : (rule : UpdateRule) (w : Width) (n : ℕ) → merged (rest_of_unit rule w 0) 0 (bits_from n 0 (bit_count w)) ≡ n % 2 ^ bit_count w
 whole_merged rule w n = merged_is (rest_of_unit rule w 0) 0 (bit_count w) n (let l = narrow w in omega (arith, l)) (rest_fits rule w) ∙ nothing_above rule w (n % 2 ^ bit_count w)
 
 written_number : (rule : UpdateRule) (w : Width) (n : ℕ) → merged (rest_of_unit rule w 0) 0 (field_bits (unit_bytes n) 0 (bit_count w)) ≡ n % 2 ^ bit_count w

@@ -1,4 +1,4 @@
--- The items of two buffers that are joined as resource templates.
+-- The items of two buffers that are joined as resource templates, and how many bytes they take.
 use Rattle.std.specs.Prelude.{◌≡◌, ◌<◌, ◌≤◌, ℕ, zero, suc, ◌+◌, ◌*◌, ◌==◌, nat_le, Bool, true, false, if◌then◌else◌, List, [], ◌∷◌, ◌++◌, length, take, drop, Option, Some, None, Ok, Err, refl}
 use Rattle.std.proofs.Common.{arith, ap, sym, subst, ◌∙◌, append_assoc, length-append}
 use Rattle.std.proofs.Math.Seq.{drop-append_seam, take-append-add}
@@ -12,7 +12,7 @@ use Rattle.acpi_resources.specs.EndTags.{item_length, length_before_end}
 use Rattle.acpi_resources.proofs.Splitting.{items_of_none, items_of_some}
 use Rattle.aml_objects.specs.Contents.{Buffer}
 use Rattle.aml_convert.specs.Concatenation.{front_of, before_end, resources_joined}
-use Rattle.aml_laws.specs.ResourceLists.{before_end_tag, end_tag}
+use Rattle.aml_laws.specs.ResourceLists.{before_end_tag, end_tag, bytes_taken}
 
 -- ---- the bytes of the first item are read as that item whatever follows
 
@@ -174,3 +174,80 @@ both_read s t r (Ok front) (Ok back) sx ty is =
 pub joined_items : (s t r : List ℕ) → resources_joined (Buffer s) (Buffer t) ≡ Ok r → items_of r ≡ before_end_tag (items_of s) ++ before_end_tag (items_of t) ++ end_tag ∷ []
 unfolding resources_joined ◌>>=◌
 joined_items s t r is = both_read s t r (before_end s) (before_end t) refl refl is
+
+-- ---- as many bytes as the items take
+
+module _ (item : ResourceItem) (items : List ResourceItem) (further : (k : ℕ) → length_before_end items ≡ Some k → k ≡ bytes_taken (before_end_tag items)) where
+  more_taken : (o : Option ℕ) (n : ℕ) → length_before_end items ≡ o → option_map (λ k. item_length item + k) o ≡ Some n → n ≡ item_length item + bytes_taken (before_end_tag items)
+  more_taken None n before e = absurd (cc e)
+  more_taken (Some k) n before e = sym (cc e) ∙ ap (λ k. item_length item + k) (further k before)
+
+  taken_by : (b : Bool) (n : ℕ) → (if b then Some 0 else option_map (λ k. item_length item + k) (length_before_end items)) ≡ Some n → n ≡ bytes_taken (if b then [] else item ∷ before_end_tag items)
+  taken_by true n e = sym (cc e)
+  taken_by false n e = more_taken (length_before_end items) n refl e
+
+before_taken : (items : List ResourceItem) (n : ℕ) → length_before_end items ≡ Some n → n ≡ bytes_taken (before_end_tag items)
+unfolding length_before_end
+before_taken [] n e = absurd (cc e)
+before_taken (item ∷ items) n e = taken_by item items (λ k before. before_taken items k before) (item.tag == 0x79) n e
+
+module _ (bytes behind : List ℕ) (item : ResourceItem) (first : first_item bytes ≡ Some (item, behind)) (further : (k : ℕ) → length_before_end (items_of behind) ≡ Some k → k ≤ length behind) where
+  more_within : (o : Option ℕ) (n : ℕ) → length_before_end (items_of behind) ≡ o → option_map (λ k. item_length item + k) o ≡ Some n → n ≤ length bytes
+  more_within None n before e = absurd (cc e)
+  more_within (Some k) n before e =
+      let f = front_found bytes (item, behind) first in
+      let sum = ap length f.split ∙ length-append f.front behind in
+      let long = f.long in
+      let is : n ≡ item_length item + k = sym (cc e) in
+      let within = further k before in
+      omega (arith, sum, long, is, within)
+
+  within_by : (b : Bool) (n : ℕ) → (if b then Some 0 else option_map (λ k. item_length item + k) (length_before_end (items_of behind))) ≡ Some n → n ≤ length bytes
+  within_by true n e = let none : n ≡ 0 = sym (cc e) in omega (arith, none)
+  within_by false n e = more_within (length_before_end (items_of behind)) n refl e
+
+  item_within : (n : ℕ) → length_before_end (items_of bytes) ≡ Some n → n ≤ length bytes
+  unfolding length_before_end
+  item_within n e = within_by (item.tag == 0x79) n (subst (λ is. length_before_end is ≡ Some n) (items_of_some bytes item behind first) e)
+
+end_within_by : (bytes : List ℕ) (n : ℕ) (o : Option (ResourceItem × List ℕ)) → first_item bytes ≡ o → ((behind : List ℕ) → length behind < length bytes → (k : ℕ) → length_before_end (items_of behind) ≡ Some k → k ≤ length behind)
+    → length_before_end (items_of bytes) ≡ Some n → n ≤ length bytes
+end_within_by bytes n None first further e = absurd (none_before bytes n first e)
+end_within_by bytes n (Some (item, behind)) first further e =
+    let f = front_found bytes (item, behind) first in
+    let sum = ap length f.split ∙ length-append f.front behind in
+    let long = f.long in
+    let some = some_long (bit_and item.tag 0x80 == 0) in
+    item_within bytes behind item first (further behind (omega (arith, sum, long, some))) n e
+
+end_within : (turns : ℕ) (bytes : List ℕ) (n : ℕ) → length bytes ≤ turns → length_before_end (items_of bytes) ≡ Some n → n ≤ length bytes
+end_within zero bytes n le e = end_within_by bytes n (first_item bytes) refl (λ behind less k before. absurd (omega (arith, less, le))) e
+end_within (suc turns) bytes n le e = end_within_by bytes n (first_item bytes) refl (λ behind less k before. end_within turns behind k (omega (arith, less, le)) before) e
+
+front_length : (bytes front : List ℕ) (o : Option ℕ) → length_before_end (items_of bytes) ≡ o → front_of bytes o ≡ Ok front → length front ≡ bytes_taken (before_end_tag (items_of bytes))
+front_length bytes front None before e = absurd (cc e)
+front_length bytes front (Some n) before e =
+    let taken : take n bytes ≡ front = cc e in
+    ap length (sym taken) ∙ length-take-le n bytes (end_within (length bytes) bytes n (omega arith) before) ∙ before_taken (items_of bytes) n before
+
+before_length : (bytes front : List ℕ) → before_end bytes ≡ Ok front → length front ≡ bytes_taken (before_end_tag (items_of bytes))
+unfolding items_of items_within
+before_length [] front e = let none : front ≡ [] = sym (cc e) in ap length none
+before_length (b ∷ bs) front e = front_length (b ∷ bs) front (length_before_end (items_of (b ∷ bs))) refl e
+
+both_length : (s t r : List ℕ) (x y : Outcome (List ℕ)) → before_end s ≡ x → before_end t ≡ y → (x >>= (λ front. y >>= (λ back. Ok (front ++ back ++ 0x79 ∷ 0x00 ∷ [])))) ≡ Ok r
+    → length r ≡ bytes_taken (before_end_tag (items_of s)) + (bytes_taken (before_end_tag (items_of t)) + 2)
+unfolding ◌>>=◌
+both_length s t r (Err e) y sx ty is = absurd (cc is)
+both_length s t r (Ok front) (Err e) sx ty is = absurd (cc is)
+both_length s t r (Ok front) (Ok back) sx ty is =
+    let joined : r ≡ front ++ back ++ 0x79 ∷ 0x00 ∷ [] = sym (cc is) in
+    let one = before_length s front sx in
+    let two = before_length t back ty in
+    ap length (joined ∙ append_assoc front back (0x79 ∷ 0x00 ∷ [])) ∙ length-append front (back ++ 0x79 ∷ 0x00 ∷ [])
+    ∙ ap (λ n. n + length (back ++ 0x79 ∷ 0x00 ∷ [])) one
+    ∙ ap (λ n. bytes_taken (before_end_tag (items_of s)) + n) (length-append back (0x79 ∷ 0x00 ∷ []) ∙ ap (λ n. n + 2) two)
+
+pub joined_length : (s t r : List ℕ) → resources_joined (Buffer s) (Buffer t) ≡ Ok r → length r ≡ bytes_taken (before_end_tag (items_of s)) + (bytes_taken (before_end_tag (items_of t)) + 2)
+unfolding resources_joined ◌>>=◌
+joined_length s t r is = both_length s t r (before_end s) (before_end t) refl refl is

@@ -5,18 +5,23 @@
 -- by what is told of terms and names), `x_explains` (a fault of the register space that x is refused by is what its last access
 -- answered, no other access is answered with one, and a depth that the setting doesn't allow is refused only where it allows less than
 -- the default), `x_together` (x goes the same way over two register spaces until they part),
+-- `x_in_frames` (x comes to the same, whatever terms do where more than 33 frames stand),
 -- `x_unnoted` (noting the accesses of x changes nothing), `x_respects`, `x_keeps_kinds`, `x_fits`, `x_stands`;
 -- a lemma that goes through the cases for another ends with `_by_cases`.
 pub mod AddressObjects
+pub mod AddressesRefused
+pub mod AnswersEnded
 pub mod AnswersTogether
 pub mod ArgumentsAndAnswersPreserve
 pub mod ArgumentsHanded
 pub mod ArgumentsInTurn
 pub mod ArgumentsReferring
+pub mod ArgumentsRefused
 pub mod AritiesKept
 pub mod AskedBridges
 pub mod BanksDeclared
 pub mod BanksSelected
+pub mod BeyondLimits
 pub mod BodiesPassNothing
 pub mod BodiesRead
 pub mod BridgesAsked
@@ -27,6 +32,7 @@ pub mod BufferFieldsDeclared
 pub mod BufferFieldsRefused
 pub mod BusesFound
 pub mod BytesListed
+pub mod CallsEnded
 pub mod ChangesNothing
 pub mod Charges
 pub mod Claims
@@ -45,8 +51,11 @@ pub mod ConversionTermsDone
 pub mod ConversionsAnswered
 pub mod ConversionsSpelled
 pub mod ConvertedValues
+pub mod CopiedParts
 pub mod CopiesAnswered
 pub mod CopiesApart
+pub mod CopiesBeyondLimits
+pub mod CopiesRefused
 pub mod CoreRefuses
 pub mod Costs
 pub mod CountNeverFalls
@@ -64,8 +73,13 @@ pub mod CountedMatches
 pub mod CountedWideTerms
 pub mod Counting
 pub mod CountsPut
+pub mod CountsSought
 pub mod CountsTold
+pub mod DataBeyondLimits
 pub mod DataFormed
+pub mod DataNotFormed
+pub mod DeadEnds
+pub mod DeadStores
 pub mod DecimalCodes
 pub mod DeclarationNumbers
 pub mod DeclaredNamesStand
@@ -73,6 +87,7 @@ pub mod Deepening
 pub mod DefaultDepth
 pub mod Divisions
 pub mod DivisionsPut
+pub mod ElementsCost
 pub mod EndOfCalls
 pub mod EvaluationsPreserve
 pub mod EvaluationsTogether
@@ -99,6 +114,7 @@ pub mod FieldsReached
 pub mod FieldsTaken
 pub mod FormedElsewhere
 pub mod FieldSources
+pub mod FieldsInFrames
 pub mod FieldsInOrder
 pub mod FieldsLaidOut
 pub mod FieldsLedTo
@@ -106,11 +122,16 @@ pub mod FieldsPreserve
 pub mod FieldsTogether
 pub mod FoundNamesStand
 pub mod FrameNumbers
+pub mod FramesAtOnce
 pub mod FramesEnded
+pub mod FramesLimited
 pub mod FramesOpened
+pub mod FramesTaken
+pub mod GoneFields
 pub mod HandedBack
 pub mod HandedIn
 pub mod HandedOut
+pub mod InFrames
 pub mod IndexRegisters
 pub mod IndexTargets
 pub mod IndexedFields
@@ -135,6 +156,7 @@ pub mod NamesPredefined
 pub mod NamesSought
 pub mod NamesTyped
 pub mod NotesKept
+pub mod NothingLeft
 pub mod NothingPassed
 pub mod ObjectTermsDone
 pub mod ObjectsAsked
@@ -144,6 +166,7 @@ pub mod OperatorLaws
 pub mod OperatorsComputed
 pub mod OsiAsked
 pub mod PartsAsked
+pub mod PartsCounted
 pub mod PartsIndexed
 pub mod PartsRefused
 pub mod PartsStored
@@ -152,9 +175,12 @@ pub mod PutIntoTargets
 pub mod ReadingChanges
 pub mod ReadingRefusals
 pub mod StoreTermsDone
+pub mod StoresBeyondLimits
+pub mod TablesEnded
 pub mod TablesRead
 pub mod TablesRefused
 pub mod TermRefusals
+pub mod TermsInFrames
 pub mod TestsTold
 pub mod ValuesJoined
 pub mod ValuesMatched
@@ -208,6 +234,7 @@ pub mod ReadTermsHoldBytes
 pub mod ReadingStepsGiveBytes
 pub mod ReferenceChains
 pub mod ReferencesHandedIn
+pub mod ReferencesRead
 pub mod ReferencesToNames
 pub mod ReferencesToSlots
 pub mod ReferencesToTargets
@@ -219,6 +246,7 @@ pub mod RegisterAccesses
 pub mod RuleByParts
 pub mod RulesPreserve
 pub mod RulesTogether
+pub mod RunsOut
 pub mod SignalsTaken
 pub mod SlotsPut
 pub mod SetDepths
@@ -236,6 +264,7 @@ pub mod StoreTargetsTogether
 pub mod TargetsActedOn
 pub mod Together
 pub mod TooDeepForSettings
+pub mod TouchedUnits
 pub mod TreesCost
 pub mod UncountedTargets
 pub mod UnitsInOrder
@@ -245,11 +274,13 @@ pub mod UnreferencedSlots
 pub mod UnreadUnits
 pub mod ItemsOfLists
 pub mod ItemsTogether
+pub mod JoinedBeyondLimits
 pub mod JoinedResources
 pub mod KeptUnits
 pub mod Levels
 pub mod LimitsRefused
 pub mod LimitsTaken
+pub mod LocatedFields
 pub mod LocatedRegions
 pub mod MatchesPreserve
 pub mod WideAsked
@@ -258,5 +289,6 @@ pub mod MatchesTogether
 pub mod WideTermsTogether
 pub mod WorldHistories
 pub mod WorldRelations
+pub mod WorldsReleased
 pub mod WorldsTogether
 pub mod Widening

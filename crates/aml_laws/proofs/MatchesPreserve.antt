@@ -19,7 +19,7 @@ use Rattle.aml_laws.proofs.ChangesPreserve.{integer_in_preserves, integer_kept_p
 use Rattle.aml_laws.proofs.OperandsAndCallsPreserve.{held_value_preserves, value_at_leads}
 
 module _ {S : Type 0} {listed : Bool} {accesses : Accesses S} {relation : WorldRelationOf listed accesses} where
-  search_begun_preserves : (p : Value) (k : ℕ) (a : Value) (l : ℕ) (b start : Value) → Preserves relation (search_begun p k a l b start)
+  pub search_begun_preserves : (p : Value) (k : ℕ) (a : Value) (l : ℕ) (b start : Value) → Preserves relation (search_begun p k a l b start)
   unfolding search_begun
   search_begun_preserves p k a l b start = then_preserves _ _ (settle_preserves _) (λ o. then_preserves _ _ (settle_preserves _) (λ x. then_preserves _ _ (settle_preserves _) (λ y. then_preserves _ _ (integer_in_preserves start) (λ i. then_preserves _ _ (size_held_preserves _) (λ n. settle_preserves _)))))
 
@@ -28,7 +28,7 @@ module _ {S : Type 0} {listed : Bool} {accesses : Accesses S} {relation : WorldR
   held_by_preserves (element.Value v) = give_preserves _
   held_by_preserves (element.Name n scope) = unchanged_preserves _ (λ w. refl)
 
-  element_held_preserves : (o i : ℕ) → Preserves relation (element_held o i)
+  pub element_held_preserves : (o i : ℕ) → Preserves relation (element_held o i)
   unfolding element_held
   element_held_preserves o i = then_preserves _ _ (on_objects_preserves _ (element_at_keeps_kinds o i)) (λ e. held_by_preserves e)
 
@@ -36,7 +36,7 @@ module _ {S : Type 0} {listed : Bool} {accesses : Accesses S} {relation : WorldR
   unfolding meets
   meets_preserves x v = unchanged_preserves _ (λ w. refl)
 
-  value_meets_preserves : (x : Search) (v : Value) → Preserves relation (value_meets x v)
+  pub value_meets_preserves : (x : Search) (v : Value) → Preserves relation (value_meets x v)
   value_meets_preserves x value.Uninitialized = give_preserves _
   value_meets_preserves x (value.Integer n) = meets_preserves x _
   value_meets_preserves x (value.String o) = meets_preserves x _

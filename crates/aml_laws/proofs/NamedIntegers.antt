@@ -11,7 +11,7 @@ use Rattle.aml_objects.specs.declared.value.Value.TheVariants as value
 use Rattle.aml_objects.specs.declared.entry.Entry.{Entry}
 use Rattle.aml_objects.specs.declared.entry.NamedObject.{NamedObject}
 use Rattle.aml_objects.specs.declared.entry.NamedObject.TheVariants as object
-use Rattle.aml_namespace.specs.Search.{Found, found, aliased}
+use Rattle.aml_namespace.specs.Search.{Found, found}
 use Rattle.aml_meaning.specs.declared.flow.Flow.{Flow}
 use Rattle.aml_meaning.specs.declared.invocation.Invocation.TheVariants as invocation
 use Rattle.aml_meaning.specs.FieldCalls.{asked, answer_within, called_at}
@@ -22,13 +22,13 @@ use Rattle.aml_meaning.specs.State.{State}
 use Rattle.aml_meaning.specs.Tasks.{Task}
 use Rattle.aml_laws.proofs.LimitsRefused.{call_is_allowed}
 use Rattle.aml_laws.specs.BusesFound.{TellsNumber}
-use Rattle.aml_laws.specs.NamesFound.{itself}
+use Rattle.aml_laws.specs.NamesFound.{alias_path, itself}
 use Rattle.aml_laws.proofs.NamesSearched.{one_path_found}
 
 module _ {S : Type 0} (accesses : Accesses S) (ev : Task → Run S Flow) (p : List Seg) (e : Entry) (n : ℕ) (is : e.object ≡ object.Data (value.Integer n)) where
   found_at : (w : State S) → get w.names.map p ≡ Some e → found w.names.map [] (absolute p) ≡ Ok (p, e)
   unfolding resolved
-  found_at w at = one_path_found w.names.map [] (absolute p) p e (Ok (p, e)) refl refl at (itself (ap aliased is))
+  found_at w at = one_path_found w.names.map [] (absolute p) p e (Ok (p, e)) refl refl at (itself (ap alias_path is))
 
   arguments_so : (w : State S) → get w.names.map p ≡ Some e → arguments_found [] (absolute p) w ≡ (Ok 0, w)
   unfolding arguments_found entry_found give go_on ◌>>=◌

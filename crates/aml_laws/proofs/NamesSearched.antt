@@ -14,12 +14,12 @@ use Rattle.aml_objects.specs.declared.entry.Entry.{Entry}
 use Rattle.aml_objects.specs.declared.entry.NamedObject.{NamedObject}
 use Rattle.aml_objects.specs.declared.entry.NamedObject.TheVariants as object
 use Rattle.aml_namespace.specs.Namespace.{Map}
-use Rattle.aml_namespace.specs.Search.{Found, at_path, or_else, search_up, found_or_not, first_found, no_alias, target_of, by_object, through, found, aliased}
-use Rattle.aml_laws.specs.NamesFound.{IsNearest, StandsNowhere, LeadsTo, itself, target, nothing, chain}
+use Rattle.aml_namespace.specs.Search.{Found, at_path, or_else, search_up, found_or_not, first_found, no_alias, target_of, by_object, through, found}
+use Rattle.aml_laws.specs.NamesFound.{alias_path, IsNearest, StandsNowhere, LeadsTo, itself, target, nothing, chain}
 
 -- ---- an alias in one step
 
-stands_for_itself : (m : Map) (f : Found) (o : NamedObject) → aliased o ≡ None → by_object m f o ≡ Ok f
+stands_for_itself : (m : Map) (f : Found) (o : NamedObject) → alias_path o ≡ None → by_object m f o ≡ Ok f
 stands_for_itself m f (object.Alias t) e = absurd (cc e)
 stands_for_itself m f object.Scope e = refl
 stands_for_itself m f object.Device e = refl
@@ -34,7 +34,7 @@ stands_for_itself m f (object.BufferField b) e = refl
 stands_for_itself m f (object.Mutex n) e = refl
 stands_for_itself m f (object.Event n) e = refl
 
-is_no_alias : (f : Found) (o : NamedObject) → aliased o ≡ None → no_alias f o ≡ Ok f
+is_no_alias : (f : Found) (o : NamedObject) → alias_path o ≡ None → no_alias f o ≡ Ok f
 is_no_alias f (object.Alias t) e = absurd (cc e)
 is_no_alias f object.Scope e = refl
 is_no_alias f object.Device e = refl
@@ -50,7 +50,7 @@ is_no_alias f (object.Mutex n) e = refl
 is_no_alias f (object.Event n) e = refl
 
 -- an alias is one
-is_alias : (o : NamedObject) (t : List Seg) → aliased o ≡ Some t → o ≡ object.Alias t
+is_alias : (o : NamedObject) (t : List Seg) → alias_path o ≡ Some t → o ≡ object.Alias t
 is_alias (object.Alias u) t e = ap object.Alias (cc e)
 is_alias object.Scope t e = absurd (cc e)
 is_alias object.Device t e = absurd (cc e)

@@ -1,26 +1,30 @@
 -- Changes of objects keep each object, under its number, and its kind.
-use Rattle.std.specs.Prelude.{◌≡◌, ℕ, zero, suc, ◌≤◌, ◌<◌, nat_le, nat_lt, List, [], ◌∷◌, ◌++◌, length, take, slice_get, slice_set, Option, Some, None, refl}
-use Rattle.std.proofs.Common.{arith, ap, sym, ◌∙◌, subst}
+use Rattle.std.specs.Prelude.{◌≡◌, ◌⊎◌, ℕ, zero, suc, ◌≤◌, ◌<◌, nat_lt, List, [], ◌∷◌, ◌++◌, length, take, slice_get, slice_set, Option, Some, None, Ok, Err, refl}
+use Rattle.std.proofs.Common.{arith, inl, inr, ap, sym, ◌∙◌, subst}
+use Rattle.std.proofs.lemmas.Bool.{cases_lt}
+use Rattle.std.proofs.lemmas.List.{length_push}
 use Rattle.ar_space.specs.Outcome.{Outcome}
 use Rattle.ar_space.specs.Change.{Change}
 use Rattle.aml_objects.specs.declared.value.Value.{Value}
+use Rattle.aml_objects.specs.declared.value.Value.TheVariants as value
 use Rattle.aml_objects.specs.declared.object.Element.{Element}
+use Rattle.aml_objects.specs.declared.object.Element.TheVariants as element
 use Rattle.aml_objects.specs.declared.object.Object.{Object}
 use Rattle.aml_objects.specs.declared.object.Object.TheVariants as object
 use Rattle.aml_objects.specs.declared.entry.BufferField.{BufferField}
 use Rattle.aml_objects.specs.Objects.{Objects, make, make_string, make_buffer, make_package, string_at, buffer_at, elements_at, with_sized, with_buffer, write_buffer, with_string, write_string, byte_written, with_byte, write_byte, exchanged_with, with_exchanged, exchange_buffer, element_at, byte_at, element_there, element_written, with_element, write_element}
-use Rattle.aml_objects.specs.Copies.{copied}
-use Rattle.aml_objects.proofs.Copying.{copy_grows}
+use Rattle.aml_objects.specs.Copies.{string_copy, buffer_copy, value_copy, held_copy, element_copy, copies_of, whole_copy, package_copy, if_whole, whole, copied}
 use Rattle.aml_fields.specs.BufferFields.{new_buffer_field, read_buffer_field, write_buffer_field}
 use Rattle.aml_meaning.specs.declared.object_type.ObjectType.{ObjectType}
 use Rattle.aml_laws.specs.Kinds.{kind_of, kind_at, KeepsKinds}
-use Rattle.aml_laws.proofs.Preorders.{either_branch, Preorder, Respects, give_respects, settle_respects, then_respects}
+use Rattle.aml_laws.proofs.LimitsRefused.{object_made, object_refused}
+use Rattle.aml_laws.proofs.Preorders.{either_branch, Preorder, Respects, give_respects, settle_respects, stop_respects, then_respects}
 
 pub kinds_reflexive : (h : Objects) → KeepsKinds h h
-kinds_reflexive h = record { more = omega arith; kinds = λ o kind e. e }
+kinds_reflexive h = record { more = omega arith; few = λ l. l; kinds = λ o kind e. e }
 
 pub kinds_transitive : (h i j : Objects) → KeepsKinds h i → KeepsKinds i j → KeepsKinds h j
-kinds_transitive h i j f g = record { more = let a = f.more in let b = g.more in omega arith; kinds = λ o kind e. g.kinds o kind (f.kinds o kind e) }
+kinds_transitive h i j f g = record { more = let a = f.more in let b = g.more in omega arith; few = λ l. g.few (f.few l); kinds = λ o kind e. g.kinds o kind (f.kinds o kind e) }
 
 abbrev pub kinds_preorder : Preorder Objects
 kinds_preorder = record { Leads = KeepsKinds; reflexive = kinds_reflexive; transitive = kinds_transitive }
@@ -37,8 +41,8 @@ length_of_longer : (h k : Objects) → length h ≤ length (h ++ k)
 length_of_longer [] k = omega arith
 length_of_longer (x ∷ h) k = let l = length_of_longer h k in omega arith
 
-pub kinds_of_longer : (h k : Objects) → KeepsKinds h (h ++ k)
-kinds_of_longer h k = record { more = length_of_longer h k; kinds = kind_in_longer h k }
+kinds_of_longer : (h k : Objects) → (length h ≤ 262144 → length (h ++ k) ≤ 262144) → KeepsKinds h (h ++ k)
+kinds_of_longer h k few = record { more = length_of_longer h k; few = few; kinds = kind_in_longer h k }
 
 -- an object written over by one of its kind
 kind_after_set : (h : Objects) (n : ℕ) (x y : Object) → slice_get h n ≡ Some x → kind_of y ≡ kind_of x → (o : ℕ) (kind : ObjectType) → kind_at h o ≡ Some kind → kind_at (slice_set h n y) o ≡ Some kind
@@ -53,14 +57,28 @@ length_after_set [] n y = omega arith
 length_after_set (z ∷ h) zero y = omega arith
 length_after_set (z ∷ h) (suc n) y = let l = length_after_set h n y in omega arith
 
+length_before_set : (h : Objects) (n : ℕ) (y : Object) → length (slice_set h n y) ≤ length h
+length_before_set [] n y = omega arith
+length_before_set (z ∷ h) zero y = omega arith
+length_before_set (z ∷ h) (suc n) y = let l = length_before_set h n y in omega arith
+
+few_after_set : (h : Objects) (n : ℕ) (y : Object) → length h ≤ 262144 → length (slice_set h n y) ≤ 262144
+few_after_set h n y few = let l = length_before_set h n y in omega (arith, l, few)
+
 kinds_after_set : (h : Objects) (n : ℕ) (x y : Object) → slice_get h n ≡ Some x → kind_of y ≡ kind_of x → KeepsKinds h (slice_set h n y)
-kinds_after_set h n x y at is = record { more = length_after_set h n y; kinds = kind_after_set h n x y at is }
+kinds_after_set h n x y at is = record { more = length_after_set h n y; few = few_after_set h n y; kinds = kind_after_set h n x y at is }
 
 -- ---- objects that are made
 
+one_more : (h : Objects) (o : Object) → length h < 262144 → length (h ++ o ∷ []) ≤ 262144
+one_more h o room = let pushed = length_push h o in omega (arith, room, pushed)
+
+made_by_room : (o : Object) (h : Objects) → (length h < 262144) ⊎ (262144 ≤ length h) → KeepsKinds h (make o h).1
+made_by_room o h (inl room) = subst (λ (p : Outcome ℕ × Objects). KeepsKinds h p.1) (sym (object_made o h room)) (kinds_of_longer h (o ∷ []) (λ few. one_more h o room))
+made_by_room o h (inr full) = subst (λ (p : Outcome ℕ × Objects). KeepsKinds h p.1) (sym (object_refused o h full)) (kinds_reflexive h)
+
 make_keeps_kinds : (o : Object) → KeepsObjectKinds (make o)
-unfolding make
-make_keeps_kinds o = record { respects = λ h. either_branch (λ (x : Outcome ℕ × Objects). KeepsKinds h x.1) (nat_le 262144 (length h)) _ _ (kinds_reflexive h) (kinds_of_longer h (o ∷ [])) }
+make_keeps_kinds o = record { respects = λ h. made_by_room o h (cases_lt (length h) 262144) }
 
 pub make_string_keeps_kinds : (bs : List ℕ) → KeepsObjectKinds (make_string bs)
 unfolding make_string
@@ -73,9 +91,6 @@ make_buffer_keeps_kinds bs = then_respects _ _ (settle_respects _) (λ u. then_r
 pub make_package_keeps_kinds : (es : List Element) → KeepsObjectKinds (make_package es)
 unfolding make_package
 make_package_keeps_kinds es = then_respects _ _ (settle_respects _) (λ u. then_respects _ _ (make_keeps_kinds _) (λ n. give_respects _))
-
-pub copied_keeps_kinds : (v : Value) → KeepsObjectKinds (copied v)
-copied_keeps_kinds v = record { respects = λ h. subst (KeepsKinds h) (sym (copy_grows v h).1) (kinds_of_longer h (copy_grows v h).0) }
 
 -- ---- objects that are read
 
@@ -102,6 +117,53 @@ element_there_keeps_kinds o i = record { respects = kinds_reflexive }
 pub byte_at_keeps_kinds : (o i : ℕ) → KeepsObjectKinds (byte_at o i)
 unfolding byte_at
 byte_at_keeps_kinds o i = record { respects = kinds_reflexive }
+
+-- ---- objects that are copied
+
+string_copy_keeps_kinds : (o : ℕ) → KeepsObjectKinds (string_copy o)
+unfolding string_copy
+string_copy_keeps_kinds o = then_respects _ _ (string_at_keeps_kinds o) make_string_keeps_kinds
+
+buffer_copy_keeps_kinds : (o : ℕ) → KeepsObjectKinds (buffer_copy o)
+unfolding buffer_copy
+buffer_copy_keeps_kinds o = then_respects _ _ (buffer_at_keeps_kinds o) make_buffer_keeps_kinds
+
+module _ (pk : ℕ → Change Objects Value) (packs : (o : ℕ) → KeepsObjectKinds (pk o)) where
+  value_copy_keeps_kinds : (v : Value) → KeepsObjectKinds (value_copy pk v)
+  unfolding value_copy
+  value_copy_keeps_kinds value.Uninitialized = give_respects _
+  value_copy_keeps_kinds (value.Integer n) = give_respects _
+  value_copy_keeps_kinds (value.String o) = string_copy_keeps_kinds o
+  value_copy_keeps_kinds (value.Buffer o) = buffer_copy_keeps_kinds o
+  value_copy_keeps_kinds (value.Package o) = packs o
+  value_copy_keeps_kinds (value.Reference r) = give_respects _
+
+  element_copy_keeps_kinds : (e : Element) → KeepsObjectKinds (element_copy pk e)
+  unfolding element_copy held_copy
+  element_copy_keeps_kinds (element.Value v) = then_respects _ _ (value_copy_keeps_kinds v) (λ u. give_respects _)
+  element_copy_keeps_kinds (element.Name n s) = give_respects _
+
+  copies_keep_kinds : (es done : List Element) → KeepsObjectKinds (copies_of pk es done)
+  unfolding copies_of
+  copies_keep_kinds [] done = give_respects _
+  copies_keep_kinds (e ∷ es) done = then_respects _ _ (element_copy_keeps_kinds e) (λ c. copies_keep_kinds es (done ++ c ∷ []))
+
+  whole_copy_keeps_kinds : (o : ℕ) → KeepsObjectKinds (whole_copy pk o)
+  unfolding whole_copy
+  whole_copy_keeps_kinds o = then_respects _ _ (elements_at_keeps_kinds o) (λ es. then_respects _ _ (copies_keep_kinds es []) (λ cs. then_respects _ _ (make_keeps_kinds _) (λ n. give_respects _)))
+
+package_copy_keeps_kinds : (n o : ℕ) → KeepsObjectKinds (package_copy n o)
+unfolding package_copy
+package_copy_keeps_kinds zero o = stop_respects _
+package_copy_keeps_kinds (suc n) o = whole_copy_keeps_kinds (package_copy n) (package_copy_keeps_kinds n) o
+
+kinds_if_whole : (h : Objects) (r : Outcome Value) (h1 : Objects) → KeepsKinds h h1 → KeepsKinds h (if_whole h r h1).1
+kinds_if_whole h (Ok v) h1 k = k
+kinds_if_whole h (Err e) h1 k = kinds_reflexive h
+
+pub copied_keeps_kinds : (v : Value) → KeepsObjectKinds (copied v)
+unfolding copied whole
+copied_keeps_kinds v = record { respects = λ h. kinds_if_whole h (value_copy (package_copy 64) v h).0 (value_copy (package_copy 64) v h).1 ((value_copy_keeps_kinds (package_copy 64) (package_copy_keeps_kinds 64) v).respects h) }
 
 -- ---- objects that are written to
 
@@ -197,5 +259,13 @@ length_of_front zero i l = omega arith
 length_of_front (suc n) [] l = absurd (omega arith)
 length_of_front (suc n) (x ∷ i) l = let k = length_of_front n i (omega arith) in omega arith
 
+front_is_short : (n : ℕ) (i : Objects) → length (take n i) ≤ n
+front_is_short zero i = omega arith
+front_is_short (suc n) [] = omega arith
+front_is_short (suc n) (x ∷ i) = let l = front_is_short n i in omega arith
+
+few_in_front : (n : ℕ) (i : Objects) → n ≤ 262144 → length (take n i) ≤ 262144
+few_in_front n i few = let l = front_is_short n i in omega (arith, l, few)
+
 pub kinds_of_front : (h i : Objects) → KeepsKinds h i → KeepsKinds h (take (length h) i)
-kinds_of_front h i k = record { more = length_of_front (length h) i k.more; kinds = λ o kind e. kind_in_front h i (length h) o kind (index_of_kind h o kind e) (k.kinds o kind e) }
+kinds_of_front h i k = record { more = length_of_front (length h) i k.more; few = few_in_front (length h) i; kinds = λ o kind e. kind_in_front h i (length h) o kind (index_of_kind h o kind e) (k.kinds o kind e) }

@@ -1,6 +1,6 @@
 -- Terms that act on the target that an operand names, by itself or behind RefOf, DerefOf and Index.
-use Rattle.std.specs.Prelude.{◌≡◌, ◌⊎◌, ℕ, suc, List, Option, Some, None, Ok, Err, refl}
-use Rattle.std.proofs.Common.{inl, inr, ◌∙◌}
+use Rattle.std.specs.Prelude.{◌≡◌, ◌≢◌, ◌⊎◌, ◌≤◌, ℕ, suc, List, Option, Some, None, Ok, Err, refl}
+use Rattle.std.proofs.Common.{ap, inl, inr, ◌∙◌}
 use Rattle.ar_space.specs.Accesses.{Accesses}
 use Rattle.ar_space.specs.Change.{give, settle, go_on, ◌>>=◌}
 use Rattle.ar_space.specs.Outcome.{Outcome}
@@ -12,32 +12,43 @@ use Rattle.aml_grammar.specs.Apart.{operand_of}
 use Rattle.aml_grammar.specs.declared.opcode.Opcode.{Opcode}
 use Rattle.aml_grammar.specs.declared.opcode.Opcode.TheVariants as opcodes
 use Rattle.aml_grammar.specs.Tree.{Tree, Part, inner}
+use Rattle.aml_objects.specs.Contents.{content_in}
+use Rattle.aml_objects.specs.declared.entry.Field.{Field}
 use Rattle.aml_objects.specs.declared.value.Reference.{Reference}
 use Rattle.aml_objects.specs.declared.value.Reference.TheVariants as reference
 use Rattle.aml_objects.specs.declared.value.Value.{Value}
 use Rattle.aml_objects.specs.declared.value.Value.TheVariants as value
+use Rattle.aml_convert.specs.Conversions.{to_buffer_of}
 use Rattle.aml_meaning.specs.declared.flow.Flow.TheVariants as flow
 use Rattle.aml_meaning.specs.declared.profile.Profile.TheVariants as profiles
 use Rattle.aml_meaning.specs.declared.store_target.StoreTarget.{StoreTarget}
+use Rattle.aml_meaning.specs.declared.store_target.Stored.TheVariants as store
 use Rattle.aml_meaning.specs.declared.term_kind.EventChange.{EventChange}
 use Rattle.aml_meaning.specs.declared.term_kind.EventChange.TheVariants as changes
+use Rattle.aml_meaning.specs.declared.term_kind.TermKind.TheVariants as kinds
+use Rattle.aml_meaning.specs.declared.term_kind.WideKind.TheVariants as wide
 use Rattle.aml_meaning.specs.Evaluation.{rule}
 use Rattle.aml_meaning.specs.Events.{name_referred, event_named}
+use Rattle.aml_meaning.specs.FieldCalls.{field_written}
 use Rattle.aml_meaning.specs.Meaning.{meaning}
 use Rattle.aml_meaning.specs.Mutexes.{acquired_at, given_back_at}
-use Rattle.aml_meaning.specs.OperatorTerms.{acquire_rule, reference_rule}
+use Rattle.aml_meaning.specs.OperatorTerms.{acquire_rule, reference_rule, copy_rule}
 use Rattle.aml_meaning.specs.Readings.{path_found}
 use Rattle.aml_meaning.specs.Run.{lift}
 use Rattle.aml_meaning.specs.State.{State}
 use Rattle.aml_meaning.specs.StatementTerms.{release_rule, notify_rule}
 use Rattle.aml_meaning.specs.StoreTargets.{declaration, name_tested, reference_of}
+use Rattle.aml_meaning.specs.Stores.{copied_to}
 use Rattle.aml_meaning.specs.TargetTerms.{target_named, name_target, target_of, target_at}
 use Rattle.aml_meaning.specs.Tasks.{task, operand_value, value_at}
+use Rattle.aml_meaning.specs.Terms.{kind_of}
 use Rattle.aml_meaning.specs.WideTerms.{event_rule, wait_rule}
+use Rattle.aml_laws.specs.FieldNames.{bits_written_at}
 use Rattle.aml_laws.specs.ObjectTerms.{acquire, on_target, on_target_with, Passes, Declared, Undeclared}
-use Rattle.aml_laws.specs.OperatorTerms.{GivesValue, GivesNothing, Gives, IsRefused}
+use Rattle.aml_laws.specs.OperatorTerms.{one_to, GivesValue, GivesNothing, Gives, IsRefused}
 use Rattle.aml_laws.specs.TargetsNamed.{NamesAt, by_itself, behind, NamesNone, unfound, refused_behind, NamesGone, an_argument}
 use Rattle.aml_laws.proofs.EventsNamed.{argument_is, declared_is, undeclared_is}
+use Rattle.aml_laws.proofs.FieldNamesUsed.{written_so, not_converted}
 use Rattle.aml_laws.proofs.ObjectTermsDone.{event_begins, wait_begins}
 use Rattle.aml_laws.proofs.OperandsStop.{refused_stops, nothing_stops}
 use Rattle.aml_laws.proofs.OperatorsComputed.{target_is}
@@ -158,6 +169,57 @@ module _ {S : Type 0} (accesses : Accesses S) (scope : List Seg) (depth : ℕ) w
         λ e is. (term_begins accesses (task scope depth (on_target_with opcodes.Notify p x))).paid w steps ∙ notify_stops e (refused_stops accesses scope depth x between e after is),
         λ is. (term_begins accesses (task scope depth (on_target_with opcodes.Notify p x))).paid w steps ∙ notify_stops (refusal.Evaluation NoValue) (nothing_stops accesses scope depth x between after is),
       )
+
+  -- ---- CopyObject
+
+  module _ (x : Tree) (p : Part) (w : State S) (steps : ℕ) (v : Value) (between : State S × ℕ) (gives : GivesValue accesses scope depth x (w, steps) v between) where
+    abbrev copy : Tree
+    copy = one_to opcodes.CopyObject x p
+
+    begins : meaning accesses (task scope depth copy) (w, suc steps) ≡ rule accesses (meaning accesses) (task scope depth copy) (w, steps)
+    begins = (term_begins accesses (task scope depth copy)).paid w steps
+
+    module _ (t : StoreTarget) (after : State S × ℕ) (names : NamesAt accesses scope depth between p t after) where
+      named_so : target_at (meaning accesses) scope depth copy 1 between ≡ (Ok t, after)
+      named_so = named_at copy 1 between.0 between.1 p t after refl names
+
+      copy_so : (end : State S) → copied_to t v after.0 ≡ (Ok store.Done, end) → rule accesses (meaning accesses) (task scope depth copy) (w, steps) ≡ (Ok (flow.Value v), (end, after.1))
+      unfolding rule copy_rule value_at operand_value settle lift give go_on ◌>>=◌
+      copy_so end is = rw (gives, named_so, is) refl
+
+      copy_stops : (e : Refusal) (end : State S) → copied_to t v after.0 ≡ (Err e, end) → rule accesses (meaning accesses) (task scope depth copy) (w, steps) ≡ (Err e, (end, after.1))
+      unfolding rule copy_rule value_at operand_value settle lift go_on ◌>>=◌
+      copy_stops e end is = rw (gives, named_so, is) refl
+
+      pub copies_at : (end : State S) → (copied_to t v after.0 ≡ (Ok store.Done, end) → GivesValue accesses scope depth copy (w, suc steps) v (end, after.1)) × ((e : Refusal) → copied_to t v after.0 ≡ (Err e, end) → IsRefused accesses scope depth copy (w, suc steps) e (end, after.1))
+      copies_at end = (λ is. begins ∙ copy_so end is, λ e is. begins ∙ copy_stops e end is)
+
+      module _ (f : Field) (there : State S) (finds : copied_to t v after.0 ≡ (Ok (store.Field f), there)) where
+        write_so : (end : State S × ℕ) → field_written accesses (meaning accesses) depth f v (there, after.1) ≡ (Ok tt, end) → rule accesses (meaning accesses) (task scope depth copy) (w, steps) ≡ (Ok (flow.Value v), end)
+        unfolding rule copy_rule value_at operand_value settle lift give go_on ◌>>=◌
+        write_so end is = rw (gives, named_so, finds, is) refl
+
+        write_stops : (e : Refusal) (end : State S × ℕ) → field_written accesses (meaning accesses) depth f v (there, after.1) ≡ (Err e, end) → rule accesses (meaning accesses) (task scope depth copy) (w, steps) ≡ (Err e, end)
+        unfolding rule copy_rule value_at operand_value settle lift go_on ◌>>=◌
+        write_stops e end is = rw (gives, named_so, finds, is) refl
+
+        pub writes_at : (bytes : List ℕ) (end : State S × ℕ) → to_buffer_of there.width (content_in there.objects v) ≡ Ok bytes
+            → (bits_written_at accesses depth f bytes (there, after.1) ≡ (Ok tt, end) → GivesValue accesses scope depth copy (w, suc steps) v end)
+            × ((e : Refusal) → bits_written_at accesses depth f bytes (there, after.1) ≡ (Err e, end) → IsRefused accesses scope depth copy (w, suc steps) e end)
+        writes_at bytes end converts = (
+          λ is. begins ∙ write_so end (written_so accesses depth f v (there, after.1) bytes (Ok tt) end converts is),
+          λ e is. begins ∙ write_stops e end (written_so accesses depth f v (there, after.1) bytes (Err e) end converts is),
+        )
+
+        pub converts_not : (e : Refusal) → to_buffer_of there.width (content_in there.objects v) ≡ Err e → IsRefused accesses scope depth copy (w, suc steps) e (there, after.1)
+        converts_not e is = begins ∙ write_stops e (there, after.1) (not_converted accesses depth f v (there, after.1) e is)
+
+    no_copy : (e : Refusal) (after : State S × ℕ) → target_at (meaning accesses) scope depth copy 1 between ≡ (Err e, after) → rule accesses (meaning accesses) (task scope depth copy) (w, steps) ≡ (Err e, after)
+    unfolding rule copy_rule value_at operand_value settle go_on ◌>>=◌
+    no_copy e after is = rw (gives, is) refl
+
+    pub copies_to_nothing : (e : Refusal) (after : State S × ℕ) → NamesNone accesses scope depth between p e after → IsRefused accesses scope depth copy (w, suc steps) e after
+    copies_to_nothing e after none = begins ∙ no_copy e after (none_at copy 1 between.0 between.1 p e after refl none)
 
   -- ---- events
 

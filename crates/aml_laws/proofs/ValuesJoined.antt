@@ -1,5 +1,5 @@
 -- What Concatenate, Mid and ToString form.
-use Rattle.std.specs.Prelude.{◌≡◌, ◌≢◌, ◌⊎◌, ◌<◌, ◌≤◌, ◌-◌, ◌+◌, ◌==◌, ℕ, suc, min, List, [], ◌++◌, length, take, drop, slice_get, get_or, Bool, true, false, Some, Ok, refl}
+use Rattle.std.specs.Prelude.{◌≡◌, ◌≢◌, ◌⊎◌, ◌<◌, ◌≤◌, ◌-◌, ◌+◌, ◌==◌, ℕ, suc, min, List, [], ◌++◌, length, take, drop, slice_get, get_or, Bool, true, false, Some, Ok, Err, refl}
 use Rattle.std.specs.List.{before_first, position_or_len}
 use Rattle.std.proofs.Common.{inl, inr, arith, ap, sym, subst, ◌∙◌, append_assoc, length-drop}
 use Rattle.std.proofs.lemmas.List.{take-append-drop, length-take, get_or-take, get_or-drop, drop_all}
@@ -8,6 +8,8 @@ use Rattle.std.proofs.lemmas.Option.{slice_get_within, slice_get-get_or, get_or_
 use Rattle.std.proofs.lemmas.Bool.{eqb-true, cases_lt}
 use Rattle.ar_space.specs.declared.integer_width.IntegerWidth.{IntegerWidth}
 use Rattle.ar_space.specs.Accesses.{Accesses}
+use Rattle.ar_space.specs.declared.refusal.Refusal.TheVariants as refusal
+use Rattle.ar_space.specs.declared.refusal.EvaluationFault.TheVariants.{ObjectLimit}
 use Rattle.ar_space.specs.Change.{give, settle, go_on, ◌>>=◌}
 use Rattle.ar_space.specs.Outcome.{Outcome}
 use Rattle.ar_space.specs.Outcome as outcome
@@ -32,11 +34,14 @@ use Rattle.aml_meaning.specs.WideOperations.{string_text, string_in, middle_cont
 use Rattle.aml_meaning.specs.WideTerms.{formed_at, to_string_rule, middle_rule}
 use Rattle.aml_meaning.specs.Evaluation.{rule}
 use Rattle.aml_meaning.specs.Meaning.{meaning}
-use Rattle.aml_laws.specs.OperatorTerms.{two_to, StoresTo, GivesValue}
+use Rattle.aml_laws.specs.MatchedValues.{Exceeds}
+use Rattle.aml_laws.specs.OperatorTerms.{two_to, StoresTo, GivesValue, IsRefused}
 use Rattle.aml_laws.specs.StoreTerms.{FormsTo}
 use Rattle.aml_laws.specs.TestTerms.{TwoValues}
 use Rattle.aml_laws.specs.JoinedTerms.{Fits, IsJoined, strings, buffers, integers, IsNew, new_string, new_buffer, middle, IsPart, TakesPart, HasBytes, of_string, of_buffer, of_integer, with_object, TakesText, IsTextOf}
 use Rattle.aml_laws.proofs.TreesCost.{term_begins}
+use Rattle.aml_laws.proofs.BeyondLimits.{no_string_made}
+use Rattle.aml_laws.proofs.LimitsRefused.{no_buffer_made}
 use Rattle.aml_laws.proofs.LimitsTaken.{string_made, buffer_made}
 use Rattle.aml_laws.proofs.OperatorsComputed.{target_is, stored_at, two_gives}
 use Rattle.aml_laws.proofs.TestsTold.{converted_so}
@@ -65,7 +70,7 @@ joined_so width _ _ _ _ (buffers s t second is) = (rw is refl, refl)
 joined_so width _ _ _ _ (integers n m s t second is first other) = let a : integer_bytes width n ≡ s = cc first in let b : integer_bytes width m ≡ t = cc other in (rw (is, a, b) refl, refl)
 
 module _ {S : Type 0} (w : State S) (v u : Value) (c : Content) (bytes : List ℕ) (joins : IsJoined w.width (content_in w.objects v) (content_in w.objects u) c bytes) where
-  joined_is : joined v u w ≡ on_objects (made_of c) w
+  pub joined_is : joined v u w ≡ on_objects (made_of c) w
   unfolding joined joined_contents go_on ◌>>=◌
   joined_is = rw (joined_so w.width (content_in w.objects v) (content_in w.objects u) c bytes joins).0 refl
 
@@ -106,6 +111,12 @@ middle_so width _ b d i n _ _ (of_string s) starts counts = (rw (starts, counts)
 middle_so width _ b d i n _ _ (of_buffer s) starts counts = (rw (starts, counts) refl, λ bytes. refl)
 middle_so width _ b d i n _ _ (of_integer m s is) starts counts = let same : integer_bytes width m ≡ s = cc is in (rw (starts, counts, same) refl, λ bytes. refl)
 
+part_not_made : {S : Type 0} (w : State S) (width : IntegerWidth) (c : Content) (whole bytes : List ℕ) (made : List ℕ → Content) → HasBytes width c whole made → Exceeds w bytes → on_objects (made_of (made bytes)) w ≡ (Err (refusal.Evaluation ObjectLimit), w)
+unfolding on_objects
+part_not_made w width _ _ bytes _ (of_string s) exceeds = rw (no_string_made bytes w.objects exceeds) refl
+part_not_made w width _ _ bytes _ (of_buffer s) exceeds = rw (no_buffer_made bytes w.objects exceeds) refl
+part_not_made w width _ _ bytes _ (of_integer n s is) exceeds = rw (no_buffer_made bytes w.objects exceeds) refl
+
 module _ {S : Type 0} (accesses : Accesses S) (scope : List Seg) (depth : ℕ) (x y z : Tree) (w : State S) (steps : ℕ) (v : Value) (i n : ℕ) (after : State S × ℕ) (h : TakesPart accesses scope depth x y z (w, steps) v i n after) (whole : List ℕ) (made : List ℕ → Content) (has : HasBytes after.0.width (content_in after.0.objects v) whole made) where
   abbrev taken : List ℕ
   taken = take n (drop i whole)
@@ -129,8 +140,24 @@ module _ {S : Type 0} (accesses : Accesses S) (scope : List Seg) (depth : ℕ) (
     middle_gives : GivesValue accesses scope depth (middle x y z p) (w, suc steps) r (end, after.1)
     middle_gives = (term_begins accesses (task scope depth (middle x y z p))).paid w steps ∙ middle_ruled
 
+  module _ (p : Part) (exceeds : Exceeds after.0 taken) where
+    middle_too_long : middle_in v h.u h.r after.0 ≡ (Err (refusal.Evaluation ObjectLimit), after.0)
+    middle_too_long = middle_is ∙ part_not_made after.0 after.0.width (content_in after.0.objects v) whole taken made has exceeds
+
+    middle_stops_by : middle_rule accesses (meaning accesses) scope depth (middle x y z p) (w, steps) ≡ (Err (refusal.Evaluation ObjectLimit), after)
+    unfolding middle_rule two_values value_at operand_value settle lift give go_on ◌>>=◌
+    middle_stops_by = rw (h.operands.first, h.operands.second, h.third, middle_too_long) refl
+
+    middle_stops : rule accesses (meaning accesses) (task scope depth (middle x y z p)) (w, steps) ≡ (Err (refusal.Evaluation ObjectLimit), after)
+    unfolding rule
+    middle_stops = asked_in_wide opcodes.Mid w steps h.wide (middle_rule accesses (meaning accesses) scope depth (middle x y z p)) ∙ middle_stops_by
+
+    middle_refused : IsRefused accesses scope depth (middle x y z p) (w, suc steps) (refusal.Evaluation ObjectLimit) after
+    middle_refused = (term_begins accesses (task scope depth (middle x y z p))).paid w steps ∙ middle_stops
+
   pub part_taken : (bytes : List ℕ) × IsPart i n whole bytes × ((r : Value) (formed end : State S) (p : Part) → Fits after.0 bytes → IsNew after.0 (made bytes) r formed → StoresTo scope p r formed end → GivesValue accesses scope depth (middle x y z p) (w, suc steps) r (end, after.1))
-  part_taken = (taken, part_is i n whole, middle_gives)
+      × ((p : Part) → Exceeds after.0 bytes → IsRefused accesses scope depth (middle x y z p) (w, suc steps) (refusal.Evaluation ObjectLimit) after)
+  part_taken = (taken, part_is i n whole, middle_gives, middle_refused)
 
 -- ---- ToString
 
@@ -210,6 +237,23 @@ module _ {S : Type 0} (accesses : Accesses S) (scope : List Seg) (depth : ℕ) (
     string_gives : GivesValue accesses scope depth (two_to opcodes.ToString x y p) (w, suc steps) (value.String (length after.0.objects)) (end, after.1)
     string_gives = (term_begins accesses (task scope depth (two_to opcodes.ToString x y p))).paid w steps ∙ string_ruled
 
+  module _ (p : Part) (exceeds : Exceeds after.0 (cut n bytes)) where
+    string_too_long : string_in h.v h.u after.0 ≡ (Err (refusal.Evaluation ObjectLimit), after.0)
+    unfolding string_in string_text on_objects go_on ◌>>=◌
+    string_too_long = rw (string_so, no_string_made (cut n bytes) after.0.objects exceeds) refl
+
+    string_stops_by : to_string_rule accesses (meaning accesses) scope depth (two_to opcodes.ToString x y p) (w, steps) ≡ (Err (refusal.Evaluation ObjectLimit), after)
+    unfolding to_string_rule two_values value_at operand_value settle lift give go_on ◌>>=◌
+    string_stops_by = rw (h.operands.first, h.operands.second, string_too_long) refl
+
+    string_stops : rule accesses (meaning accesses) (task scope depth (two_to opcodes.ToString x y p)) (w, steps) ≡ (Err (refusal.Evaluation ObjectLimit), after)
+    unfolding rule
+    string_stops = asked_in_wide opcodes.ToString w steps h.wide (to_string_rule accesses (meaning accesses) scope depth (two_to opcodes.ToString x y p)) ∙ string_stops_by
+
+    string_refused : IsRefused accesses scope depth (two_to opcodes.ToString x y p) (w, suc steps) (refusal.Evaluation ObjectLimit) after
+    string_refused = (term_begins accesses (task scope depth (two_to opcodes.ToString x y p))).paid w steps ∙ string_stops
+
   pub text_taken : (text : List ℕ) × IsTextOf n bytes text
       × ((p : Part) (end : State S) → Fits after.0 text → FormsTo scope p (value.String (length after.0.objects)) (with_object after.0 (object.String text)) end → GivesValue accesses scope depth (two_to opcodes.ToString x y p) (w, suc steps) (value.String (length after.0.objects)) (end, after.1))
-  text_taken = (cut n bytes, text_is n bytes, string_gives)
+      × ((p : Part) → Exceeds after.0 text → IsRefused accesses scope depth (two_to opcodes.ToString x y p) (w, suc steps) (refusal.Evaluation ObjectLimit) after)
+  text_taken = (cut n bytes, text_is n bytes, string_gives, string_refused)

@@ -140,7 +140,7 @@ module _ {S : Type 0} {listed : Bool} {accesses : Accesses S} {relation : WorldR
 
   -- ---- whether the terms are evaluated
 
-  asked_for_preserves : (op : Opcode) → Preserves relation (asked_for op)
+  pub asked_for_preserves : (op : Opcode) → Preserves relation (asked_for op)
   unfolding asked_for
   asked_for_preserves op = unchanged_preserves _ (λ w. refl)
 

@@ -1,6 +1,6 @@
 -- What the objects of the address of a PCI function answer: `_SEG`, `_BBN` and `_ADR` (ACPI 6.5, 6.1.1, 6.5.5 and
 -- 6.5.6).
-use Rattle.std.specs.Prelude.{◌≡◌, ◌≤◌, ◌<◌, ◌+◌, ◌%◌, ℕ, List, [], Some, Ok, Err}
+use Rattle.std.specs.Prelude.{◌≡◌, ◌≢◌, ◌≤◌, ◌<◌, ◌+◌, ◌%◌, ℕ, List, [], Some, Ok, Err}
 use Rattle.std.specs.FinMap.{get}
 use Rattle.ar_space.specs.declared.refusal.Refusal.{Refusal}
 use Rattle.ar_space.specs.declared.refusal.Refusal.TheVariants as refusal
@@ -27,6 +27,7 @@ use Rattle.aml_laws.specs.DeclaredObjects.{method_of}
 use Rattle.aml_laws.specs.FieldNames.{IsField, bits_read_at}
 use Rattle.aml_laws.specs.Histories.{numbered_entry}
 use Rattle.aml_laws.specs.NamesFound.{LeadsTo}
+use Rattle.aml_laws.specs.StoredParts.{HoldsNothing}
 
 -- what is asked for at a path is this object, which stands there or where an alias leads to
 pub record IsAskedAt {S : Type 0} (w : State S) (path at : List Seg) (o : NamedObject) : Type 0 where
@@ -63,3 +64,12 @@ pub data ObjectAnswers {S : Type 0} (accesses : Accesses S) (depth : ℕ) (s : S
       → ObjectAnswers accesses depth s at (method_of flags body) r after
   of_refused_method : (flags : ℕ) (body : List ℕ) (e : Refusal) (after : State S × ℕ) → flags % 8 ≡ 0 → method_value (meaning accesses) depth at body [] s ≡ (Err e, after)
       → ObjectAnswers accesses depth s at (method_of flags body) (Err e) after
+
+-- what is asked for at a path holds neither a value nor the bits of a field, and is no control method: so a Device or a
+-- mutex
+pub record HoldsNoValueAt {S : Type 0} (w : State S) (path : List Seg) : Type 0 where
+  pub place : List Seg
+  pub object : NamedObject
+  pub asked_there : IsAskedAt w path place object
+  pub holds_nothing : HoldsNothing object
+  pub no_method : (m : Method) → object ≢ named.Method m

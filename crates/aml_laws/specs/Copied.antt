@@ -26,3 +26,10 @@ mutual
     no_elements : AreCopies first objects [] []
     copied_value : (v u : Value) (es fs : List Element) → IsCopy first objects v u → AreCopies first objects es fs → AreCopies first objects (element.Value v ∷ es) (element.Value u ∷ fs)
     same_name : (n : Name) (scope : List Seg) (es fs : List Element) → AreCopies first objects es fs → AreCopies first objects (element.Name n scope ∷ es) (element.Name n scope ∷ fs)
+
+-- The object with a number stands in a value at a place: this counts, from the outermost package inwards, the elements that lead to it.
+pub data StandsAt (objects : Objects) : List ℕ → ℕ → Value → Type 0 where
+  a_string : (o : ℕ) → StandsAt objects [] o (value.String o)
+  a_buffer : (o : ℕ) → StandsAt objects [] o (value.Buffer o)
+  a_package : (o : ℕ) → StandsAt objects [] o (value.Package o)
+  inside : (i : ℕ) (place : List ℕ) (o p : ℕ) (es : List Element) (v : Value) → slice_get objects p ≡ Some (object.Package es) → slice_get es i ≡ Some (element.Value v) → StandsAt objects place o v → StandsAt objects (i ∷ place) o (value.Package p)

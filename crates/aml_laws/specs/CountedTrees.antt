@@ -1,9 +1,13 @@
 -- Evaluation that counts all trees that begin: terms, a RefOf or a DerefOf that names a target, and names in packages. Each of them takes a
 -- step where it begins, and nothing else takes one; so they are counted by the steps that a run takes.
 use Rattle.std.specs.Prelude.{◌≤◌, ◌+◌, ◌-◌, ℕ}
+use Rattle.ar_space.specs.Accesses.{Accesses}
 use Rattle.ar_space.specs.Change.{◌>>◌, ◌>>=◌}
+use Rattle.aml_meaning.specs.declared.flow.Flow.{Flow}
 use Rattle.aml_meaning.specs.State.{State}
 use Rattle.aml_meaning.specs.Run.{Run}
+use Rattle.aml_meaning.specs.Tasks.{Task}
+use Rattle.aml_meaning.specs.Meaning.{meaning}
 use Rattle.aml_laws.specs.Counted.{without_counter, with_counter, begin}
 
 -- how many trees have begun
@@ -28,3 +32,7 @@ followed_by m k = m >>= k
 
 abbrev pub both_counted : {S A B : Type 0} → Run S A → (A → Run S B) → Run (S × ℕ) B
 both_counted m k = counting_trees m >>= (λ a. counting_trees (k a))
+
+-- `meaning`, with the trees counted
+abbrev pub counted_trees : {S : Type 0} → Accesses S → Task → Run (S × ℕ) Flow
+counted_trees accesses t = counting_trees (meaning accesses t)

@@ -25,7 +25,7 @@ use Rattle.aml_laws.specs.TargetsNamed.{IsReferring, EndsAt}
 
 -- What an operand leads to in the end, and what asking it leaves: a RefOf, a DerefOf or an Index is evaluated, and its
 -- value leads there; a local, an argument or a name leads there by what it holds; a name that holds no value is what it
--- is declared as, and a slot that holds none, and Debug, are themselves.
+-- is declared as, a slot that holds none leads to no value, and Debug to itself.
 pub data AsksOf {S : Type 0} (accesses : Accesses S) (scope : List Seg) (depth : ℕ) (s : State S × ℕ) : Part → Referent → State S × ℕ → Type 0 where
   of_term : (u : Tree) (v : Value) (x : Referent) (after : State S × ℕ) → IsReferring u → GivesValue accesses scope depth u s v after → EndsAt after.0 v x → AsksOf accesses scope depth s (inner u) x after
   of_holder : (p : Part) (t : StoreTarget) (v : Value) (x : Referent) → NamesTarget scope s.0 p t → TargetHolds s.0 t v → EndsAt s.0 v x → AsksOf accesses scope depth s p x s
@@ -33,8 +33,8 @@ pub data AsksOf {S : Type 0} (accesses : Accesses S) (scope : List Seg) (depth :
   of_empty_slot : (p : Part) (slot : Slot) → NamesTarget scope s.0 p (targets.Slot slot) → SlotIsEmpty s.0 slot → AsksOf accesses scope depth s p (referent.Value value.Uninitialized) s
   of_debug : (p : Part) → NamesTarget scope s.0 p targets.Nowhere → AsksOf accesses scope depth s p (referent.Object types.DebugObject) s
 
--- what has no size, and how SizeOf of it is refused: the declaration of what holds no value, as that of a field, and a
--- byte; an integer; and no value
+-- what has no size, and how SizeOf of it is refused: the declaration of what holds no value, as that of a field, a byte,
+-- and Debug; an integer; and no value
 pub data HasNoSize : Referent → Refusal → Type 0 where
   a_type : (t : ObjectType) → HasNoSize (referent.Object t) (refusal.Value WrongType)
   an_integer : (n : ℕ) → HasNoSize (referent.Value (value.Integer n)) (refusal.Value WrongType)

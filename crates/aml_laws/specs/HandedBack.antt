@@ -5,15 +5,15 @@ use Rattle.ar_space.specs.declared.integer_width.IntegerWidth.{IntegerWidth}
 use Rattle.aml_path.specs.declared.segment.Seg.{Seg}
 use Rattle.aml_objects.specs.declared.entry.Entry.{Entry}
 use Rattle.aml_namespace.specs.Namespace.{Map}
-use Rattle.aml_namespace.specs.Search.{aliased}
 use Rattle.aml_convert.specs.Integers.{bits_of}
 use Rattle.aml_meaning.specs.Given.{Given, Nothing, Integer, Text, Bytes, Package, Named, Reference, Givens, none, more}
+use Rattle.aml_laws.specs.NamesFound.{alias_path}
 
 -- at the path stands a name that is no alias
 pub record StandsItself (names : Map) (path : List Seg) : Type 0 where
   pub entry : Entry
   pub stands : get names path ≡ Some entry
-  pub no_alias : aliased entry.object ≡ None
+  pub no_alias : alias_path entry.object ≡ None
 
 -- integers fit the width, and each path is that of a name; a reference without a path can't be handed in
 abbrev mutual

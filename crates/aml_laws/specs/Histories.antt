@@ -47,8 +47,8 @@ pub record NothingNew {S : Type 0} (before after : State S) : Type 0 where
       → RegionAt before.names.map path number region
 
 -- From a world to another one, change by change. A name is declared where none stands, and takes the next number. A register is accessed
--- within an operation region that stood when the region was located, from when on other things may have happened: the objects of a PCI
--- address are asked then. In the wide profile alone a byte of a PCI-to-PCI bridge is read that no operation region need hold.
+-- within an operation region that stood in one of the worlds before the access: behind the world in which a region is located, the objects
+-- of a PCI address are asked. In the wide profile alone a byte of a PCI-to-PCI bridge is read that no operation region need hold.
 pub data History {S : Type 0} (accesses : Accesses S) : State S → State S → Type 0 where
   same : (w : State S) → History accesses w w
   changed : (w u v : State S) → History accesses w u → NothingNew u v → History accesses w v

@@ -16,7 +16,8 @@ kind_of (object.Package elements) = types.Package
 abbrev pub kind_at : Objects → ℕ → Option ObjectType
 kind_at objects o = option_map kind_of (slice_get objects o)
 
--- objects are made and written to; none goes, and each keeps its number and its kind
+-- objects are made and written to; none goes, each keeps its number and its kind, and they don't become more than 262,144
 pub record KeepsKinds (before after : Objects) : Type 0 where
   pub more : length before ≤ length after
+  pub few : length before ≤ 262144 → length after ≤ 262144
   pub kinds : (o : ℕ) (kind : ObjectType) → kind_at before o ≡ Some kind → kind_at after o ≡ Some kind

@@ -57,8 +57,8 @@ pub data BridgeTells {S : Type 0} (accesses : Accesses S) (seg bus dev func : �
 abbrev pub with_space : {S : Type 0} → State S × ℕ → S → State S × ℕ
 with_space s u = (record s.0 { space = u }, s.1)
 
--- What the nearest object of a name answers, of a scope and those above it, and the world then; 0 where there is
--- none. call: what the object at a path answers.
+-- What the nearest object of a name, of a scope and those above it, answers when it is asked, and the world then; 0
+-- where there is none. call: what the object at a path answers when it is asked.
 pub data PartAnswers {S : Type 0} (call : List Seg → Run S ℕ) (name : Seg) (scope : List Seg) (s : State S × ℕ) : Outcome ℕ → State S × ℕ → Type 0 where
   of_none : NoneSuch (StandsIn s.0.names.map name) scope (length scope) → PartAnswers call name scope s (Ok 0) s
   of_nearest : (k : ℕ) (r : Outcome ℕ) (after : State S × ℕ) → IsNearestSuch (StandsIn s.0.names.map name) scope k → call (take k scope ++ name ∷ []) s ≡ (r, after)

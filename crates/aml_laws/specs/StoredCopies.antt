@@ -1,7 +1,8 @@
 -- Names and locals that hold a copy of what was stored (ACPI 6.5, 19.6: CopyObject, Store).
-use Rattle.std.specs.Prelude.{◌≡◌, ◌+◌, ℕ, List, Some, length}
-use Rattle.std.specs.FinMap.{get}
+use Rattle.std.specs.Prelude.{◌≡◌, ◌+◌, ◌++◌, ℕ, List, Some, length}
+use Rattle.std.specs.FinMap.{get, insert}
 use Rattle.aml_path.specs.declared.segment.Seg.{Seg}
+use Rattle.aml_objects.specs.Objects.{Objects}
 use Rattle.aml_objects.specs.declared.entry.Entry.{Entry}
 use Rattle.aml_objects.specs.declared.entry.NamedObject.TheVariants as object
 use Rattle.aml_objects.specs.declared.value.Slot.TheVariants.{Local}
@@ -10,15 +11,21 @@ use Rattle.aml_meaning.specs.State.{State}
 use Rattle.aml_meaning.specs.Stores.{slot_put}
 use Rattle.aml_laws.specs.Copied.{IsCopy}
 
--- the value at a path is a copy that shares no object with anything that was there before
+-- The value at a path is a copy that shares no object with anything that was there before, under the number of the declaration that stood
+-- there. Nothing else of the world is another: the copy's own objects stand behind all earlier ones.
 pub record NameHoldsCopy {S : Type 0} (before after : State S) (path : List Seg) (v : Value) : Type 0 where
   pub copy : Value
   pub is : IsCopy (length before.objects) after.objects v copy
   pub entry : Entry
   pub stands : get after.names.map path ≡ Some entry
   pub holds : entry.object ≡ object.Data copy
+  pub earlier : Entry
+  pub stood : get before.names.map path ≡ Some earlier
+  pub numbered : entry.number ≡ earlier.number
+  pub made : Objects
+  pub put : after ≡ record before { names = record before.names { map = insert before.names.map path entry }; objects = before.objects ++ made }
 
--- The same of a local of the control method that runs, whose frame is the latest one: nothing but the objects and this slot is another.
+-- The same of a local of the control method that runs, whose frame is the latest one: nothing but this slot is another.
 -- What `slot_put` does the law of slots says.
 pub record LocalHoldsCopy {S : Type 0} (before after : State S) (i : ℕ) (v : Value) : Type 0 where
   pub copy : Value
@@ -26,3 +33,5 @@ pub record LocalHoldsCopy {S : Type 0} (before after : State S) (i : ℕ) (v : V
   pub frame : ℕ
   pub latest : length before.frames ≡ frame + 1
   pub put : after ≡ (slot_put frame (Local i) copy (record before { objects = after.objects })).1
+  pub made : Objects
+  pub added : after.objects ≡ before.objects ++ made

@@ -1,9 +1,10 @@
 //! How many arguments names take while bytes are read, and that evaluations keep it.
-ghost use Rattle.std.specs.Prelude.{◌≡◌, ◌++◌, ◌∷◌, ℕ, List, Some, None, Ok, Err};
+ghost use Rattle.std.specs.Prelude.{◌≡◌, ◌++◌, ◌∷◌, [], ℕ, List, take, Some, None, Ok, Err};
 ghost use Rattle.ar_space.specs.Accesses.{Accesses};
 ghost use Rattle.ar_space.specs.declared.refusal.Refusal.{Refusal};
 ghost use Rattle.aml_path.specs.declared.segment.Seg.{Seg};
-ghost use Rattle.aml_grammar.specs.Arities.{arity_at};
+ghost use Rattle.aml_path.specs.Paths.{Name};
+ghost use Rattle.aml_grammar.specs.Arities.{arity_at, found, or_path, arity_of};
 ghost use Rattle.aml_grammar.specs.declared.arities.Arity.{Arity};
 ghost use Rattle.aml_grammar.specs.Grammar.{table_reading_within};
 ghost use Rattle.aml_grammar.specs.Shape.{trees_of};
@@ -21,6 +22,8 @@ ghost use Rattle.aml_meaning.specs.Passing.{with_passed};
 ghost use Rattle.aml_meaning.specs.State.{State};
 ghost use Rattle.aml_meaning.specs.Tasks.{Task, in_turn};
 ghost use Rattle.aml_laws.specs.CountsTold.{declared_with, named_with, NoneDeclared, NoneNamed};
+ghost use Rattle.aml_laws.specs.CountsTold.{IsNearestCount, HasNoCount};
+ghost use Rattle.aml_laws.specs.NamesWritten.{single, StandsFor};
 
 /// A path takes as many arguments as the name that was declared there last: a control method that is declared again,
 /// and one whose flags are read behind its name, with the later count. Where no name was declared there, it takes as
@@ -36,11 +39,41 @@ pub fn a_path_takes_the_arguments_that_are_told_last()
         arity_at told path ≡ None }
 {}
 
-/// The terms of a table are read within the levels that are allowed, and with the arguments that the world has kept of
-/// names: those of the predefined names, and those that the tables before told of their names and Externals. Behind
-/// them the world keeps those that this table tells, too, and nothing else changes before the terms are evaluated.
-/// A table that can't be read is refused so, and changes nothing but that all mutexes are free. A table that is read
-/// as if no other one were loaded, and one that tells later tables and bodies nothing, are refused by this.
+/// While bytes are read, a name of one segment and without a prefix takes as many arguments as its segment below the
+/// longest front of the scope below which that has a count: the scope itself is the first, and the root the last. Any
+/// other name takes as many as the one path for which it stands (`StandsFor`). A name without a count there takes none.
+/// Which count a path has `a_path_takes_the_arguments_that_are_told_last` says. A search that ends before the root,
+/// one that is made for each name, and a name without a count that takes an argument are refused by this.
+pub fn a_name_takes_the_arguments_of_the_nearest_count()
+    ensures nearest { (told : List Arity) (scope path : List Seg) (s : Seg) (k count : ℕ) →
+        IsNearestCount told scope (s ∷ []) k count → arity_of told scope (single s) path ≡ count }
+    ensures nowhere { (told : List Arity) (scope path : List Seg) (s : Seg) → HasNoCount told scope (s ∷ []) →
+        arity_of told scope (single s) path ≡ 0 }
+    ensures one_path { (told : List Arity) (scope path : List Seg) (name : Name) (count : ℕ) →
+        StandsFor scope name path → arity_at told path ≡ Some count → arity_of told scope name path ≡ count }
+    ensures no_count { (told : List Arity) (scope path : List Seg) (name : Name) → StandsFor scope name path →
+        arity_at told path ≡ None → arity_of told scope name path ≡ 0 }
+{}
+
+/// While bytes are read, the list of a Scope is read in the path at which its name has a count: a name of one segment
+/// and without a prefix below the longest front of the scope, as above. Where that has none, and for any other name,
+/// it is the path for which the name stands. A list that is always read at that path is refused by this.
+pub fn the_list_of_a_scope_is_read_at_the_nearest_count()
+    ensures nearest { (told : List Arity) (scope path : List Seg) (s : Seg) (k count : ℕ) →
+        IsNearestCount told scope (s ∷ []) k count →
+        or_path path (found told scope (single s) path) ≡ take k scope ++ s ∷ [] }
+    ensures nowhere { (told : List Arity) (scope path : List Seg) (s : Seg) → HasNoCount told scope (s ∷ []) →
+        or_path path (found told scope (single s) path) ≡ path }
+    ensures one_path { (told : List Arity) (scope path : List Seg) (name : Name) → StandsFor scope name path →
+        or_path path (found told scope name path) ≡ path }
+{}
+
+/// The terms of a table are read within the levels that are allowed, and with the numbers of arguments that the world
+/// has kept for names: those of the predefined names, and those that the tables before told of their names and
+/// Externals. Behind them the world keeps those that this table tells, too, and nothing else changes before the terms
+/// are evaluated. A table that can't be read is refused so, and changes nothing but that all mutexes are free. A table
+/// that is read as if no other one were loaded, and one that tells later tables and bodies nothing, are refused by
+/// this.
 pub fn a_table_is_read_with_what_was_told_before_it<S>()
     ensures read { (w : State S) (bytes : List ℕ) (ts : List Tree) (told : List Arity) →
         table_reading_within w.nesting.levels bytes w.arities ≡ Ok (ts, told) →

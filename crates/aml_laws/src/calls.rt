@@ -129,12 +129,12 @@ pub fn a_call_evaluates_its_arguments_in_turn<S>()
         (call_of n (x ∷ xs)) (w, suc steps) (refusal.Evaluation ArityChanged) (w, steps) }
 {}
 
-/// The body of a control method is read as a body, so that a Return may stand in it, in the path of its control
-/// method, within the levels that are allowed, and with the arguments that names take where it is called. Where it
-/// can't be read the call is refused so. In it a name takes as many arguments as the control method that stands at
-/// its path, or to which an alias there leads; none where something else stands; and where nothing stands, as many as
-/// an External told last, which is not known where none told of it. Names that are declared while a table is
-/// evaluated are among them.
+/// The body of a control method is read as a body, so that a Return may stand in it, in the path of its control method,
+/// within the levels that are allowed, and with the numbers of arguments that names take where it is called. Where it
+/// can't be read the call is refused so. In it a name takes as many arguments as the control method that stands at its
+/// path, or to which an alias there leads; none where something else stands; and where nothing stands, as many as an
+/// External told last, which is not known where none told of it. Names that are declared while a table is evaluated are
+/// among them.
 pub fn a_body_is_read_under_its_own_path<S>()
     ensures read { (w : State S) (p : List Seg) (body : List ℕ) (ts : List Tree) →
         reading_within w.nesting.levels body p true (body_arities w) ≡ Ok ts →

@@ -29,10 +29,10 @@ pub fn strings_and_buffers_hold_what_is_written_out<S>()
         ) }
 {}
 
-/// A Package forms a new object of the elements that are written out, in their order, each evaluated before the next,
-/// and of uninitialized ones behind them up to as many as it counts; a VarPackage does so with the count that its
-/// first operand gives (ACPI 6.5, 19.6: Package). A name in it isn't evaluated: it stays a name. Elements in the
-/// other order, and uninitialized ones in front, are refused by this.
+/// A Package forms a new object of the elements that are written out, as many as are counted, in their order, each
+/// evaluated before the next, and of uninitialized ones behind them where fewer are written out; a VarPackage does so
+/// with the count that its first operand gives (ACPI 6.5, 19.6: Package). A name in it isn't evaluated: it stays a
+/// name. Elements in the other order, and uninitialized ones in front, are refused by this.
 pub fn packages_hold_their_elements_in_order<S>()
     ensures counted { (accesses : Accesses S) (scope : List Seg) (depth n : ℕ) (ts : Trees) (w : State S) (steps : ℕ)
         (es : List Element) (after : State S × ℕ) → GivesElements accesses scope depth n ts (w, steps) es after →
@@ -53,11 +53,12 @@ pub fn packages_hold_their_elements_in_order<S>()
         ) }
 {}
 
-/// A Package and a VarPackage are refused as the first of their elements that is refused, where the elements in front
-/// of it were evaluated from left to right, once the count is known; and as `NoValue` at an element that gives
-/// nothing, as a call of a control method that comes to its end, and as `OutOfSteps` at a name for which no step is
-/// left. No element behind it is evaluated, and no package is formed: the world and the steps are as that element
-/// left them (ACPI 6.5, 19.6: Package). An element that is uninitialized where it is refused is refused by this.
+/// A Package and a VarPackage are refused as the first of their elements, as many as are counted, that is refused,
+/// where the elements in front of it were evaluated from left to right, once the count is known; and as `NoValue` at an
+/// element that gives nothing, as a call of a control method that comes to its end, and as `OutOfSteps` at a name for
+/// which no step is left. No element behind it is evaluated, and no package is formed: the world and the steps are as
+/// that element left them (ACPI 6.5, 19.6: Package). An element that is uninitialized where it is refused is refused by
+/// this.
 pub fn a_package_is_refused_as_its_elements_are<S>()
     ensures counted { (accesses : Accesses S) (scope : List Seg) (depth n : ℕ) (ts : Trees) (w : State S) (steps : ℕ)
         (e : Refusal) (after : State S × ℕ) → GivesNoElements accesses scope depth n ts (w, steps) e after →

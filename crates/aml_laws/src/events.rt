@@ -71,8 +71,9 @@ pub fn what_is_no_event_takes_no_signal<S>()
         waited (Some e.number) timeout w ≡ (Err (refusal.Value WrongType), w)) }
 {}
 
-/// Signals that no Wait took outlive the table or the answer in which they were given: where it ends the event counts
-/// what its last term left, though mutexes are free then.
+/// Signals that no Wait took outlive the table or the answer in which they were given: where it ends, all mutexes are
+/// released, and this leaves what the event counts. That it ends with the world that its terms left
+/// `a_table_leaves_what_its_terms_left` and `an_answer_leaves_what_its_evaluation_left` say.
 #[tactic(auto, using(crate::proofs::EventsCounted::signals_outlive_an_answer))]
 pub fn signals_outlive_an_answer<S>()
     ensures tables { (path : List Seg) (number count : ℕ) (accesses : Accesses S) (bytes : List ℕ) (steps : ℕ)

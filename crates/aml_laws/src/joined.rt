@@ -2,6 +2,7 @@
 ghost use Rattle.std.specs.Prelude.{◌≡◌, ℕ, suc, List, length, Ok};
 ghost use Rattle.ar_space.specs.declared.refusal.Refusal.{Refusal};
 ghost use Rattle.ar_space.specs.declared.refusal.Refusal.TheVariants as refusal;
+ghost use Rattle.ar_space.specs.declared.refusal.EvaluationFault.TheVariants.{ObjectLimit};
 ghost use Rattle.ar_space.specs.declared.refusal.ValueFault.TheVariants.{WrongType};
 ghost use Rattle.ar_space.specs.Accesses.{Accesses};
 ghost use Rattle.aml_path.specs.declared.segment.Seg.{Seg};
@@ -14,6 +15,7 @@ ghost use Rattle.aml_objects.specs.declared.value.Value.TheVariants as value;
 ghost use Rattle.aml_convert.specs.Concatenation.{resources_joined};
 ghost use Rattle.aml_meaning.specs.State.{State};
 ghost use Rattle.aml_laws.specs.OperatorTerms.{two_to, StoresTo, GivesValue, IsRefused};
+ghost use Rattle.aml_laws.specs.MatchedValues.{Exceeds};
 ghost use Rattle.aml_laws.specs.StoreTerms.{FormsTo};
 ghost use Rattle.aml_laws.specs.StoredParts.{IsNoData};
 ghost use Rattle.aml_laws.specs.TestTerms.{TwoValues};
@@ -64,19 +66,22 @@ pub fn what_cannot_be_joined_is_refused<S>()
 
 /// Mid, in the wide profile, gives a new string, or a new buffer, of the bytes from its index on, as many as its length
 /// says, or up to the end; of an integer it takes the bytes of the buffer that this converts to. It stores this to its
-/// target. A part that begins at 1, or that is cut at another byte, is refused by this.
+/// target. Where there is no room for the part, it is refused as too much, and nothing is stored. A part that begins at
+/// 1, or that is cut at another byte, is refused by this.
 pub fn a_part_is_taken_from_its_index_on<S>()
     ensures { (accesses : Accesses S) (scope : List Seg) (depth : ℕ) (x y z : Tree) (w : State S) (steps : ℕ)
         (v : Value) (i n : ℕ) (after : State S × ℕ) → TakesPart accesses scope depth x y z (w, steps) v i n after →
         (whole : List ℕ) (made : List ℕ → Content) → HasBytes after.0.width (content_in after.0.objects v) whole made →
         (bytes : List ℕ) × IsPart i n whole bytes × ((r : Value) (formed end : State S) (p : Part) →
         Fits after.0 bytes → IsNew after.0 (made bytes) r formed → StoresTo scope p r formed end →
-        GivesValue accesses scope depth (middle x y z p) (w, suc steps) r (end, after.1)) }
+        GivesValue accesses scope depth (middle x y z p) (w, suc steps) r (end, after.1)) × ((p : Part) →
+        Exceeds after.0 bytes → IsRefused accesses scope depth (middle x y z p) (w, suc steps)
+        (refusal.Evaluation ObjectLimit) after) }
 {}
 
 /// ToString, in the wide profile, gives a new string of the bytes of a buffer before the first that is 0, at most as
-/// many as its length says, and stores it to its target without another conversion. One that stores nothing is refused
-/// by this.
+/// many as its length says, and stores it to its target without another conversion. Where there is no room for them, it
+/// is refused as too much, and nothing is stored. One that stores nothing is refused by this.
 pub fn a_text_ends_before_the_first_zero<S>()
     ensures { (accesses : Accesses S) (scope : List Seg) (depth : ℕ) (x y : Tree) (w : State S) (steps : ℕ)
         (bytes : List ℕ) (n : ℕ) (after : State S × ℕ) →
@@ -84,5 +89,7 @@ pub fn a_text_ends_before_the_first_zero<S>()
         ((p : Part) (end : State S) → Fits after.0 text →
         FormsTo scope p (value.String (length after.0.objects)) (with_object after.0 (object.String text)) end →
         GivesValue accesses scope depth (two_to opcodes.ToString x y p) (w, suc steps)
-        (value.String (length after.0.objects)) (end, after.1)) }
+        (value.String (length after.0.objects)) (end, after.1)) × ((p : Part) → Exceeds after.0 text →
+        IsRefused accesses scope depth (two_to opcodes.ToString x y p) (w, suc steps)
+        (refusal.Evaluation ObjectLimit) after) }
 {}

@@ -27,9 +27,10 @@ ghost use Rattle.aml_meaning.specs.Exporting.{exported};
 ghost use Rattle.aml_laws.specs.Calls.{body_frame};
 ghost use Rattle.aml_laws.specs.Limits.{Chain, ArgumentChain, nested, IsNested};
 
-/// Objects are refused from the 262,145th on, and not before; strings and buffers of more than 1,048,576 bytes,
-/// packages of more than 65,535 elements, a call inside 32 others, and one inside as many as the world allows are
-/// refused, and leave everything as it was.
+/// An object is refused from the 262,145th on, and not before (of strings, buffers and packages
+/// `no_object_is_made_behind_the_last` says so); strings and buffers of more than 1,048,576 bytes, packages of more
+/// than 65,535 elements, a call inside 32 others, and one inside as many as the world allows are refused, and leave
+/// everything as it was.
 /// A limit that is one too low or too high for objects, and one too high for the others, is refused by this.
 #[tactic(auto, using(crate::proofs::LimitsRefused::limits_are_refused))]
 pub fn limits_are_refused<S>()

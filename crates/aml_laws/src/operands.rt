@@ -79,12 +79,13 @@ pub fn operands_that_do_not_convert_are_refused<S>()
         IsRefused accesses scope depth (of_two opcodes.LOr x y) (w, suc steps) e after }
 {}
 
-/// A term that takes an integer of an operand whose value doesn't convert to one is refused as the conversion is, once
-/// its operands are evaluated, and nothing is stored, formed or declared (ACPI 6.5, 19.3.5.7). So are Not,
-/// FindSetLeftBit, FindSetRightBit and LNot, and FromBCD and ToBCD in the wide profile, by their operand; an If, and a
-/// While in its first turn, by its condition; a Buffer and a VarPackage by its size; an Index of a package, a string
-/// or a buffer by its index; an OperationRegion by its offset, and by its length where the offset converts; and in the
-/// wide profile a ToString of what is bytes by its length, and a Mid of what is bytes by its index, and by its length
+/// A term that takes an integer of an operand whose value doesn't convert to one is refused as the conversion is, and
+/// nothing is stored, formed or declared (ACPI 6.5, 19.3.5.7): once this operand is evaluated, and for Index,
+/// OperationRegion, ToString and Mid once all their operands are. So are Not, FindSetLeftBit, FindSetRightBit and LNot,
+/// and FromBCD and ToBCD in the wide profile, by their operand; an If, and a While in its first turn, by its condition;
+/// a Buffer and a VarPackage by its size; an Index of a package, a string or a buffer by its index; an OperationRegion
+/// by its offset, and by its length where the offset converts; and in the wide profile a ToString of a value that
+/// converts to a buffer by its length, and a Mid of an integer, a string or a buffer by its index, and by its length
 /// where the index converts. A condition, a size, an index or an offset that counts as 0 where it is no integer is
 /// refused by this.
 pub fn an_operand_that_is_no_integer_refuses_its_term<S>()

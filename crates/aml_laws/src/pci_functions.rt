@@ -1,10 +1,11 @@
 //! The PCI functions that operation regions of PCI_Config belong to.
 ghost use Rattle.std.specs.Prelude.{◌≡◌, ◌≢◌, ◌≤◌, ◌<◌, ◌+◌, ◌*◌, ◌-◌, ◌%◌, ◌++◌, ◌∷◌};
 ghost use Rattle.std.specs.Prelude.{[], ℕ, List, length, take, Some, None, Ok, Err};
-ghost use Rattle.ar_space.specs.declared.refusal.Refusal.TheVariants.{Evaluation};
+ghost use Rattle.ar_space.specs.declared.refusal.Refusal.TheVariants.{Evaluation, Value};
 ghost use Rattle.ar_space.specs.declared.refusal.Refusal.{Refusal};
 ghost use Rattle.ar_space.specs.declared.refusal.EvaluationFault.TheVariants.{ArityChanged, CallDepth, DepthSetting};
 ghost use Rattle.ar_space.specs.declared.refusal.EvaluationFault.TheVariants.{DeepPci, SpaceKind};
+ghost use Rattle.ar_space.specs.declared.refusal.ValueFault.TheVariants.{WrongType};
 ghost use Rattle.ar_space.specs.Accesses.{Accesses};
 ghost use Rattle.ar_space.specs.Outcome.{Outcome};
 ghost use Rattle.aml_fields.specs.declared.region.AddressSpace.{AddressSpace};
@@ -32,8 +33,8 @@ ghost use Rattle.aml_laws.specs.PciScopes.{StandsIn, IsFunctionAt, IsBridgeAt, I
 ghost use Rattle.aml_laws.specs.BusesFound.{BusesFound, TellsNumber, TellAddresses, TellsPart};
 ghost use Rattle.aml_laws.specs.PciScopes.{IsAskedBridge, IsAmong, GrowFrom};
 ghost use Rattle.aml_laws.specs.PciRegions.{RegionStandsIn, located_at};
-ghost use Rattle.aml_laws.specs.PciAddresses.{BridgeTells, AddressAnswers};
-ghost use Rattle.aml_laws.specs.AddressObjects.{IsAskedAt, TakesNoArguments, ObjectAnswers};
+ghost use Rattle.aml_laws.specs.PciAddresses.{BridgeTells, AddressAnswers, PartAnswers, BridgesLead};
+ghost use Rattle.aml_laws.specs.AddressObjects.{HoldsNoValueAt, IsAskedAt, TakesNoArguments, ObjectAnswers};
 
 /// A scope belongs to the nearest Device with an `_ADR`, of itself and the scopes above it: that is the PCI function of
 /// a region of PCI_Config there. Where there is none it is refused (DeepPci). So it is in the core profile where a
@@ -151,9 +152,9 @@ pub fn what_is_no_bridge_tells_no_bus<S>()
 /// then `_BBN`, then the bridges above the function, from the outermost on, each by its `_ADR` and its registers, and
 /// at last the `_ADR` of the function (ACPI 6.5, 5.5.2.4, 6.1.1, 6.5.5 and 6.5.6). The first that is refused refuses
 /// the address, and nothing behind it is asked. The address is refused, too, where its segment group, bus, device or
-/// function is too great for one (RegionLimit), and where the scope belongs to no function nothing is asked. Objects in
-/// another order, a refused `_BBN` that counts as 0, and all functions of a device that are taken for one, are refused
-/// by this.
+/// function is too great for one (RegionLimit). Where the scope belongs to no function it is refused so, and nothing is
+/// asked. Objects in another order, a refused `_BBN` that counts as 0, and all functions of a device that are taken for
+/// one, are refused by this.
 pub fn the_objects_of_a_pci_address_are_asked_in_turn<S>()
     ensures in_turn { (accesses : Accesses S) (call : List Seg → Run S ℕ) (w : State S) (steps : ℕ)
         (scope path : List Seg) (r : Outcome AddressSpace) (after : State S × ℕ) →
@@ -166,13 +167,15 @@ pub fn the_objects_of_a_pci_address_are_asked_in_turn<S>()
 
 /// What is asked for an address answers an integer (ACPI 6.5, 6.1.1, 6.5.5 and 6.5.6): a name the one that it holds, a
 /// field the one that its bits make, where they are no more than an integer has, and a control method the one that it
-/// returns. A control method is called without arguments, one call deeper than the term that accesses the field, and so
-/// are the objects of the address of a field that is asked. What an alias leads to answers for it. Another value is
-/// refused (WrongType), even one that converts to an integer, and so is a field of more bits; a name without a value
-/// and a control method that returns none are refused (NoValue). What refuses the control method or the field refuses
-/// it. Inside 32 calls, and inside as many as the world allows, nothing answers (CallDepth, DepthSetting). A control
-/// method that takes arguments isn't called (ArityChanged). Of a name that stands for anything else this says nothing.
-/// A control method that answers 0, a String that is converted, and 32 calls anew inside a call are refused by this.
+/// returns. A control method is called without arguments, one call deeper than the term that accesses the field; the
+/// objects of the address of a field that is asked stand one call deeper still. What an alias leads to answers for it.
+/// Another value is refused (WrongType), even one that converts to an integer, and so is a field of more bits; a name
+/// without a value and a control method that returns none are refused (NoValue). What refuses the control method or the
+/// field refuses it. Inside 32 calls, and inside as many as the world allows, nothing answers (CallDepth,
+/// DepthSetting). A control method that takes arguments isn't called (ArityChanged). Of a name that stands for anything
+/// else, as a Device, this says only that nothing answers inside so many calls; what else holds of it
+/// `what_holds_no_value_tells_no_address` says. A control method that answers 0, a String that is converted, and 32
+/// calls anew inside a call are refused by this.
 pub fn what_is_asked_for_an_address_answers_an_integer<S>()
     ensures answers { (accesses : Accesses S) (depth : ℕ) → depth < 32 → (w : State S) → depth < w.nesting.calls →
         (steps : ℕ) (path at : List Seg) (o : NamedObject) → IsAskedAt w path at o → (r : Outcome ℕ)
@@ -187,4 +190,37 @@ pub fn what_is_asked_for_an_address_answers_an_integer<S>()
     ensures arguments { (accesses : Accesses S) (w : State S) (steps : ℕ) (path at : List Seg) (o : NamedObject) →
         IsAskedAt w path at o → (m : Method) → o ≡ named.Method m → m.flags.byte % 8 ≢ 0 → (depth : ℕ) →
         called_at accesses (meaning accesses) depth path (w, steps) ≡ (Err (Evaluation ArityChanged), (w, steps)) }
+{}
+
+/// An object that holds neither a value nor a field and is no control method, such as a Device, a mutex, an event or a
+/// thermal zone, is refused where an address asks it and one more call is allowed (WrongType); nothing changes (ACPI
+/// 6.5, 6.1.1, 6.5.5 and 6.5.6). So is what an alias leads to. The address is refused so where this is the nearest
+/// `_SEG`, or the nearest `_BBN`, or the `_ADR` of the function, once those that are asked before it have answered. A
+/// Device that tells 0 is refused by this.
+pub fn what_holds_no_value_tells_no_address<S>()
+    ensures object { (accesses : Accesses S) (depth : ℕ) → depth < 32 → (w : State S) → depth < w.nesting.calls →
+        (steps : ℕ) (path : List Seg) → HoldsNoValueAt w path →
+        called_at accesses (meaning accesses) depth path (w, steps) ≡ (Err (Value WrongType), (w, steps)) }
+    ensures segment_group { (accesses : Accesses S) (depth : ℕ) → depth < 32 → (w : State S) (steps : ℕ)
+        (scope path : List Seg) → pci_function scope w ≡ (Ok path, w) → depth < w.nesting.calls → (k : ℕ) →
+        IsNearestSuch (StandsIn w.names.map segment_group) path k →
+        HoldsNoValueAt w (take k path ++ segment_group ∷ []) →
+        pci_address accesses (called_at accesses (meaning accesses) depth) scope (w, steps) ≡
+        (Err (Value WrongType), (w, steps)) }
+    ensures base_bus { (accesses : Accesses S) (depth : ℕ) → depth < 32 → (w : State S) (steps : ℕ)
+        (scope path : List Seg) → pci_function scope w ≡ (Ok path, w) → (seg : ℕ) (t : State S) (rest : ℕ) →
+        PartAnswers (called_at accesses (meaning accesses) depth) segment_group path (w, steps) (Ok seg) (t, rest) →
+        depth < t.nesting.calls → (k : ℕ) → IsNearestSuch (StandsIn t.names.map base_bus) path k →
+        HoldsNoValueAt t (take k path ++ base_bus ∷ []) →
+        pci_address accesses (called_at accesses (meaning accesses) depth) scope (w, steps) ≡
+        (Err (Value WrongType), (t, rest)) }
+    ensures function { (accesses : Accesses S) (depth : ℕ) → depth < 32 → (w : State S) (steps : ℕ)
+        (scope path : List Seg) → pci_function scope w ≡ (Ok path, w) → (seg bus end : ℕ) (t u : State S × ℕ)
+        (v : State S) (rest : ℕ) →
+        PartAnswers (called_at accesses (meaning accesses) depth) segment_group path (w, steps) (Ok seg) t →
+        PartAnswers (called_at accesses (meaning accesses) depth) base_bus path t (Ok bus) u →
+        BridgesLead accesses (called_at accesses (meaning accesses) depth) seg bus (bridges_to w.names.map path) u
+        (Ok end) (v, rest) → depth < v.nesting.calls → HoldsNoValueAt v (path ++ adr ∷ []) →
+        pci_address accesses (called_at accesses (meaning accesses) depth) scope (w, steps) ≡
+        (Err (Value WrongType), (v, rest)) }
 {}

@@ -8,10 +8,10 @@ ghost use Rattle.aml_meaning.specs.Predefined.{fresh_as, predefined};
 ghost use Rattle.aml_meaning.specs.declared.settings.EvaluationSettings.{EvaluationSettings};
 ghost use Rattle.aml_laws.specs.PredefinedNames.{IsPredefined, StandsAtRoot};
 
-/// Before any table is loaded the scopes \_GPE, \_PR_, \_SB_, \_SI_ and \_TZ_ stand at the root, the mutex \_GL_,
-/// which nobody has acquired, \_OS_, which holds the string "Microsoft Windows NT", \_REV, which holds 2, and the
-/// control method \_OSI (ACPI 6.5, 5.3.1 and 5.7). Of the arguments that names take while a table is read the world
-/// keeps one for \_OSI, as its flags tell, and none for the others; that the first table is read with these
+/// Before any table is loaded the scopes \_GPE, \_PR_, \_SB_, \_SI_ and \_TZ_ stand at the root, the mutex \_GL_, which
+/// nobody has acquired, \_OS_, which holds the string "Microsoft Windows NT", \_REV, which holds 2, and the control
+/// method \_OSI (ACPI 6.5, 5.3.1 and 5.7). Of the numbers of arguments that names take while a table is read the world
+/// keeps 1 for \_OSI, as its flags tell, and 0 for the others; that the first table is read with these
 /// `a_table_is_read_with_what_was_told_before_it` says. So they stand in each new world, whatever its settings. A
 /// revision of 1, and \_OSI without an argument, are refused by this.
 pub fn predefined_names_stand<S>()

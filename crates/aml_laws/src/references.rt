@@ -20,8 +20,9 @@ ghost use Rattle.aml_laws.specs.Numbers.{numbers_of, RiseTo};
 ghost use Rattle.aml_laws.specs.StoredParts.{IsRead};
 
 /// RefOf of a name gives a reference to the declaration that stands at its path, and to no other: the number of that
-/// declaration finds its path and its object. DerefOf of the reference reads the value or the field that stands there;
-/// where the name stands for neither, it gives the reference again. CopyObject through it takes its copy to the name.
+/// declaration finds its path and its object. What is read through the reference is the value or the field that stands
+/// there, and where the name stands for neither, the reference again: the term DerefOf gives what is read so
+/// (`a_dereference_reads_what_its_operand_refers_to`). CopyObject through it takes its copy to the name.
 #[tactic(auto, using(crate::proofs::ReferencesToNames::a_reference_to_a_name_finds_its_declaration))]
 pub fn a_reference_to_a_name_finds_its_declaration<S>()
     ensures given { (w : State S) (path : List Seg) (e : Entry) → get w.names.map path ≡ Some e →
@@ -36,8 +37,9 @@ pub fn a_reference_to_a_name_finds_its_declaration<S>()
         copied_to (targets.Name path) v w }
 {}
 
-/// RefOf of a local or an argument gives a reference to that slot of the control method that runs: DerefOf of it
-/// gives, or is refused, just as the slot is read. CopyObject through a reference to a local copies to that local.
+/// RefOf of a local or an argument gives a reference to that slot of the control method that runs: reading through it
+/// gives, or is refused, just as the slot is read, and the term DerefOf does so
+/// (`a_dereference_reads_what_its_operand_refers_to`). CopyObject through a reference to a local copies to that local.
 #[tactic(auto, using(crate::proofs::ReferencesToSlots::slot_reads, crate::proofs::ReferencesToSlots::local_copies))]
 pub fn a_reference_to_a_slot_reads_that_slot<S>()
     ensures read { (w : State S) (slot : Slot) (r : Reference) → RiseTo w.started (numbers_of w.frames) →
@@ -48,7 +50,8 @@ pub fn a_reference_to_a_slot_reads_that_slot<S>()
 {}
 
 /// What RefOf gives refers to just what its operand names: a name, a local, an argument, or what another reference
-/// refers to. DerefOf of it reads what the operand holds, a Store to what it refers to is a Store to the operand, and
+/// refers to. What is read through it is what the operand holds, and the term DerefOf gives what is read so
+/// (`a_dereference_reads_what_its_operand_refers_to`); a Store to what it refers to is a Store to the operand, and
 /// a mutex is acquired and released through it as by the operand. So it is where the numbers of declarations are
 /// apart and those of frames rise, as they are and do in each world that evaluations make of the predefined names,
 /// and in each frame that is opened then. Giving the reference and reading through it change nothing.

@@ -1,5 +1,5 @@
 //! References to parts of objects and to names, and what is asked of objects.
-ghost use Rattle.std.specs.Prelude.{◌≡◌, ◌≢◌, ◌<◌, ◌≤◌, ℕ, suc, List, Some, Ok, Err};
+ghost use Rattle.std.specs.Prelude.{◌≡◌, ◌≢◌, ◌<◌, ◌≤◌, ◌+◌, ◌%◌, ◌^◌, ℕ, suc, List, Some, Ok, Err};
 ghost use Rattle.std.specs.FinMap.{get};
 ghost use Rattle.ar_space.specs.Accesses.{Accesses};
 ghost use Rattle.ar_space.specs.declared.refusal.Refusal.{Refusal};
@@ -18,13 +18,17 @@ ghost use Rattle.aml_objects.specs.declared.value.Reference.TheVariants as refer
 ghost use Rattle.aml_objects.specs.declared.value.Slot.{Slot};
 ghost use Rattle.aml_objects.specs.declared.value.Value.{Value};
 ghost use Rattle.aml_objects.specs.declared.value.Value.TheVariants as value;
+ghost use Rattle.aml_convert.specs.Integers.{bits_of};
 ghost use Rattle.aml_namespace.specs.Search.{found};
 ghost use Rattle.aml_meaning.specs.declared.store_target.StoreTarget.{StoreTarget};
 ghost use Rattle.aml_meaning.specs.declared.store_target.StoreTarget.TheVariants as targets;
+ghost use Rattle.aml_meaning.specs.declared.store_target.Stored.TheVariants as store;
 ghost use Rattle.aml_meaning.specs.State.{State};
+ghost use Rattle.aml_meaning.specs.Stores.{stored};
 ghost use Rattle.aml_meaning.specs.TargetTerms.{target_of};
 ghost use Rattle.aml_meaning.specs.Meaning.{meaning};
-ghost use Rattle.aml_laws.specs.OperatorTerms.{alone, two_to, NamesSlot, NamesTarget, StoresTo, SlotHolds, SlotIsEmpty, TargetHolds, GivesValue, Gives, IsRefused};
+ghost use Rattle.aml_laws.specs.OperatorTerms.{alone, one_to, two_to, NamesSlot, NamesTarget, StoresTo, SlotHolds, SlotIsEmpty, TargetHolds, GivesValue, Gives, IsRefused};
+ghost use Rattle.aml_laws.specs.IndexTargets.{CountsPart};
 ghost use Rattle.aml_laws.specs.PutIntoTargets.{PutsReference};
 ghost use Rattle.aml_laws.specs.ReferringTerms.{HasParts, HasNoParts, HasPart, Indexes, part_read, size_of, object_type, IsNumbered, IsNamedKind, conditional, IsNumberedLast};
 ghost use Rattle.aml_laws.specs.TestTerms.{TwoValues};
@@ -49,20 +53,32 @@ pub fn an_index_refers_to_a_part<S>()
 {}
 
 /// An Index where a target stands is the part that it refers to, and its own target takes the reference first (ACPI
-/// 6.5, 19.6: Index; 20.2.2: SuperName). What a Store does with this part says
-/// `a_term_puts_what_it_gives_into_its_target`, and what Increment and Decrement do
-/// `a_count_is_put_back_into_its_target`. An Index that names no place is refused by this.
+/// 6.5, 19.6: Index; 20.2.2: SuperName). So a Store to an Index evaluates its source, then the Index, and stores the
+/// source's value to the part, and an Increment or a Decrement of an Index without a target counts the part, where this
+/// is a value or a byte. A Store to an Index that stores nothing is refused by this.
 pub fn an_index_is_a_target<S>()
-    ensures { (accesses : Accesses S) (scope : List Seg) (depth : ℕ) (x y : Tree) (w : State S) (steps : ℕ) (v : Value)
-        (i : ℕ) (after : State S × ℕ) → Indexes accesses scope depth x y (w, steps) v i after → (n : ℕ)
+    ensures target { (accesses : Accesses S) (scope : List Seg) (depth : ℕ) (x y : Tree) (w : State S) (steps : ℕ)
+        (v : Value) (i : ℕ) (after : State S × ℕ) → Indexes accesses scope depth x y (w, steps) v i after → (n : ℕ)
         (f : ℕ → Reference) → HasParts after.0 v n f → i < n → (p : Part) (end : State S) →
         StoresTo scope p (value.Reference (f i)) after.0 end →
         target_of (meaning accesses) scope depth (two_to opcodes.Index x y p) (w, suc steps) ≡
         (Ok (targets.Refers (f i)), (end, after.1)) }
+    ensures stored { (accesses : Accesses S) (scope : List Seg) (depth : ℕ) (z x y : Tree) (w : State S) (steps : ℕ)
+        (u : Value) (between : State S) (rest : ℕ) →
+        GivesValue accesses scope depth z (w, steps) u (between, suc rest) → (v : Value) (i : ℕ)
+        (after : State S × ℕ) → Indexes accesses scope depth x y (between, rest) v i after → (n : ℕ)
+        (f : ℕ → Reference) → HasParts after.0 v n f → i < n → (p : Part) (referred : State S) →
+        StoresTo scope p (value.Reference (f i)) after.0 referred → (end : State S) →
+        stored (targets.Refers (f i)) u referred ≡ (Ok store.Done, end) → GivesValue accesses scope depth
+        (one_to opcodes.Store z (inner (two_to opcodes.Index x y p))) (w, suc steps) u (end, after.1) }
+    ensures counted_up { CountsPart S opcodes.Increment (λ width a m. m ≡ (a + 1) % 2 ^ bits_of width) }
+    ensures counted_down { CountsPart S opcodes.Decrement (λ width a m.
+        (m < 2 ^ bits_of width) × ((m + 1) % 2 ^ bits_of width ≡ a % 2 ^ bits_of width)) }
 {}
 
 /// SizeOf of a local, an argument or a name gives the number of bytes of the string or the buffer that it holds, or of
-/// the elements of the package; of a DerefOf of an Index that of the part of an object. It changes nothing.
+/// the elements of the package; of a DerefOf of an Index that of the part of an object. Nothing changes but what
+/// evaluating the Index changes.
 pub fn a_size_counts_bytes_and_elements<S>()
     ensures held { (accesses : Accesses S) (scope : List Seg) (depth : ℕ) (p : Part) (w : State S) (steps : ℕ)
         (t : StoreTarget) (v : Value) (n : ℕ) (f : ℕ → Reference) → NamesTarget scope w p t → TargetHolds w t v →
@@ -73,10 +89,11 @@ pub fn a_size_counts_bytes_and_elements<S>()
         Gives accesses scope depth (size_of (inner (part_read x y))) (w, suc (suc (suc steps))) n after }
 {}
 
-/// SizeOf of what holds an integer, of a name that stands for no value, as that of a device or of a field, of Debug, and
-/// of a DerefOf of an Index that is an integer, is refused as `WrongType`, and of what holds no value yet as `NoValue`;
-/// nothing changes. An Index of an integer or of a reference is refused as `WrongType`, and stores nothing. An integer
-/// that has the size of its bytes, and an Index of one that gives it, are refused by this.
+/// SizeOf of what holds an integer, of a name that stands for no value, as that of a device or of a field, of Debug,
+/// and of a DerefOf of an Index that is an integer, is refused as `WrongType`, and of what holds no value yet as
+/// `NoValue`; nothing changes but what evaluating the Index changes. An Index of an integer or of a reference is
+/// refused as `WrongType` once both its operands are evaluated, and stores nothing. An integer that has the size of its
+/// bytes, and an Index of one that gives it, are refused by this.
 pub fn what_has_no_parts_is_neither_counted_nor_indexed<S>()
     ensures size { (accesses : Accesses S) (scope : List Seg) (depth : ℕ) (p : Part) (w : State S) (steps : ℕ)
         (t : StoreTarget) (n : ℕ) → NamesTarget scope w p t → TargetHolds w t (value.Integer n) →
@@ -106,8 +123,8 @@ pub fn what_has_no_parts_is_neither_counted_nor_indexed<S>()
 
 /// ObjectType of a local, an argument or a name that holds a value gives the number of the type of this value, of a
 /// name that holds none that of what it names, of a slot that holds none 0, and of Debug 16 (ACPI 6.5, 19.6:
-/// ObjectType, its table). Of a DerefOf of an Index it is that of the element, and of a byte that of an integer. It
-/// changes nothing.
+/// ObjectType, its table). Of a DerefOf of an Index it is that of the element, and of a byte that of an integer.
+/// Nothing changes but what evaluating the Index changes.
 pub fn object_types_have_their_numbers<S>()
     ensures values { (accesses : Accesses S) (scope : List Seg) (depth : ℕ) (p : Part) (w : State S) (steps : ℕ)
         (t : StoreTarget) (v : Value) (k : ℕ) → NamesTarget scope w p t → TargetHolds w t v → IsNumbered v k →

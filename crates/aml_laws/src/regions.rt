@@ -7,11 +7,13 @@ ghost use Rattle.aml_laws.specs.Noted.{WithNotes, noted};
 ghost use Rattle.aml_laws.specs.Histories.{History, NotesExplained};
 
 /// In the core profile AML reaches no register outside of the operation regions that it declared. Whatever is
-/// evaluated, each access that it makes lies wholly within an operation region that stood when the region was located,
-/// in that region's address space; each region that stands then stood before, or was declared meanwhile, at a path
-/// where no name stood, under the next number. So where no name is declared, all accesses lie within regions that stood
-/// before. In the wide profile there is one kind of access more: a read of one byte of the configuration header of a
-/// PCI function, its header type or its secondary bus number, by which a bridge is asked for the bus behind it.
+/// evaluated, each access that it makes lies wholly within an operation region, in that region's address space: one
+/// that stood before the evaluation, or at some moment of it before the access. Which of these moments is that in which
+/// the region was located this doesn't say. Each region that stands at such a moment stood before, or was declared
+/// meanwhile, at a path where no name stood, under the next number. So where no name is declared, all accesses lie
+/// within regions that stood before. In the wide profile there is one kind of access more: a read of one byte of the
+/// configuration header of a PCI function, its header type or its secondary bus number, by which a bridge is asked for
+/// the bus behind it.
 #[tactic(auto, using(crate::proofs::WorldHistories::has_history, crate::proofs::WorldHistories::accesses_explained))]
 pub fn registers_are_reached_within_regions<S>()
     ensures history { (accesses : Accesses S) (w v : State S) → Becomes accesses w v → History accesses w v }

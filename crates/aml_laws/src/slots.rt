@@ -30,11 +30,11 @@ pub fn a_store_changes_its_slot_alone<S>()
         (slot_put k slot v w).1 ≡ record w { frames = (slot_put k slot v w).1.frames } }
 {}
 
-/// Terms that are evaluated change a slot of a frame below the latest one only through a reference to that very slot:
-/// where no such reference can be reached, the slot holds what it held, however they end and whatever refers to other
-/// slots of the frame, and none can be reached after it, nor is one given. What another slot of the frame holds is
-/// reached only by a reference to it; and no string, buffer or package that can't be reached is changed. A RefOf that
-/// refers to a local of the caller is refused by this.
+/// Terms that are evaluated change no slot of a frame below the latest one to which no reference can be reached: it
+/// holds what it held, however they end and whatever refers to other slots of the frame, and still no reference to it
+/// can be reached, nor is one given. What another slot of the frame holds is reached only by a reference to it; and no
+/// string, buffer or package that can't be reached is changed. Of slots to which a reference can be reached this says
+/// nothing. A RefOf that refers to a local of the caller is refused by this.
 pub fn slots_change_through_references_alone<S>()
     ensures terms { (accesses : Accesses S) (n : ℕ) (s : State S × ℕ) (t : Task) →
         RiseTo s.0.started (numbers_of s.0.frames) → FrameStandsBelow n (numbers_of s.0.frames) →
@@ -44,10 +44,11 @@ pub fn slots_change_through_references_alone<S>()
         LeavesAlone n s.0 [] (in_turn (meaning accesses) scope depth ts s) }
 {}
 
-/// A call of a control method changes a slot of its caller, or of another frame that stands, only through a reference
-/// to that very slot: where neither its arguments nor anything else that can be reached refers to it, it holds after
-/// the call what it held, however it ends and whatever refers to other slots of the frame, and still nothing that can
-/// be reached refers to it. Strings, buffers and packages that only such slots lead to are as they were, too.
+/// A call of a control method changes no slot of its caller, or of another frame that stands, to which no reference can
+/// be reached: where neither its arguments nor anything else that can be reached refers to it, it holds after the call
+/// what it held, however it ends and whatever refers to other slots of the frame, and still nothing that can be reached
+/// refers to it. Strings, buffers and packages that only such slots lead to are as they were, too. That the end of a
+/// call changes no slot of another frame at all `the_end_of_a_call_takes_its_frame_and_names_away` says.
 pub fn a_call_changes_no_slot_of_its_caller<S>()
     ensures { (accesses : Accesses S) (n : ℕ) (s : State S × ℕ) (depth : ℕ) (p : List Seg) (body : List ℕ)
         (arguments : List Value) → RiseTo s.0.started (numbers_of s.0.frames) → FrameStands n (numbers_of s.0.frames) →

@@ -78,28 +78,32 @@ pub fn terms_that_begin_are_counted<S>()
 #[tactic(auto, using(crate::proofs::CountedEvaluations::terms_of_tables_and_answers_are_counted))]
 pub fn terms_of_tables_and_answers_are_counted<S>()
     ensures table_bounded { (accesses : Accesses S) (bytes : List ℕ) (steps : ℕ) (w : State (S × ℕ)) →
-        terms_begun (counted_loaded accesses bytes steps w).1 ≤ terms_begun w + steps }
+        terms_begun (counted_loaded accesses (counted_meaning accesses) bytes steps w).1 ≤ terms_begun w + steps }
     ensures table_same { (accesses : Accesses S) (bytes : List ℕ) (steps : ℕ) (w : State (S × ℕ)) →
         loaded accesses bytes steps (without_counter w) ≡ (
-          (counted_loaded accesses bytes steps w).0,
-          without_counter (counted_loaded accesses bytes steps w).1,
+          (counted_loaded accesses (counted_meaning accesses) bytes steps w).0,
+          without_counter (counted_loaded accesses (counted_meaning accesses) bytes steps w).1,
         ) }
     ensures value_bounded { (accesses : Accesses S) (p : List Seg) (arguments : List Value) (steps : ℕ)
-        (w : State (S × ℕ)) → terms_begun (counted_evaluated accesses p arguments steps w).1 ≤ terms_begun w + steps }
+        (w : State (S × ℕ)) →
+        terms_begun (counted_evaluated accesses (counted_meaning accesses) p arguments steps w).1 ≤
+        terms_begun w + steps }
     ensures value_same { (accesses : Accesses S) (p : List Seg) (arguments : List Value) (steps : ℕ)
         (w : State (S × ℕ)) →
         evaluated accesses p arguments steps (without_counter w) ≡ (
-          (counted_evaluated accesses p arguments steps w).0,
+          (counted_evaluated accesses (counted_meaning accesses) p arguments steps w).0,
           without_counter
-              (counted_evaluated accesses p arguments steps w).1,
+              (counted_evaluated accesses (counted_meaning accesses) p arguments steps w).1,
         ) }
     ensures answer_bounded { (accesses : Accesses S) (p : List Seg) (arguments : List Given) (steps : ℕ)
-        (w : State (S × ℕ)) → terms_begun (counted_answered accesses p arguments steps w).1 ≤ terms_begun w + steps }
+        (w : State (S × ℕ)) →
+        terms_begun (counted_answered accesses (counted_meaning accesses) p arguments steps w).1 ≤
+        terms_begun w + steps }
     ensures answer_same { (accesses : Accesses S) (p : List Seg) (arguments : List Given) (steps : ℕ)
         (w : State (S × ℕ)) →
         answered accesses p arguments steps (without_counter w) ≡ (
-          (counted_answered accesses p arguments steps w).0,
+          (counted_answered accesses (counted_meaning accesses) p arguments steps w).0,
           without_counter
-              (counted_answered accesses p arguments steps w).1,
+              (counted_answered accesses (counted_meaning accesses) p arguments steps w).1,
         ) }
 {}

@@ -41,8 +41,8 @@ pub fn arguments_and_elements_take_copies<S>()
 
 /// A Store to an argument of the control method that runs that holds a reference goes to what this refers to, as
 /// CopyObject through the reference does: to that very name, slot, element or byte, and to a name without conversion
-/// (ACPI 6.5, 19.3.5.8.1). So does CopyObject to the argument, and a Store through a reference to an argument of any
-/// control method that hasn't ended yet. Where CopyObject through a reference goes
+/// (ACPI 6.5, 19.3.5.8.1). So does CopyObject to the argument, and a Store through a reference to an argument that
+/// holds a reference, of any control method that hasn't ended yet. Where CopyObject through a reference goes
 /// `a_reference_to_a_name_finds_its_declaration` says of names, `a_reference_to_a_slot_reads_that_slot` of locals, and
 /// `at_most_64_references_are_followed` of arguments that hold references. An argument that is overwritten, and a Store
 /// that converts, are refused by this.

@@ -62,8 +62,8 @@ pub fn a_division_puts_both_results_into_its_targets<S>()
 /// Increment and Decrement find their target, read what stands there, and put the next integer back, or the one before
 /// it; this is their value. So they do where a RefOf, a DerefOf or an Index names the target. Where no target is found,
 /// what stands there doesn't convert to an integer or can't be read, or the target doesn't take what they counted, they
-/// are refused so. One that stores nothing through a reference or to a field, one that counts a field from 0, and one
-/// that is done where its target refuses, are refused by this.
+/// are refused so. One that stores nothing through a reference, and one that is done where its target refuses, are
+/// refused by this.
 pub fn a_count_is_put_back_into_its_target<S>()
     ensures up { CountsTarget S opcodes.Increment (λ width a n. n ≡ (a + 1) % 2 ^ bits_of width) }
     ensures down { CountsTarget S opcodes.Decrement (λ width a n.
@@ -81,8 +81,8 @@ pub fn a_count_is_put_back_into_its_target<S>()
 /// Debug, and a name that holds neither a value nor a field, as a device, by itself or behind a reference, as
 /// `WrongType`; a local or an argument that holds nothing yet, by itself or behind a reference, and an element of a
 /// package that holds nothing, as `NoValue`; and a local or an argument outside of control methods as `DeadReference`
-/// (ACPI 6.5, 19.6: Decrement, Increment). Debug that counts from 0, and so a slot that holds nothing and a device,
-/// are refused by this.
+/// (ACPI 6.5, 19.6: Decrement, Increment). Debug, a slot that holds nothing, or a device that counts from 0 is refused
+/// by this.
 pub fn a_count_of_what_holds_no_value_is_refused<S>()
     ensures { (accesses : Accesses S) (scope : List Seg) (depth : ℕ) (op : Opcode) → IsCount op → (p : Part) (w : State S)
         (steps : ℕ) (t : StoreTarget) (between : State S × ℕ) → NamesAt accesses scope depth (w, steps) p t between →

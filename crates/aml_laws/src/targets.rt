@@ -8,11 +8,13 @@ ghost use Rattle.ar_space.specs.declared.refusal.ValueFault.TheVariants.{WrongTy
 ghost use Rattle.aml_path.specs.declared.segment.Seg.{Seg};
 ghost use Rattle.aml_grammar.specs.Tree.{Tree, Part, inner};
 ghost use Rattle.aml_grammar.specs.declared.opcode.Opcode.TheVariants as opcodes;
+ghost use Rattle.aml_objects.specs.Contents.{content_in};
 ghost use Rattle.aml_objects.specs.declared.entry.Field.{Field};
 ghost use Rattle.aml_objects.specs.declared.entry.NamedObject.{NamedObject};
 ghost use Rattle.aml_objects.specs.declared.value.Reference.{Reference};
 ghost use Rattle.aml_objects.specs.declared.value.Value.{Value};
 ghost use Rattle.aml_objects.specs.declared.value.Value.TheVariants as value;
+ghost use Rattle.aml_convert.specs.Conversions.{to_buffer_of};
 ghost use Rattle.aml_convert.specs.Integers.{bits_of};
 ghost use Rattle.aml_meaning.specs.declared.object_type.ObjectType.{ObjectType};
 ghost use Rattle.aml_meaning.specs.declared.object_type.ObjectType.TheVariants as types;
@@ -20,14 +22,16 @@ ghost use Rattle.aml_meaning.specs.declared.object_type.Referent.{Referent};
 ghost use Rattle.aml_meaning.specs.declared.object_type.Referent.TheVariants as referent;
 ghost use Rattle.aml_meaning.specs.declared.profile.Profile.TheVariants as profiles;
 ghost use Rattle.aml_meaning.specs.declared.store_target.StoreTarget.{StoreTarget};
+ghost use Rattle.aml_meaning.specs.declared.store_target.Stored.TheVariants as store;
 ghost use Rattle.aml_meaning.specs.Mutexes.{acquired_at, given_back_at};
 ghost use Rattle.aml_meaning.specs.Operations.{type_number};
 ghost use Rattle.aml_meaning.specs.State.{State};
 ghost use Rattle.aml_meaning.specs.StoreTargets.{reference_of};
-ghost use Rattle.aml_laws.specs.FieldNames.{IsField, bits_read_at};
+ghost use Rattle.aml_meaning.specs.Stores.{copied_to};
+ghost use Rattle.aml_laws.specs.FieldNames.{IsField, bits_read_at, bits_written_at};
 ghost use Rattle.aml_laws.specs.FieldsLedTo.{AsksOf, HasNoSize};
 ghost use Rattle.aml_laws.specs.ObjectTerms.{acquire, on_target, on_target_with, Passes, Declared, Undeclared};
-ghost use Rattle.aml_laws.specs.OperatorTerms.{GivesValue, GivesNothing, Gives, IsRefused};
+ghost use Rattle.aml_laws.specs.OperatorTerms.{one_to, GivesValue, GivesNothing, Gives, IsRefused};
 ghost use Rattle.aml_laws.specs.ReferringTerms.{HasParts, size_of, object_type, IsNumbered};
 ghost use Rattle.aml_laws.specs.TargetsNamed.{NamesAt, NamesNone, NamesGone, IsReferring, EndsAt};
 
@@ -87,6 +91,40 @@ pub fn a_notify_finds_its_object_first<S>()
     ensures unnamed { (accesses : Accesses S) (scope : List Seg) (depth : ℕ) (p : Part) (w : State S) (steps : ℕ)
         (e : Refusal) (after : State S × ℕ) → NamesNone accesses scope depth (w, steps) p e after → (x : Tree) →
         IsRefused accesses scope depth (on_target_with opcodes.Notify p x) (w, suc steps) e after }
+{}
+
+/// CopyObject evaluates its source, then finds what its target names, also behind a RefOf, a DerefOf or an Index, and
+/// copies the value there (ACPI 6.5, 19.6: CopyObject). Where what is found so is a field, the value is written as
+/// its bits, once it is converted to bytes. A copy that is refused, a value that isn't converted, and a field that
+/// isn't written, refuse the term; so does a target that isn't found. A CopyObject to a DerefOf that copies nothing
+/// is refused by this.
+pub fn a_copy_goes_to_what_its_target_names<S>()
+    ensures copied { (accesses : Accesses S) (scope : List Seg) (depth : ℕ) (x : Tree) (p : Part) (w : State S)
+        (steps : ℕ) (v : Value) (between : State S × ℕ) → GivesValue accesses scope depth x (w, steps) v between →
+        (t : StoreTarget) (after : State S × ℕ) → NamesAt accesses scope depth between p t after → (end : State S) →
+        (copied_to t v after.0 ≡ (Ok store.Done, end) →
+        GivesValue accesses scope depth (one_to opcodes.CopyObject x p) (w, suc steps) v (end, after.1)) ×
+        ((e : Refusal) → copied_to t v after.0 ≡ (Err e, end) →
+        IsRefused accesses scope depth (one_to opcodes.CopyObject x p) (w, suc steps) e (end, after.1)) }
+    ensures written { (accesses : Accesses S) (scope : List Seg) (depth : ℕ) (x : Tree) (p : Part) (w : State S)
+        (steps : ℕ) (v : Value) (between : State S × ℕ) → GivesValue accesses scope depth x (w, steps) v between →
+        (t : StoreTarget) (after : State S × ℕ) → NamesAt accesses scope depth between p t after → (f : Field)
+        (there : State S) → copied_to t v after.0 ≡ (Ok (store.Field f), there) → (bytes : List ℕ)
+        (end : State S × ℕ) → to_buffer_of there.width (content_in there.objects v) ≡ Ok bytes →
+        (bits_written_at accesses depth f bytes (there, after.1) ≡ (Ok tt, end) →
+        GivesValue accesses scope depth (one_to opcodes.CopyObject x p) (w, suc steps) v end) × ((e : Refusal) →
+        bits_written_at accesses depth f bytes (there, after.1) ≡ (Err e, end) →
+        IsRefused accesses scope depth (one_to opcodes.CopyObject x p) (w, suc steps) e end) }
+    ensures unconverted { (accesses : Accesses S) (scope : List Seg) (depth : ℕ) (x : Tree) (p : Part) (w : State S)
+        (steps : ℕ) (v : Value) (between : State S × ℕ) → GivesValue accesses scope depth x (w, steps) v between →
+        (t : StoreTarget) (after : State S × ℕ) → NamesAt accesses scope depth between p t after → (f : Field)
+        (there : State S) → copied_to t v after.0 ≡ (Ok (store.Field f), there) → (e : Refusal) →
+        to_buffer_of there.width (content_in there.objects v) ≡ Err e →
+        IsRefused accesses scope depth (one_to opcodes.CopyObject x p) (w, suc steps) e (there, after.1) }
+    ensures unnamed { (accesses : Accesses S) (scope : List Seg) (depth : ℕ) (x : Tree) (p : Part) (w : State S)
+        (steps : ℕ) (v : Value) (between : State S × ℕ) → GivesValue accesses scope depth x (w, steps) v between →
+        (e : Refusal) (after : State S × ℕ) → NamesNone accesses scope depth between p e after →
+        IsRefused accesses scope depth (one_to opcodes.CopyObject x p) (w, suc steps) e after }
 {}
 
 /// In the wide profile Signal, Reset and Wait of an argument that holds a reference to a name whose declaration is

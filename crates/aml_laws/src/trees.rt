@@ -6,6 +6,7 @@ ghost use Rattle.aml_path.specs.Paths.{Name};
 ghost use Rattle.aml_grammar.specs.declared.opcode.TermCode.{TermCode};
 ghost use Rattle.aml_grammar.specs.Tree.{Tree, Trees, term, null, name, inner, Parts, part};
 ghost use Rattle.aml_grammar.specs.Apart.{operand_of};
+ghost use Rattle.aml_objects.specs.declared.object.Element.{Element};
 ghost use Rattle.aml_objects.specs.declared.value.Slot.{Slot};
 ghost use Rattle.aml_objects.specs.declared.value.Value.{Value};
 ghost use Rattle.aml_meaning.specs.declared.store_target.StoreTarget.TheVariants as targets;
@@ -19,9 +20,14 @@ ghost use Rattle.aml_meaning.specs.TargetTerms.{target_of, target_at, first_targ
 ghost use Rattle.aml_meaning.specs.DataTerms.{named_element};
 ghost use Rattle.aml_meaning.specs.Evaluation.{rule};
 ghost use Rattle.aml_meaning.specs.Invocations.{invoked};
+ghost use Rattle.aml_meaning.specs.Given.{Given};
+ghost use Rattle.aml_meaning.specs.Exporting.{element_exported, held_exported, package_exported};
+ghost use Rattle.aml_meaning.specs.Calling.{loaded, evaluated, answered};
 ghost use Rattle.aml_meaning.specs.Meaning.{meaning};
 ghost use Rattle.aml_laws.specs.Counted.{without_counter, with_counter, outcome_without_counter};
 ghost use Rattle.aml_laws.specs.CountedTrees.{trees_begun, counting_trees, LeavesNoMore, begin_and_count, followed_by, both_counted};
+ghost use Rattle.aml_laws.specs.CountedTrees.{counted_trees};
+ghost use Rattle.aml_laws.specs.CountedEvaluations.{counted_loaded, counted_evaluated, counted_answered};
 ghost use Rattle.aml_laws.specs.StepsTaken.{TakenInTerm, TakenByParts};
 ghost use Rattle.aml_laws.specs.CostsOfTrees.{CostsOneStep, CostsNothing, operand_referred, element_named};
 
@@ -138,4 +144,47 @@ pub fn trees_that_begin_are_counted<S, A, B>()
         trees_begun s.0 ≤ trees_begun (counting_trees m s).1.0 }
     ensures same { (m : Run S A) (s : State (S × ℕ) × ℕ) →
         m (without_counter s.0, s.1) ≡ outcome_without_counter (counting_trees m s) }
+{}
+
+/// A table that is loaded, an object that is evaluated and one that answers a caller begin at most as many trees as
+/// they have steps, however they end. Counted are the trees of each term that is evaluated in them, as
+/// `trees_that_begin_are_counted` counts them: those of control methods that a field's PCI address asks are among
+/// them. An element of a package that is handed out takes one step, too, and then those of what it holds; it is no
+/// tree, and isn't counted. Counting changes nothing else: the value, the answer or the refusal, the steps that are
+/// left of a value, and the world are those without it. A table that takes a step more than it has, and an element
+/// that costs nothing, are refused by this.
+#[tactic(auto, using(crate::proofs::CountedEvaluations::trees_of_tables_and_answers_are_counted, crate::proofs::ElementsCost::element_handed_out))]
+pub fn trees_of_tables_and_answers_are_counted<S>()
+    ensures table_bounded { (accesses : Accesses S) (bytes : List ℕ) (steps : ℕ) (w : State (S × ℕ)) →
+        trees_begun (counted_loaded accesses (counted_trees accesses) bytes steps w).1 ≤ trees_begun w + steps }
+    ensures table_same { (accesses : Accesses S) (bytes : List ℕ) (steps : ℕ) (w : State (S × ℕ)) →
+        loaded accesses bytes steps (without_counter w) ≡ (
+          (counted_loaded accesses (counted_trees accesses) bytes steps w).0,
+          without_counter (counted_loaded accesses (counted_trees accesses) bytes steps w).1,
+        ) }
+    ensures value_bounded { (accesses : Accesses S) (p : List Seg) (arguments : List Value) (steps : ℕ)
+        (w : State (S × ℕ)) →
+        trees_begun (counted_evaluated accesses (counted_trees accesses) p arguments steps w).1 ≤
+        trees_begun w + steps }
+    ensures value_same { (accesses : Accesses S) (p : List Seg) (arguments : List Value) (steps : ℕ)
+        (w : State (S × ℕ)) →
+        evaluated accesses p arguments steps (without_counter w) ≡ (
+          (counted_evaluated accesses (counted_trees accesses) p arguments steps w).0,
+          without_counter
+              (counted_evaluated accesses (counted_trees accesses) p arguments steps w).1,
+        ) }
+    ensures answer_bounded { (accesses : Accesses S) (p : List Seg) (arguments : List Given) (steps : ℕ)
+        (w : State (S × ℕ)) →
+        trees_begun (counted_answered accesses (counted_trees accesses) p arguments steps w).1 ≤
+        trees_begun w + steps }
+    ensures answer_same { (accesses : Accesses S) (p : List Seg) (arguments : List Given) (steps : ℕ)
+        (w : State (S × ℕ)) →
+        answered accesses p arguments steps (without_counter w) ≡ (
+          (counted_answered accesses (counted_trees accesses) p arguments steps w).0,
+          without_counter
+              (counted_answered accesses (counted_trees accesses) p arguments steps w).1,
+        ) }
+    ensures element { (accesses : Accesses S) (depth : ℕ) (e : Element) →
+        CostsOneStep (element_exported accesses (package_exported accesses depth) e)
+        (held_exported accesses (package_exported accesses depth) e) }
 {}

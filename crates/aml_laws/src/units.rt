@@ -19,11 +19,11 @@ ghost use Rattle.aml_fields.specs.Regions.{write_access, write_whole, write_unit
 ghost use Rattle.aml_laws.specs.UnitPlaces.{IsUnitAt, IsNoUnit, ReadsOnce, WritesOnce};
 ghost use Rattle.aml_laws.specs.UnitsInTurn.{InTurn, EndsRefused, bits_in_units};
 
-/// A unit that lies wholly within its operation region, and begins at a byte of memory below 2^64, at a port below
-/// 2^16 or at a register below 4,096 of a PCI function, is read by one read at this place, and written by one write
-/// there, of its width; the answer is that of the access, a fault as a refusal (ACPI 6.5, 5.5.2.4). Any other unit is
-/// refused as `RegionLimit`, read or written, and nothing is accessed, not even for the bits that a write keeps. A
-/// region whose last unit is refused, and one whose unit ends a byte behind it, are refused by this.
+/// A unit that lies wholly within its operation region, and begins at a byte of memory below 2^64, at a port below 2^16
+/// or at a register below 4,096 of a PCI function, is read by one read at this place, and where it is written whole, by
+/// one write there, of its width; the answer is that of the access, a fault as a refusal (ACPI 6.5, 5.5.2.4). Any other
+/// unit is refused as `RegionLimit`, read or written, and nothing is accessed, not even for the bits that a write
+/// keeps. A region whose last unit is refused, and one whose unit ends a byte behind it, are refused by this.
 pub fn a_unit_is_accessed_within_its_region_alone<S>()
     ensures placed { (region : Region) (width : Width) (offset : ℕ) (at : Place) →
         IsUnitAt region width offset at → unit_place region width offset ≡ Ok at }
@@ -58,10 +58,12 @@ pub fn an_access_is_made_once<S>()
 
 /// The units of a field are read one after another, in the order in which they hold its bits
 /// (`units_hold_each_bit_once` of `aml_fields`), the lowest first, each where those in front of it are done: in an
-/// operation region, and behind an index field and in a bank, whatever an access of a unit is there. What is read is
-/// the bits of the field in the numbers that they hold, one unit behind another. So they are written, too. The first
-/// unit that is refused refuses the access of the field, and none behind it is accessed. The highest unit first is
-/// refused by this.
+/// operation region, and whatever an access of a unit is. Of index fields and of banks
+/// `index_fields_are_accessed_unit_by_unit`, `a_bank_is_selected_before_each_unit` and
+/// `a_bank_is_selected_by_a_write_of_its_field` say it. What is read is the bits of the field in the numbers that they
+/// hold, one unit behind another. So they are written, too. The first unit that is refused refuses the access of the
+/// field, and none behind it is accessed. The highest unit first, and a refused unit that is passed over, are refused
+/// by this.
 pub fn units_are_accessed_lowest_first<S>()
     ensures read { (read : Access → Change S ℕ) (field : FieldUnit) (s : S) (numbers : List ℕ) (after : S) →
         InTurn read (units_of field.bit_offset field.bits field.access) s numbers after → bits_read read field s ≡
@@ -78,8 +80,16 @@ pub fn units_are_accessed_lowest_first<S>()
         (after : S) → InTurn (read_unit accesses region field.access)
         (units_of field.bit_offset field.bits field.access) s numbers after → read_field accesses region field s ≡
         (Ok (packed (bits_in_units (units_of field.bit_offset field.bits field.access) numbers)), after) }
+    ensures unread_in_region { (accesses : Accesses S) (region : Region) (field : FieldUnit) (e : Refusal)
+        (s after : S) → EndsRefused (read_unit accesses region field.access) e
+        (units_of field.bit_offset field.bits field.access) s after →
+        read_field accesses region field s ≡ (Err e, after) }
     ensures written_in_region { (accesses : Accesses S) (region : Region) (field : FieldUnit) (source : List ℕ) (s : S)
         (answers : List (Unit {0})) (after : S) → InTurn (write_unit accesses region field source)
         (units_of field.bit_offset field.bits field.access) s answers after →
         write_field accesses region field source s ≡ (Ok tt, after) }
+    ensures unwritten_in_region { (accesses : Accesses S) (region : Region) (field : FieldUnit) (source : List ℕ)
+        (e : Refusal) (s after : S) → EndsRefused (write_unit accesses region field source) e
+        (units_of field.bit_offset field.bits field.access) s after →
+        write_field accesses region field source s ≡ (Err e, after) }
 {}

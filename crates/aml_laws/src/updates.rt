@@ -14,9 +14,10 @@ ghost use Rattle.aml_laws.specs.UnitPlaces.{IsUnitAt, WritesOnce};
 ghost use Rattle.aml_laws.specs.UnitValues.{Reads, with_reads, IsFilledWith, IsMergedInto};
 
 /// Under the update rules WriteAsOnes and WriteAsZeros a write of a field reads nothing: it comes to the same, whatever
-/// reads are answered with. A unit of it that has a place comes to one write there, with the bits of the field, and
-/// all other bits ones, or zeros; which units a field has `units_hold_each_bit_once` of `aml_fields` says. A rule that
-/// reads the unit first, or that keeps what it held, and a unit that is written twice, are refused by this.
+/// reads are answered with. An access of a unit of it that has a place comes to one write there, with the bits of the
+/// field, and all other bits ones, or zeros. Which units a field has, and that none of them stands there twice,
+/// `a_field_has_one_unit_for_each_piece_that_it_touches` says. A rule that reads the unit first, or that keeps what it
+/// held, and an access of a unit that writes it twice, are refused by this.
 #[tactic(auto, using(crate::proofs::UnreadUnits::ones_and_zeros_read_nothing))]
 pub fn ones_and_zeros_read_nothing<S>()
     ensures unread { (accesses : Accesses S) (reads : Reads S) (region : Region) (field : FieldUnit) (source : List ℕ)
@@ -34,10 +35,11 @@ pub fn ones_and_zeros_read_nothing<S>()
         WritesOnce accesses place field.access value s end → write_unit accesses region field source unit s ≡ end) }
 {}
 
-/// Under the update rule Preserve a unit that the field covers whole comes to one write, and nothing is read. One that
-/// it covers in part comes to one read, and then one write of the number that was read with the bits of the field in
-/// it; where the read faults, the unit is refused so, and it isn't written. A unit that is covered whole and read, and
-/// one that is read twice, are refused by this.
+/// Under the update rule Preserve a write of a unit that the field covers whole comes to one write of it, and nothing
+/// is read. That of a unit that it covers in part comes to one read, and then one write of the number that was read
+/// with the bits of the field in it; where the read faults, the unit is refused so, and it isn't written. A unit that
+/// is covered whole and read, and one that is read twice for one write, are refused by this. That no unit stands twice
+/// among those of a field `a_field_has_one_unit_for_each_piece_that_it_touches` says.
 pub fn a_unit_that_keeps_bits_is_read_once<S>()
     ensures whole { (accesses : Accesses S) (region : Region) (field : FieldUnit) (source : List ℕ) (unit : Access)
         (place : Place) (s : S) → field.update ≡ Preserve → unit.first + unit.count ≤ bit_count field.access →

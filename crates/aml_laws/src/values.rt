@@ -1,5 +1,5 @@
 //! Conversions, comparisons and what two values are joined to.
-ghost use Rattle.std.specs.Prelude.{◌≡◌, ◌⊎◌, ◌<◌, ◌-◌, ◌*◌, ◌^◌, ◌++◌, ◌∷◌, [], ℕ, List, length, nat_lt, true, Ok, Err};
+ghost use Rattle.std.specs.Prelude.{◌≡◌, ◌⊎◌, ◌<◌, ◌-◌, ◌+◌, ◌*◌, ◌^◌, ◌++◌, ◌∷◌, [], ℕ, List, length, nat_lt, true, Ok, Err};
 ghost use Rattle.std.specs.List.{list_all};
 ghost use Rattle.std.specs.Int.Digits.{digits_of};
 ghost use Rattle.std.specs.declared.cmp.Ordering.{Ordering};
@@ -24,7 +24,7 @@ ghost use Rattle.aml_objects.specs.Contents.{content_in};
 ghost use Rattle.aml_laws.specs.Comparisons.{AsksFor};
 ghost use Rattle.aml_laws.specs.Digits.{is_upper_digit};
 ghost use Rattle.aml_laws.specs.Ordered.{IsTotal};
-ghost use Rattle.aml_laws.specs.ResourceLists.{before_end_tag, end_tag, HasEndTag};
+ghost use Rattle.aml_laws.specs.ResourceLists.{before_end_tag, end_tag, bytes_taken, HasEndTag};
 
 /// An integer of a width is read back from the string that it is converted to, by its hexadecimal digits, and by
 /// ToInteger from what ToDecimalString gives. Digits in the wrong order, too few of them, or digits that are read in
@@ -108,12 +108,15 @@ pub fn binary_coded_decimal_has_the_decimal_digits()
 {}
 
 /// Two buffers of resource items are joined to the items of the first before its end tag, those of the second before
-/// its own, and one end tag. An end tag that is left in the middle, or items that are cut at the wrong byte, are
-/// refused by this.
-#[tactic(auto, using(crate::proofs::JoinedResources::joined_items))]
+/// its own, and one end tag, and end right behind that. An end tag that is left in the middle, items that are cut at
+/// the wrong byte, and bytes behind the last end tag are refused by this.
+#[tactic(auto, using(crate::proofs::JoinedResources::joined_items, crate::proofs::JoinedResources::joined_length))]
 pub fn joined_resources_have_the_items_of_both()
     ensures items { (first second joined : List ℕ) → resources_joined (Buffer first) (Buffer second) ≡ Ok joined →
         items_of joined ≡ before_end_tag (items_of first) ++ before_end_tag (items_of second) ++ end_tag ∷ [] }
+    ensures ends { (first second joined : List ℕ) → resources_joined (Buffer first) (Buffer second) ≡ Ok joined →
+        length joined ≡ bytes_taken (before_end_tag (items_of first)) + (bytes_taken (before_end_tag (items_of second)) +
+        2) }
 {}
 
 /// Each integer has a string of all the digits of its width, upper-case hexadecimal ones, and one that

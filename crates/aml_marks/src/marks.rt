@@ -5,7 +5,7 @@ ghost use Rattle.aml_marked.specs.Marked.{Ascending, count_at};
 
 use aml_grammar::Mark;
 use aml_marked::marked_count;
-use ar_space::Refusal;
+use ar_space::Result;
 use std::alloc::Global;
 use std::marker::Model;
 use std::rc::Rc;
@@ -34,7 +34,7 @@ impl Model for Marks {
 
 impl Marks {
     /// The marks, which stand in the order of their offsets.
-    pub(crate) fn new(alloc: Global, list: Vec<Mark>) -> Result<Marks, Refusal>
+    pub(crate) fn new(alloc: Global, list: Vec<Mark>) -> Result<Marks>
         requires { Ascending list.items }
         ensures { Answers result (Ok list.items) }
     {
@@ -48,7 +48,7 @@ impl Marks {
 
     /// Another share of the same marks. It takes no memory, and is refused as `OutOfMemory` where no more shares can
     /// be counted.
-    pub fn share(&self) -> Result<Marks, Refusal>
+    pub fn share(&self) -> Result<Marks>
         ensures { Answers result (Ok self.now) }
     {
         match &self.list {

@@ -10,7 +10,7 @@ use crate::marks::Marks;
 use aml_grammar::{ArgumentCounts, Arities};
 use aml_path::Path;
 use aml_scan::{scan, scan_within};
-use ar_space::Refusal;
+use ar_space::Result;
 use std::alloc::Global;
 
 /// Scans a list of terms: of a table after its header, or, where `body` is true, of the body of a control method.
@@ -30,7 +30,7 @@ pub fn scan_list<C: ArgumentCounts>(
     scope: &Path,
     body: bool,
     counts: &C,
-) -> Result<Marks, Refusal>
+) -> Result<Marks>
     ensures marks { Answers result (marked (term_list by_arities bytes.now scope.now body (C.counts counts.now))) }
     ensures terms { Answers (seen (λ m. trees_by m bytes.now) result)
         (reading bytes.now scope.now body (C.counts counts.now)) }
@@ -49,7 +49,7 @@ pub fn scan_list_within<C: ArgumentCounts>(
     scope: &Path,
     body: bool,
     counts: &C,
-) -> Result<Marks, Refusal>
+) -> Result<Marks>
     ensures marks { Answers result (within levels
         (marked (term_list_within levels by_arities bytes.now scope.now body (C.counts counts.now)))) }
     ensures terms { Answers (seen (λ m. trees_by m bytes.now) result)
@@ -71,11 +71,7 @@ pub struct ScannedTable {
 /// Scans a table after its header, whose names stand at the root, and leaves the argument counts of names that it
 /// declares to the caller. It is refused as `scan_list` refuses it.
 #[tactic(auto, using(crate::proofs::Scans::scanning))]
-pub fn scan_table_apart(
-    alloc: Global,
-    bytes: &[u8],
-    arities: &Arities,
-) -> Result<ScannedTable, Refusal>
+pub fn scan_table_apart(alloc: Global, bytes: &[u8], arities: &Arities) -> Result<ScannedTable>
     ensures { Answers (seen (λ t. (t.marks, arities.now ++ t.added)) result)
         (noted (term_list by_arities bytes.now [] false arities.now)) }
 {
@@ -91,7 +87,7 @@ pub fn scan_table_apart(
 /// Scans a table after its header, whose names stand at the root; the argument counts of names that it declares are
 /// appended to `arities`. It is refused as `scan_list` refuses it, and then no name takes other arguments.
 #[tactic(auto, using(crate::proofs::Scans::scanning))]
-pub fn scan_table(alloc: Global, bytes: &[u8], arities: &mut Arities) -> Result<Marks, Refusal>
+pub fn scan_table(alloc: Global, bytes: &[u8], arities: &mut Arities) -> Result<Marks>
     ensures marks { Answers (seen (λ m. (m, arities.new)) result)
         (noted (term_list by_arities bytes.now [] false arities.old)) }
     ensures table { Answers (seen (λ m. (trees_by m bytes.now, arities.new)) result)
@@ -110,7 +106,7 @@ pub fn scan_table_within(
     levels: usize,
     bytes: &[u8],
     arities: &mut Arities,
-) -> Result<Marks, Refusal>
+) -> Result<Marks>
     ensures marks { Answers (seen (λ m. (m, arities.new)) result)
         (within levels (noted (term_list_within levels by_arities bytes.now [] false arities.old))) }
     ensures table { Answers (seen (λ m. (trees_by m bytes.now, arities.new)) result)

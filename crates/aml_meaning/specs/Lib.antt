@@ -16,7 +16,7 @@ pub mod Given
 pub mod Importing
 pub mod InvocationTerms
 pub mod Invocations
-pub mod KeptBody
+pub mod KeptBodies
 pub mod Known
 pub mod MatchTerms
 pub mod Meaning

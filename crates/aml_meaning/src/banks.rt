@@ -9,11 +9,11 @@ ghost use Rattle.aml_meaning.specs.Regions.{bank_held};
 use crate::regions::RegionField;
 use crate::world_state::WorldState;
 use aml_fields::{Region, Unit, read_unit, write_whole};
-use ar_space::{FieldFault, Refusal, Space, Width};
+use ar_space::{FieldFault, Refusal, Result, Space, Width};
 
 impl RegionField {
     /// A bank field has to hold the value that selects a bank; one that has too few bits is refused as `RegionLimit`.
-    pub fn must_hold(self, value: u64) -> Result<(), Refusal>
+    pub fn must_hold(self, value: u64) -> Result<()>
         ensures answer { Answers result (bank_held self value) }
         ensures memory { NotMemory result }
     {
@@ -38,7 +38,7 @@ fn is_held(bits: u32, value: u64) -> bool
 impl<S: Space> WorldState<S> {
     /// A read of a unit of a region that is located. Refused as `aml_fields::read_unit` refuses it.
     #[tactic(auto, using(crate::proofs::Lifted::parts))]
-    pub fn read_unit(&mut self, region: Region, width: Width, unit: Unit) -> Result<u64, Refusal>
+    pub fn read_unit(&mut self, region: Region, width: Width, unit: Unit) -> Result<u64>
         ensures change { Does result self.new (on_space (read_unit S.accesses region width unit)) self.old }
         ensures memory { NotMemory result }
     {
@@ -54,7 +54,7 @@ impl<S: Space> WorldState<S> {
         width: Width,
         offset: u64,
         value: u64,
-    ) -> Result<(), Refusal>
+    ) -> Result<()>
         ensures change { Does result self.new (on_space (write_whole S.accesses region width offset value)) self.old }
         ensures memory { NotMemory result }
     {

@@ -14,23 +14,22 @@ use crate::world_state::WorldState;
 use aml_marks::{Marks, scan_list_within};
 use aml_objects::Body;
 use aml_path::Path;
-use ar_space::Refusal;
+use ar_space::Result;
 use std::alloc::Global;
-use std::mem;
 
 impl<S> WorldState<S> {
     /// The marks of the body of the control method at a path, with the arguments that names take now; refused as
-    /// `scan_list_within` refuses it, within the levels that this world allows. The body that was read last is not
+    /// `scan_list_within` refuses it, within the levels that this world allows. A body that was read before is not
     /// scanned again, unless a name came or went, or a control method or an alias was replaced.
     ///
     /// They are good for the whole call: names that it declares or removes don't change how its body reads.
-    pub fn body_marks(&mut self, alloc: Global, path: &Path, body: &Body) -> Result<Marks, Refusal>
+    pub fn body_marks(&mut self, path: &Path, body: &Body) -> Result<Marks>
         ensures marks { Does (seen (λ m. trees_of (trees_by m body.now)) result) self.new
             (body_terms path.now body.now) self.old }
         ensures unchanged { self.new ≡ self.old }
     {
         self.declarations
-            .body_marks(alloc, self.nesting.levels, path, body)
+            .body_marks(self.alloc, self.nesting.levels, path, body)
     }
 }
 
@@ -42,7 +41,7 @@ impl Declarations {
         levels: usize,
         path: &Path,
         body: &Body,
-    ) -> Result<Marks, Refusal>
+    ) -> Result<Marks>
         ensures marks { Answers (seen (λ m. trees_by m body.now) result)
             (reading_within levels body.now path.now true (known_arities self.old)) }
         ensures unchanged { self.new ≡ self.old }
@@ -61,7 +60,7 @@ impl Declarations {
         ensures { IfSome result (λ m. reading_within levels body.now path.now true (known_arities self.now) ≡
             Ok (trees_by m.now body.now)) }
     {
-        match &self.kept {
+        match self.kept.get(path) {
             None => None,
             Some(kept) => {
                 if kept.is_within(levels, path, body) {
@@ -73,8 +72,8 @@ impl Declarations {
         }
     }
 
-    /// Keeps the marks of a body that was scanned now within so many levels, and no others. Where there is no memory
-    /// for it, what is kept stays.
+    /// Keeps the marks of a body that was scanned now within so many levels, in place of others of the same control
+    /// method. Where there is no memory for it, what is kept stays.
     fn keep(
         &mut self,
         alloc: Global,
@@ -82,13 +81,14 @@ impl Declarations {
         path: &Path,
         body: &Body,
         marks: &Marks,
-    ) -> Result<(), Refusal>
+    ) -> Result<()>
         requires { reading_within levels body.now path.now true (known_arities self.old) ≡ Ok (trees_by marks.now body.now) }
         ensures unchanged { self.new ≡ self.old }
         ensures memory { IsOkUnless result OutOfMemory }
     {
         let scanned = ScannedBody::shared(alloc, levels, path, body, marks)?;
-        drop(mem::replace(&mut self.kept, Some(scanned)));
+        let path = path.copy(alloc)?;
+        drop(self.kept.insert(path, scanned)?);
         Ok(())
     }
 }
@@ -101,7 +101,7 @@ impl ScannedBody {
         path: &Path,
         body: &Body,
         marks: &Marks,
-    ) -> Result<ScannedBody, Refusal>
+    ) -> Result<ScannedBody>
         ensures { Answers result (Ok (record {
           path = path.now;
           body = body.now;

@@ -19,7 +19,7 @@ use aml_fields::{AddressSpace, Region};
 use aml_namespace::Names;
 use aml_objects::NodeId;
 use aml_path::Path;
-use ar_space::{EvaluationFault, Place, Refusal, Space, Width};
+use ar_space::{EvaluationFault, Place, Refusal, Result, Space, Width};
 use std::alloc::Global;
 use std::collections::VecDeque;
 
@@ -33,10 +33,10 @@ const SECONDARY_BUS: u64 = 0x19;
 impl<S> WorldState<S> {
     /// The bridges above a device, from the outermost on: those below the nearest scope that has a base bus number.
     #[tactic(auto, using(crate::proofs::PassedBridges::does_bridges))]
-    pub fn bridges_above(&self, alloc: Global, device: &Path) -> Result<VecDeque<Path>, Refusal>
+    pub fn bridges_above(&self, device: &Path) -> Result<VecDeque<Path>>
         ensures { Does (seen (λ v. v.items) result) self.now (bridges_above device.now) self.now }
     {
-        bridges_to(alloc, self.names(), device)
+        bridges_to(self.alloc, self.names(), device)
     }
 }
 
@@ -44,7 +44,7 @@ impl<S: Space> WorldState<S> {
     /// The bus behind the bridge at a segment group, bus and address (device in the high word, function in the low
     /// one). An address that is out of range is refused as `RegionLimit`, a function that is no bridge as `DeepPci`.
     #[tactic(auto, using(crate::proofs::Lifted::parts))]
-    pub fn secondary_bus(&mut self, segment: u64, bus: u64, address: u64) -> Result<u64, Refusal>
+    pub fn secondary_bus(&mut self, segment: u64, bus: u64, address: u64) -> Result<u64>
         ensures change { Does result self.new (on_space (secondary_bus S.accesses segment bus address)) self.old }
         ensures memory { NotMemory result }
     {
@@ -53,7 +53,7 @@ impl<S: Space> WorldState<S> {
 }
 
 /// The bridges above a device, from the outermost on. It goes down the device's path once.
-fn bridges_to(alloc: Global, names: &Names, device: &Path) -> Result<VecDeque<Path>, Refusal>
+fn bridges_to(alloc: Global, names: &Names, device: &Path) -> Result<VecDeque<Path>>
     ensures bridges { IfOk result (λ v. v.items ≡ bridges_to names.now.map device.now) }
     ensures memory { IfErr result (λ e. e ≡ OutOfMemory) }
 {
@@ -83,7 +83,7 @@ fn pass_scope(
     device: &Path,
     depth: usize,
     bridges: &mut VecDeque<Path>,
-) -> Result<(), Refusal>
+) -> Result<()>
     requires { depth ≤ length device.now }
     ensures passed { (f : Found) → numbered scope.number names.now.map ≡ Some f → f.0 ≡ take depth device.now →
         OnOk result (bridges.new.items ≡ with_scope names.now.map (take depth device.now) bridges.old.items) }
@@ -101,12 +101,7 @@ fn pass_scope(
 
 /// The bus behind a bridge.
 #[tactic(auto, using(ar_space::proofs::Changes::changing), unfolding(crate::specs::Bridges::secondary_bus))]
-fn secondary_bus<S: Space>(
-    space: &mut S,
-    segment: u64,
-    bus: u64,
-    address: u64,
-) -> Result<u64, Refusal>
+fn secondary_bus<S: Space>(space: &mut S, segment: u64, bus: u64, address: u64) -> Result<u64>
     ensures change { Does result space.new (secondary_bus S.accesses segment bus address) space.old }
     ensures memory { NotMemory result }
 {
@@ -118,7 +113,7 @@ fn secondary_bus<S: Space>(
 
 /// The byte at an offset in the configuration header of a function.
 #[tactic(auto, using(ar_space::proofs::Changes::changing), unfolding(aml_fields::specs::Regions::read_unit))]
-fn header_byte<S: Space>(space: &mut S, function: AddressSpace, at: u64) -> Result<u64, Refusal>
+fn header_byte<S: Space>(space: &mut S, function: AddressSpace, at: u64) -> Result<u64>
     ensures change { Does result space.new (header_byte S.accesses function at) space.old }
     ensures memory { NotMemory result }
 {
@@ -139,7 +134,7 @@ fn header_of(function: AddressSpace) -> Region
 
 /// One access that reads a byte.
 #[tactic(auto, unfolding(aml_fields::specs::Regions::read_access))]
-fn read_byte<S: Space>(space: &mut S, place: Place) -> Result<u64, Refusal>
+fn read_byte<S: Space>(space: &mut S, place: Place) -> Result<u64>
     ensures change { Does result space.new (read_access S.accesses place W8) space.old }
     ensures memory { NotMemory result }
 {
@@ -150,7 +145,7 @@ fn read_byte<S: Space>(space: &mut S, place: Place) -> Result<u64, Refusal>
 }
 
 /// Whether a header type is that of a bridge; another one is refused as `DeepPci`.
-fn bridge_header(kind: u64) -> Result<(), Refusal>
+fn bridge_header(kind: u64) -> Result<()>
     ensures answer { Answers result (bridge_header kind) }
     ensures memory { NotMemory result }
 {

@@ -10,8 +10,7 @@ use crate::term_kind::BufferFieldSize;
 use crate::world_state::WorldState;
 use aml_fields::{new_buffer_field, read_buffer_field, write_buffer_field};
 use aml_objects::{BufferField, Value};
-use ar_space::{Refusal, ValueFault};
-use std::alloc::Global;
+use ar_space::{Refusal, Result, ValueFault};
 
 impl BufferFieldSize {
     /// The bit at which a field with an index begins: CreateBitField counts bits, the others count bytes.
@@ -46,12 +45,7 @@ impl<S> WorldState<S> {
     /// A buffer field of so many bits, from one bit of a buffer on, which nothing names yet. Refused as
     /// `aml_fields::new_buffer_field` refuses it.
     #[tactic(auto, using(crate::proofs::Lifted::parts))]
-    pub fn new_buffer_field(
-        &self,
-        object: u32,
-        bit_offset: u128,
-        bits: u32,
-    ) -> Result<BufferField, Refusal>
+    pub fn new_buffer_field(&self, object: u32, bit_offset: u128, bits: u32) -> Result<BufferField>
         requires { bit_offset + bits < 2 ^ 128 }
         ensures answer { Does result self.now (on_objects (new_buffer_field object bit_offset bits)) self.now }
         ensures memory { NotMemory result }
@@ -61,30 +55,25 @@ impl<S> WorldState<S> {
 
     /// The bits of a buffer field, lowest first, as bytes. Refused as `aml_fields::read_buffer_field` refuses it.
     #[tactic(auto, using(crate::proofs::Lifted::parts))]
-    pub fn read_buffer_field(&self, alloc: Global, field: BufferField) -> Result<Vec<u8>, Refusal>
+    pub fn read_buffer_field(&self, field: BufferField) -> Result<Vec<u8>>
         ensures { Does (seen (λ v. v.items) result) self.now (on_objects (read_buffer_field field)) self.now }
     {
-        read_buffer_field(alloc, &self.heap, field)
+        read_buffer_field(self.alloc, &self.heap, field)
     }
 
     /// Writes a buffer field: the bits of `source`, lowest first, cut or with zeros behind them. Refused as
     /// `aml_fields::write_buffer_field` refuses it.
     #[tactic(auto, using(crate::proofs::Lifted::parts))]
-    pub fn write_buffer_field(
-        &mut self,
-        alloc: Global,
-        field: BufferField,
-        source: &[u8],
-    ) -> Result<(), Refusal>
+    pub fn write_buffer_field(&mut self, field: BufferField, source: &[u8]) -> Result<()>
         ensures change { Does result self.new (on_objects (write_buffer_field field source.now)) self.old }
         ensures memory { NotMemory result }
     {
-        write_buffer_field(alloc, &mut self.heap, field, source)
+        write_buffer_field(self.alloc, &mut self.heap, field, source)
     }
 }
 
 /// The buffer that a value is; any other value is refused as `WrongType`.
-pub fn buffer_of(value: Value) -> Result<u32, Refusal>
+pub fn buffer_of(value: Value) -> Result<u32>
     ensures answer { Answers result (buffer_of value) }
     ensures memory { NotMemory result }
 {

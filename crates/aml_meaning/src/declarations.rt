@@ -9,8 +9,7 @@ ghost use Rattle.aml_meaning.specs.Declaring.{not_in_method, no_method, new_name
 use crate::world_state::WorldState;
 use aml_objects::{Body, Method, MethodBody, MethodFlags, NamedObject, Octets};
 use aml_path::Path;
-use ar_space::{NamespaceFault, Refusal};
-use std::alloc::Global;
+use ar_space::{NamespaceFault, Refusal, Result};
 
 impl<S> WorldState<S> {
     /// Declares a name, and gives the number of the declaration, which is never given again.
@@ -18,7 +17,7 @@ impl<S> WorldState<S> {
     /// A name whose parent doesn't stand is refused as `NotFound`, one that stands already as `Exists`, and one for
     /// which no number is left as `ObjectLimit`. Where a name is refused, nothing changes.
     #[tactic(auto, using(crate::proofs::Lifted::parts))]
-    pub fn declare(&mut self, path: Path, object: NamedObject) -> Result<u64, Refusal>
+    pub fn declare(&mut self, path: Path, object: NamedObject) -> Result<u64>
         ensures world { Does result self.new (on_names (declared path object)) self.old }
         ensures space { self.new.space ≡ self.old.space }
         ensures refused { OnErr result (self.new ≡ self.old) }
@@ -28,17 +27,11 @@ impl<S> WorldState<S> {
 
     /// Declares a name; at module level its parent may be no control method, which is refused as `NotFound`, too.
     #[tactic(auto, using(ar_space::proofs::Changes::changing), unfolding(crate::specs::Declaring::new_name))]
-    pub fn new_name(
-        &mut self,
-        alloc: Global,
-        module_level: bool,
-        path: Path,
-        object: NamedObject,
-    ) -> Result<u64, Refusal>
+    pub fn new_name(&mut self, module_level: bool, path: Path, object: NamedObject) -> Result<u64>
         ensures change { Does result self.new (new_name module_level path object) self.old }
         ensures refused { OnErr result (self.new ≡ self.old) }
     {
-        self.not_in_method(alloc, module_level, &path)?;
+        self.not_in_method(module_level, &path)?;
         self.declare(path, object)
     }
 
@@ -47,33 +40,32 @@ impl<S> WorldState<S> {
     #[tactic(auto, unfolding(crate::specs::Declaring::new_method))]
     pub fn new_method(
         &mut self,
-        alloc: Global,
         module_level: bool,
         path: Path,
         flags: MethodFlags,
         body: Octets,
-    ) -> Result<u64, Refusal>
+    ) -> Result<u64>
         ensures change { Does result self.new (new_method module_level path flags body) self.old }
         ensures refused { OnErr result (self.new ≡ self.old) }
     {
-        match Body::new(alloc, body) {
+        match Body::new(self.alloc, body) {
             Ok(body) => {
                 let body = MethodBody::Aml(body);
                 let method = NamedObject::Method(Method { flags, body });
-                self.new_name(alloc, module_level, path, method)
+                self.new_name(module_level, path, method)
             }
             Err(refusal) => Err(refusal),
         }
     }
 
     #[tactic(auto, unfolding(crate::specs::Declaring::not_in_method))]
-    fn not_in_method(&self, alloc: Global, module_level: bool, path: &Path) -> Result<(), Refusal>
+    fn not_in_method(&self, module_level: bool, path: &Path) -> Result<()>
         ensures { Does result self.now (not_in_method module_level path.now) self.now }
     {
         if !module_level {
             return Ok(());
         }
-        let above = path.prefix(alloc, path.depth().saturating_sub(1))?;
+        let above = path.prefix(self.alloc, path.depth().saturating_sub(1))?;
         match self.names().get(&above) {
             None => Ok(()),
             Some(entry) => no_method(&entry.object),
@@ -88,7 +80,7 @@ impl<S> WorldState<S> {
     }
 }
 
-fn no_method(object: &NamedObject) -> Result<(), Refusal>
+fn no_method(object: &NamedObject) -> Result<()>
     ensures answer { Answers result (no_method object.now) }
     ensures memory { NotMemory result }
 {

@@ -19,13 +19,13 @@ use crate::world_state::WorldState;
 use aml_namespace::{Located, Scope};
 use aml_objects::{Element, Field, NamedObject, Reference, Slot, Value};
 use aml_path::{NameString, Path};
-use ar_space::{EvaluationFault, NamespaceFault, Refusal, ValueFault};
+use ar_space::{EvaluationFault, NamespaceFault, Refusal, Result, ValueFault};
 
 impl<S> WorldState<S> {
     /// Tests that what a reference refers to still stands: the name, the frame, the element or the byte. Refused as
     /// `DeadReference`.
     #[tactic(auto, using(ar_space::proofs::Changes::changing))]
-    pub fn test_reference(&self, reference: Reference) -> Result<(), Refusal>
+    pub fn test_reference(&self, reference: Reference) -> Result<()>
         ensures answer { Does result self.now (tested reference) self.now }
         ensures memory { NotMemory result }
     {
@@ -38,7 +38,7 @@ impl<S> WorldState<S> {
     }
 
     #[tactic(auto, using(ar_space::proofs::Changes::changing, crate::proofs::Declared::declared), unfolding(crate::specs::StoreTargets::name_tested))]
-    pub(crate) fn test_name(&self, number: u64) -> Result<(), Refusal>
+    pub(crate) fn test_name(&self, number: u64) -> Result<()>
         ensures answer { Does result self.now (name_tested number) self.now }
         ensures memory { NotMemory result }
     {
@@ -47,7 +47,7 @@ impl<S> WorldState<S> {
     }
 
     #[tactic(auto, using(ar_space::proofs::Changes::changing), unfolding(crate::specs::StoreTargets::frame_tested))]
-    fn test_frame(&self, number: u64) -> Result<(), Refusal>
+    fn test_frame(&self, number: u64) -> Result<()>
         ensures answer { Does result self.now (frame_tested number) self.now }
         ensures memory { NotMemory result }
     {
@@ -56,7 +56,7 @@ impl<S> WorldState<S> {
     }
 
     #[tactic(auto, using(ar_space::proofs::Changes::changing), unfolding(crate::specs::StoreTargets::byte_tested))]
-    fn test_byte(&self, object: u32, index: usize) -> Result<(), Refusal>
+    fn test_byte(&self, object: u32, index: usize) -> Result<()>
         ensures answer { Does result self.now (byte_tested object index) self.now }
         ensures memory { NotMemory result }
     {
@@ -68,7 +68,7 @@ impl<S> WorldState<S> {
     /// value is a reference to it again. Refused: what is gone as `DeadReference`, what is uninitialized as
     /// `NoValue`, and a name in a package that isn't found as `NotFound`.
     #[tactic(auto, using(ar_space::proofs::Changes::changing))]
-    pub fn dereference(&self, reference: Reference) -> Result<Held, Refusal>
+    pub fn dereference(&self, reference: Reference) -> Result<Held>
         ensures answer { Does result self.now (dereferenced reference) self.now }
         ensures memory { NotMemory result }
     {
@@ -81,7 +81,7 @@ impl<S> WorldState<S> {
     }
 
     #[tactic(auto, using(ar_space::proofs::Changes::changing, crate::proofs::Declared::declared), unfolding(crate::specs::StoreTargets::declared_once))]
-    fn declared_once(&self, number: u64) -> Result<Held, Refusal>
+    fn declared_once(&self, number: u64) -> Result<Held>
         ensures answer { Does result self.now (declared_once number) self.now }
         ensures memory { NotMemory result }
     {
@@ -90,7 +90,7 @@ impl<S> WorldState<S> {
     }
 
     #[tactic(auto, using(ar_space::proofs::Changes::changing), unfolding(crate::specs::StoreTargets::value_once))]
-    fn value_once(&self, value: Value) -> Result<Held, Refusal>
+    fn value_once(&self, value: Value) -> Result<Held>
         ensures answer { Does result self.now (value_once value) self.now }
         ensures memory { NotMemory result }
     {
@@ -99,7 +99,7 @@ impl<S> WorldState<S> {
     }
 
     #[tactic(auto, using(ar_space::proofs::Changes::changing), unfolding(crate::specs::StoreTargets::slot_once))]
-    fn slot_once(&self, number: u64, slot: Slot) -> Result<Held, Refusal>
+    fn slot_once(&self, number: u64, slot: Slot) -> Result<Held>
         ensures answer { Does result self.now (slot_once number slot) self.now }
         ensures memory { NotMemory result }
     {
@@ -109,7 +109,7 @@ impl<S> WorldState<S> {
     }
 
     #[tactic(auto, using(ar_space::proofs::Changes::changing), unfolding(crate::specs::StoreTargets::held_once))]
-    fn held_once(&self, object: u32, index: usize) -> Result<Held, Refusal>
+    fn held_once(&self, object: u32, index: usize) -> Result<Held>
         ensures answer { Does result self.now (held_once object index) self.now }
         ensures memory { NotMemory result }
     {
@@ -118,7 +118,7 @@ impl<S> WorldState<S> {
     }
 
     #[tactic(auto, using(ar_space::proofs::Changes::changing))]
-    fn element_once(&self, element: &Element) -> Result<Held, Refusal>
+    fn element_once(&self, element: &Element) -> Result<Held>
         ensures answer { Does result self.now (element_once element.now) self.now }
         ensures memory { NotMemory result }
     {
@@ -129,7 +129,7 @@ impl<S> WorldState<S> {
     }
 
     #[tactic(auto, using(ar_space::proofs::Changes::changing), unfolding(crate::specs::StoreTargets::name_once))]
-    fn name_once(&self, name: &NameString, scope: &Path) -> Result<Held, Refusal>
+    fn name_once(&self, name: &NameString, scope: &Path) -> Result<Held>
         ensures answer { Does result self.now (name_once name.now scope.now) self.now }
         ensures memory { NotMemory result }
     {
@@ -138,7 +138,7 @@ impl<S> WorldState<S> {
     }
 
     #[tactic(auto, using(ar_space::proofs::Changes::changing), unfolding(crate::specs::StoreTargets::byte_once))]
-    fn byte_once(&self, object: u32, index: usize) -> Result<Held, Refusal>
+    fn byte_once(&self, object: u32, index: usize) -> Result<Held>
         ensures answer { Does result self.now (byte_once object index) self.now }
         ensures memory { NotMemory result }
     {
@@ -148,7 +148,7 @@ impl<S> WorldState<S> {
 
     /// A reference to what a target names; Debug has none, which is refused as `WrongType`.
     #[tactic(auto, using(ar_space::proofs::Changes::changing))]
-    pub fn reference_of(&self, target: &StoreTarget) -> Result<Reference, Refusal>
+    pub fn reference_of(&self, target: &StoreTarget) -> Result<Reference>
         ensures answer { Does result self.now (reference_of target.now) self.now }
         ensures memory { NotMemory result }
     {
@@ -161,7 +161,7 @@ impl<S> WorldState<S> {
     }
 
     #[tactic(auto, using(ar_space::proofs::Changes::changing), unfolding(crate::specs::StoreTargets::slot_reference))]
-    fn slot_reference(&self, slot: Slot) -> Result<Reference, Refusal>
+    fn slot_reference(&self, slot: Slot) -> Result<Reference>
         ensures answer { Does result self.now (slot_reference slot) self.now }
         ensures memory { NotMemory result }
     {
@@ -172,7 +172,7 @@ impl<S> WorldState<S> {
 
     /// The number of the frame at an index.
     #[tactic(auto, unfolding(crate::specs::StoreTargets::frame_number))]
-    fn frame_number(&self, index: usize) -> Result<u64, Refusal>
+    fn frame_number(&self, index: usize) -> Result<u64>
         ensures answer { Does result self.now (frame_number index) self.now }
         ensures memory { NotMemory result }
     {
@@ -183,7 +183,7 @@ impl<S> WorldState<S> {
     }
 
     #[tactic(auto, using(ar_space::proofs::Changes::changing), unfolding(crate::specs::StoreTargets::name_reference))]
-    fn name_reference(&self, path: &Located) -> Result<Reference, Refusal>
+    fn name_reference(&self, path: &Located) -> Result<Reference>
         ensures answer { Does result self.now (name_reference path.now) self.now }
         ensures memory { NotMemory result }
     {
@@ -193,7 +193,7 @@ impl<S> WorldState<S> {
 
     /// The number of the declaration at a path.
     #[tactic(auto, unfolding(crate::specs::StoreTargets::declared_number))]
-    pub(crate) fn declared_number(&self, path: &Located) -> Result<u64, Refusal>
+    pub(crate) fn declared_number(&self, path: &Located) -> Result<u64>
         ensures answer { Does result self.now (declared_number path.now) self.now }
         ensures memory { NotMemory result }
     {
@@ -206,7 +206,7 @@ impl<S> WorldState<S> {
     /// A reference, unless it refers to a slot or an element that holds no value yet. Refused as `DeadReference`
     /// where what it refers to is gone.
     #[tactic(auto, using(ar_space::proofs::Changes::changing))]
-    pub fn if_initialized(&self, reference: Reference) -> Result<Option<Reference>, Refusal>
+    pub fn if_initialized(&self, reference: Reference) -> Result<Option<Reference>>
         ensures answer { Does result self.now (if_initialized reference) self.now }
         ensures memory { NotMemory result }
     {
@@ -219,7 +219,7 @@ impl<S> WorldState<S> {
     }
 
     #[tactic(auto, using(ar_space::proofs::Changes::changing), unfolding(crate::specs::StoreTargets::slot_initialized))]
-    fn slot_initialized(&self, number: u64, slot: Slot) -> Result<Option<Reference>, Refusal>
+    fn slot_initialized(&self, number: u64, slot: Slot) -> Result<Option<Reference>>
         ensures answer { Does result self.now (slot_initialized number slot) self.now }
         ensures memory { NotMemory result }
     {
@@ -229,7 +229,7 @@ impl<S> WorldState<S> {
     }
 
     #[tactic(auto, using(ar_space::proofs::Changes::changing), unfolding(crate::specs::StoreTargets::element_initialized))]
-    fn element_initialized(&self, object: u32, index: usize) -> Result<Option<Reference>, Refusal>
+    fn element_initialized(&self, object: u32, index: usize) -> Result<Option<Reference>>
         ensures answer { Does result self.now (element_initialized object index) self.now }
         ensures memory { NotMemory result }
     {
@@ -243,7 +243,7 @@ impl<S> WorldState<S> {
         &self,
         scope: Scope<'_>,
         name: &NameString,
-    ) -> Result<Option<Reference>, Refusal>
+    ) -> Result<Option<Reference>>
         ensures answer { Does result self.now (reference_if_found scope.entry.path.now name.now) self.now }
         ensures memory { NotMemory result }
     {
@@ -256,7 +256,7 @@ impl<S> WorldState<S> {
 }
 
 /// The reference that a value is; any other value is refused as `WrongType`.
-pub fn reference_in(value: Value) -> Result<Reference, Refusal>
+pub fn reference_in(value: Value) -> Result<Reference>
     ensures answer { Answers result (reference_in value) }
     ensures memory { NotMemory result }
 {

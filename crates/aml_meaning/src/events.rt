@@ -13,14 +13,14 @@ use crate::term_kind::EventChange;
 use crate::world_state::WorldState;
 use aml_namespace::Located;
 use aml_objects::{NamedObject, NodeId, Reference, Slot, Value};
-use ar_space::{Refusal, ValueFault};
+use ar_space::{Refusal, Result, ValueFault};
 
 impl<S> WorldState<S> {
     /// The number of the declaration that a target names: a name, the name that a reference refers to, or the one
     /// that an argument refers to. None where it names something else; a reference to a name that is gone is refused
     /// as `DeadReference`.
     #[tactic(auto, using(ar_space::proofs::Changes::changing))]
-    pub fn event_named(&self, target: &StoreTarget) -> Result<Option<u64>, Refusal>
+    pub fn event_named(&self, target: &StoreTarget) -> Result<Option<u64>>
         ensures answer { Does result self.now (event_named target.now) self.now }
         ensures memory { NotMemory result }
     {
@@ -35,7 +35,7 @@ impl<S> WorldState<S> {
     /// Signal and Reset: the event under a number has one signal more, or none. Refused: what is no event as
     /// `WrongType`, one that is gone as `DeadReference`, and a signal more than 2^64 - 1 as `ObjectLimit`.
     #[tactic(auto, using(ar_space::proofs::Changes::changing), unfolding(crate::specs::Events::event_changed))]
-    pub fn change_event(&mut self, change: EventChange, event: Option<u64>) -> Result<(), Refusal>
+    pub fn change_event(&mut self, change: EventChange, event: Option<u64>) -> Result<()>
         ensures change { Does result self.new (event_changed change event) self.old }
         ensures memory { NotMemory result }
     {
@@ -48,7 +48,7 @@ impl<S> WorldState<S> {
     /// Wait: a signal of the event under a number is taken, which gives False; where it has none, True. Refused: what
     /// is no event as `WrongType`, one that is gone as `DeadReference`, and then a timeout that is no integer.
     #[tactic(auto, using(ar_space::proofs::Changes::changing), unfolding(crate::specs::Events::waited))]
-    pub fn wait(&mut self, event: Option<u64>, timeout: Value) -> Result<Value, Refusal>
+    pub fn wait(&mut self, event: Option<u64>, timeout: Value) -> Result<Value>
         ensures change { Does result self.new (waited event timeout) self.old }
         ensures memory { NotMemory result }
     {
@@ -59,7 +59,7 @@ impl<S> WorldState<S> {
     }
 
     #[tactic(auto, using(ar_space::proofs::Changes::changing))]
-    fn named_by_slot(&self, slot: Slot) -> Result<Option<u64>, Refusal>
+    fn named_by_slot(&self, slot: Slot) -> Result<Option<u64>>
         ensures answer { Does result self.now (named_by_slot slot) self.now }
         ensures memory { NotMemory result }
     {
@@ -70,7 +70,7 @@ impl<S> WorldState<S> {
     }
 
     #[tactic(auto, using(ar_space::proofs::Changes::changing), unfolding(crate::specs::Events::named_by_argument))]
-    fn named_by_argument(&self, index: u8) -> Result<Option<u64>, Refusal>
+    fn named_by_argument(&self, index: u8) -> Result<Option<u64>>
         ensures answer { Does result self.now (named_by_argument index) self.now }
         ensures memory { NotMemory result }
     {
@@ -79,7 +79,7 @@ impl<S> WorldState<S> {
     }
 
     #[tactic(auto, using(ar_space::proofs::Changes::changing))]
-    fn named_by_value(&self, value: Value) -> Result<Option<u64>, Refusal>
+    fn named_by_value(&self, value: Value) -> Result<Option<u64>>
         ensures answer { Does result self.now (named_by_value value) self.now }
         ensures memory { NotMemory result }
     {
@@ -94,7 +94,7 @@ impl<S> WorldState<S> {
     }
 
     #[tactic(auto, using(ar_space::proofs::Changes::changing))]
-    fn named_by_reference(&self, reference: Reference) -> Result<Option<u64>, Refusal>
+    fn named_by_reference(&self, reference: Reference) -> Result<Option<u64>>
         ensures answer { Does result self.now (named_by_reference reference) self.now }
         ensures memory { NotMemory result }
     {
@@ -105,7 +105,7 @@ impl<S> WorldState<S> {
     }
 
     #[tactic(auto, using(ar_space::proofs::Changes::changing), unfolding(crate::specs::Events::name_referred))]
-    fn name_referred(&self, number: u64) -> Result<Option<u64>, Refusal>
+    fn name_referred(&self, number: u64) -> Result<Option<u64>>
         ensures answer { Does result self.now (name_referred number) self.now }
         ensures memory { NotMemory result }
     {
@@ -114,7 +114,7 @@ impl<S> WorldState<S> {
     }
 
     #[tactic(auto, using(ar_space::proofs::Changes::changing), unfolding(crate::specs::Events::name_at))]
-    fn name_at(&self, path: &Located) -> Result<Option<u64>, Refusal>
+    fn name_at(&self, path: &Located) -> Result<Option<u64>>
         ensures answer { Does result self.now (name_at path.now) self.now }
         ensures memory { NotMemory result }
     {
@@ -124,7 +124,7 @@ impl<S> WorldState<S> {
 
     /// How many signals the event under a number has.
     #[tactic(auto, using(ar_space::proofs::Changes::changing, crate::proofs::Declared::declared), unfolding(crate::specs::Events::signals_under))]
-    fn signals_under(&self, number: u64) -> Result<u64, Refusal>
+    fn signals_under(&self, number: u64) -> Result<u64>
         ensures answer { Does result self.now (signals_under number) self.now }
         ensures memory { NotMemory result }
     {
@@ -134,7 +134,7 @@ impl<S> WorldState<S> {
 
     /// Puts so many signals to the event under a number. It takes no memory.
     #[tactic(auto, using(ar_space::proofs::Changes::changing, crate::proofs::Declared::declared), unfolding(crate::specs::Events::put_signals))]
-    fn put_signals(&mut self, number: u64, count: u64) -> Result<(), Refusal>
+    fn put_signals(&mut self, number: u64, count: u64) -> Result<()>
         ensures change { Does result self.new (put_signals number count) self.old }
         ensures memory { NotMemory result }
     {
@@ -145,7 +145,7 @@ impl<S> WorldState<S> {
     }
 
     #[tactic(auto, using(ar_space::proofs::Changes::changing))]
-    fn take_signal(&mut self, number: u64, count: u64) -> Result<Value, Refusal>
+    fn take_signal(&mut self, number: u64, count: u64) -> Result<Value>
         ensures change { Does result self.new (taken_or_not number count) self.old }
         ensures memory { NotMemory result }
     {
@@ -156,7 +156,7 @@ impl<S> WorldState<S> {
     }
 
     #[tactic(auto, using(ar_space::proofs::Changes::changing), unfolding(crate::specs::Events::signal_taken))]
-    fn signal_taken(&mut self, number: u64, fewer: u64) -> Result<Value, Refusal>
+    fn signal_taken(&mut self, number: u64, fewer: u64) -> Result<Value>
         ensures change { Does result self.new (signal_taken number fewer) self.old }
         ensures memory { NotMemory result }
     {
@@ -166,7 +166,7 @@ impl<S> WorldState<S> {
 }
 
 /// The number of what is named, if anything is.
-fn named_or_not(event: Option<u64>) -> Result<u64, Refusal>
+fn named_or_not(event: Option<u64>) -> Result<u64>
     ensures answer { Answers result (named_or_not event) }
     ensures memory { NotMemory result }
 {
@@ -177,7 +177,7 @@ fn named_or_not(event: Option<u64>) -> Result<u64, Refusal>
 }
 
 /// How many signals an event has.
-fn signals_of(object: &NamedObject) -> Result<u64, Refusal>
+fn signals_of(object: &NamedObject) -> Result<u64>
     ensures answer { Answers result (signals_of object.now) }
     ensures memory { NotMemory result }
 {
@@ -188,7 +188,7 @@ fn signals_of(object: &NamedObject) -> Result<u64, Refusal>
 }
 
 /// How many signals an event has after a change.
-fn signals_after(change: EventChange, count: u64) -> Result<u64, Refusal>
+fn signals_after(change: EventChange, count: u64) -> Result<u64>
     ensures answer { Answers result (signals_after change count) }
     ensures memory { NotMemory result }
 {

@@ -11,8 +11,7 @@ use crate::world_state::WorldState;
 use aml_namespace::Scope;
 use aml_objects::{FieldSource, FieldUnit, NamedObject, UpdateRule};
 use aml_path::{NameString, Path};
-use ar_space::{FieldFault, Refusal, ValueFault, Width};
-use std::alloc::Global;
+use ar_space::{FieldFault, Refusal, Result, ValueFault, Width};
 
 /// How many bits a field may have.
 const MAX_BITS: u64 = 8_388_608;
@@ -34,7 +33,7 @@ pub struct FieldLayout {
 
 impl FieldLayout {
     /// So many bits further on; an offset of 2^64 and more is refused as `FieldLimit`.
-    pub fn further(self, count: u64) -> Result<FieldLayout, Refusal>
+    pub fn further(self, count: u64) -> Result<FieldLayout>
         ensures answer { Answers result (further self count) }
         ensures memory { NotMemory result }
     {
@@ -97,13 +96,12 @@ impl<S> WorldState<S> {
     #[tactic(auto, using(ar_space::proofs::Changes::changing), unfolding(crate::specs::FieldTerms::new_field))]
     pub fn new_field(
         &mut self,
-        alloc: Global,
         group: FieldGroup,
         module_level: bool,
         path: Path,
         at: FieldLayout,
         count: u64,
-    ) -> Result<FieldLayout, Refusal>
+    ) -> Result<FieldLayout>
         ensures { Does result self.new (new_field group module_level path at count) self.old }
     {
         let bits = field_size(count)?;
@@ -114,14 +112,14 @@ impl<S> WorldState<S> {
             access: at.access,
             update: group.update,
         };
-        self.new_name(alloc, module_level, path, NamedObject::FieldUnit(unit))?;
+        self.new_name(module_level, path, NamedObject::FieldUnit(unit))?;
         at.further(count)
     }
 
     /// The number of the declaration of the operation region that a name finds; anything else is refused as
     /// `WrongType`, and a name that isn't found as `Names::lookup` refuses it.
     #[tactic(auto, using(ar_space::proofs::Changes::changing), unfolding(crate::specs::FieldTerms::region_found))]
-    pub fn region_found(&self, scope: Scope<'_>, name: &NameString) -> Result<u64, Refusal>
+    pub fn region_found(&self, scope: Scope<'_>, name: &NameString) -> Result<u64>
         ensures answer { Does result self.now (region_found scope.entry.path.now name.now) self.now }
         ensures memory { NotMemory result }
     {
@@ -132,7 +130,7 @@ impl<S> WorldState<S> {
     /// The number of the declaration of the field that a name finds, which Field declared; anything else is refused
     /// as `WrongType`, and a name that isn't found as `Names::lookup` refuses it.
     #[tactic(auto, using(ar_space::proofs::Changes::changing), unfolding(crate::specs::FieldTerms::field_found))]
-    pub fn field_found(&self, scope: Scope<'_>, name: &NameString) -> Result<u64, Refusal>
+    pub fn field_found(&self, scope: Scope<'_>, name: &NameString) -> Result<u64>
         ensures answer { Does result self.now (field_found scope.entry.path.now name.now) self.now }
         ensures memory { NotMemory result }
     {
@@ -143,7 +141,7 @@ impl<S> WorldState<S> {
     /// The buffer that a name in a Connection finds; anything else is refused as `WrongType`, and a name that isn't
     /// found as `Names::lookup` refuses it.
     #[tactic(auto, using(ar_space::proofs::Changes::changing), unfolding(crate::specs::FieldTerms::connection_found))]
-    pub fn connection_found(&self, scope: Scope<'_>, name: &NameString) -> Result<u32, Refusal>
+    pub fn connection_found(&self, scope: Scope<'_>, name: &NameString) -> Result<u32>
         ensures answer { Does result self.now (connection_found scope.entry.path.now name.now) self.now }
         ensures memory { NotMemory result }
     {
@@ -153,7 +151,7 @@ impl<S> WorldState<S> {
 }
 
 /// How many bits a named field has: 1 to 8,388,608; any other number is refused as `FieldLimit`.
-pub fn field_size(count: u64) -> Result<u32, Refusal>
+pub fn field_size(count: u64) -> Result<u32>
     ensures answer { Answers result (sized count) }
     ensures memory { NotMemory result }
 {
@@ -164,7 +162,7 @@ pub fn field_size(count: u64) -> Result<u32, Refusal>
     }
 }
 
-fn region_number(number: u64, object: &NamedObject) -> Result<u64, Refusal>
+fn region_number(number: u64, object: &NamedObject) -> Result<u64>
     ensures answer { Answers result (region_number number object.now) }
     ensures memory { NotMemory result }
 {
@@ -174,7 +172,7 @@ fn region_number(number: u64, object: &NamedObject) -> Result<u64, Refusal>
     }
 }
 
-fn connection_buffer(object: &NamedObject) -> Result<u32, Refusal>
+fn connection_buffer(object: &NamedObject) -> Result<u32>
     ensures answer { Answers result (connection_buffer object.now) }
     ensures memory { NotMemory result }
 {
@@ -184,7 +182,7 @@ fn connection_buffer(object: &NamedObject) -> Result<u32, Refusal>
     }
 }
 
-fn field_number(number: u64, object: &NamedObject) -> Result<u64, Refusal>
+fn field_number(number: u64, object: &NamedObject) -> Result<u64>
     ensures answer { Answers result (field_number number object.now) }
     ensures memory { NotMemory result }
 {
@@ -194,7 +192,7 @@ fn field_number(number: u64, object: &NamedObject) -> Result<u64, Refusal>
     }
 }
 
-fn in_region(number: u64, source: FieldSource) -> Result<u64, Refusal>
+fn in_region(number: u64, source: FieldSource) -> Result<u64>
     ensures answer { Answers result (in_region number source) }
     ensures memory { NotMemory result }
 {

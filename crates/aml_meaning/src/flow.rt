@@ -7,7 +7,7 @@ ghost use Rattle.aml_meaning.specs.StatementTerms.{loop_end};
 ghost use Rattle.aml_meaning.specs.Invocations.{returned_by};
 
 use aml_objects::Value;
-use ar_space::{EvaluationFault, Refusal};
+use ar_space::{EvaluationFault, Refusal, Result};
 
 /// What a term that was evaluated leaves: its value, and whether the list that it stands in goes on (ACPI 6.5, 19.6).
 #[derive(Clone, Copy, Debug, PartialEq, Eq)]
@@ -29,7 +29,7 @@ const _: () = prove!(size_of::<Flow>() == 32);
 
 impl Flow {
     /// The value of a term, where one is wanted; a term without one is refused as `NoValue`.
-    pub fn value(self) -> Result<Value, Refusal>
+    pub fn value(self) -> Result<Value>
         ensures answer { Answers result (value_in self) }
         ensures memory { NotMemory result }
     {

@@ -9,93 +9,64 @@ use crate::targets::holding_of;
 use crate::world_state::WorldState;
 use aml_namespace::Located;
 use aml_objects::{Reference, Value};
-use ar_space::{Refusal, ValueFault};
-use std::alloc::Global;
+use ar_space::{Refusal, Result, ValueFault};
 
 impl<S> WorldState<S> {
     /// Stores what an explicit conversion formed to a target. It is not converted again: a name that holds an
     /// integer, a string or a buffer of another type holds a copy after it. Anything else is as `store` has it.
     #[inline(never)]
     #[tactic(auto, using(ar_space::proofs::Changes::changing))]
-    pub fn store_formed(
-        &mut self,
-        alloc: Global,
-        target: &StoreTarget,
-        value: Value,
-    ) -> Result<Stored, Refusal>
+    pub fn store_formed(&mut self, target: &StoreTarget, value: Value) -> Result<Stored>
         ensures { Does result self.new (formed_to target.now value) self.old }
     {
         match target {
             StoreTarget::Nowhere => Ok(Stored::Done),
-            StoreTarget::Slot(slot) => self.store_in_slot(alloc, *slot, value),
-            StoreTarget::Name(path) => self.formed_in_name(alloc, path, value),
-            StoreTarget::Refers(reference) => self.formed_through(alloc, *reference, value),
+            StoreTarget::Slot(slot) => self.store_in_slot(*slot, value),
+            StoreTarget::Name(path) => self.formed_in_name(path, value),
+            StoreTarget::Refers(reference) => self.formed_through(*reference, value),
         }
     }
 
     #[tactic(auto, using(ar_space::proofs::Changes::changing), unfolding(crate::specs::FormedStores::formed_in_name))]
-    fn formed_in_name(
-        &mut self,
-        alloc: Global,
-        path: &Located,
-        value: Value,
-    ) -> Result<Stored, Refusal>
+    fn formed_in_name(&mut self, path: &Located, value: Value) -> Result<Stored>
         ensures { Does result self.new (formed_in_name path.now value) self.old }
     {
         let held = self.held_at(path)?;
-        self.formed_over(alloc, held, path, value)
+        self.formed_over(held, path, value)
     }
 
     /// What a reference refers to.
     #[tactic(auto, using(ar_space::proofs::Changes::changing))]
-    fn formed_through(
-        &mut self,
-        alloc: Global,
-        reference: Reference,
-        value: Value,
-    ) -> Result<Stored, Refusal>
+    fn formed_through(&mut self, reference: Reference, value: Value) -> Result<Stored>
         ensures { Does result self.new (formed_through reference value) self.old }
     {
         match reference {
-            Reference::Name(number) => self.formed_in_declared(alloc, number, value),
-            Reference::Slot(slot, number) => {
-                self.store_to(alloc, Reference::Slot(slot, number), value)
-            }
+            Reference::Name(number) => self.formed_in_declared(number, value),
+            Reference::Slot(slot, number) => { self.store_to(Reference::Slot(slot, number), value) }
             Reference::Element(object, index) => {
-                self.store_to(alloc, Reference::Element(object, index), value)
+                self.store_to(Reference::Element(object, index), value)
             }
             Reference::Byte(object, index) => {
-                self.store_to(alloc, Reference::Byte(object, index), value)
+                self.store_to(Reference::Byte(object, index), value)
             }
         }
     }
 
     #[tactic(auto, using(ar_space::proofs::Changes::changing), unfolding(crate::specs::FormedStores::formed_in_declared))]
-    fn formed_in_declared(
-        &mut self,
-        alloc: Global,
-        number: u64,
-        value: Value,
-    ) -> Result<Stored, Refusal>
+    fn formed_in_declared(&mut self, number: u64, value: Value) -> Result<Stored>
         ensures { Does result self.new (formed_in_declared number value) self.old }
     {
-        let (path, entry) = self.placed_declaration(alloc, number)?;
+        let (path, entry) = self.placed_declaration(number)?;
         let held = holding_of(&entry.object);
-        self.formed_over(alloc, held, &path, value)
+        self.formed_over(held, &path, value)
     }
 
     #[tactic(auto, using(ar_space::proofs::Changes::changing))]
-    fn formed_over(
-        &mut self,
-        alloc: Global,
-        held: Holding,
-        path: &Located,
-        value: Value,
-    ) -> Result<Stored, Refusal>
+    fn formed_over(&mut self, held: Holding, path: &Located, value: Value) -> Result<Stored>
         ensures { Does result self.new (formed_over held path.now value) self.old }
     {
         match held {
-            Holding::Value(old) => self.formed_over_value(alloc, old, path, value),
+            Holding::Value(old) => self.formed_over_value(old, path, value),
             Holding::Field(field) => Ok(Stored::Field(field)),
             Holding::Nothing => Err(Refusal::Value(ValueFault::WrongType)),
         }
@@ -103,13 +74,7 @@ impl<S> WorldState<S> {
 
     /// A name that holds a value: a store that would convert copies.
     #[tactic(auto, using(ar_space::proofs::Changes::changing))]
-    fn formed_over_value(
-        &mut self,
-        alloc: Global,
-        old: Value,
-        path: &Located,
-        value: Value,
-    ) -> Result<Stored, Refusal>
+    fn formed_over_value(&mut self, old: Value, path: &Located, value: Value) -> Result<Stored>
         ensures { Does result self.new (formed_over_value old path.now value) self.old }
     {
         let is_kept = match old {
@@ -119,9 +84,9 @@ impl<S> WorldState<S> {
             Value::Package(_) | Value::Reference(_) | Value::Uninitialized => true,
         };
         if is_kept {
-            self.store_over_value(alloc, old, path, value)
+            self.store_over_value(old, path, value)
         } else {
-            self.copy_into_name(alloc, path, value)
+            self.copy_into_name(path, value)
         }
     }
 }

@@ -14,7 +14,7 @@ use crate::datum::Datum;
 use crate::world_state::WorldState;
 use aml_objects::{Draft, Element, Elements, Octets, Reference, Value};
 use aml_path::{NameString, Path, Prefix};
-use ar_space::{EvaluationFault, Refusal, ValueFault};
+use ar_space::{EvaluationFault, Refusal, Result, ValueFault};
 use std::alloc::Global;
 
 /// How deep packages may nest that are handed in.
@@ -27,24 +27,24 @@ impl<S> WorldState<S> {
     /// found as `NotFound`, a reference as `WrongType`, and as `ObjectLimit` what is too large, packages that nest
     /// more than 64 deep, and too many objects. A refused value makes no object.
     #[tactic(auto, using(crate::proofs::Imports::appending))]
-    pub fn import(&mut self, alloc: Global, datum: &Datum) -> Result<Value, Refusal>
+    pub fn import(&mut self, datum: &Datum) -> Result<Value>
         ensures { Does result self.new (imported (given_of datum.now)) self.old }
     {
-        let mut draft = Draft::new(alloc);
-        let value = import_by(alloc, self, &mut draft, MAX_NESTING, datum)?;
+        let mut draft = Draft::new(self.alloc);
+        let value = import_by(self, &mut draft, MAX_NESTING, datum)?;
         self.heap.append(draft)?;
         Ok(value)
     }
 
     /// Values that are handed in, one after another, each refused as `import` refuses it; the objects of those before
     /// a refused one stay.
-    pub fn import_all(&mut self, alloc: Global, arguments: &[Datum]) -> Result<Vec<Value>, Refusal>
+    pub fn import_all(&mut self, arguments: &[Datum]) -> Result<Vec<Value>>
         ensures { Does (seen (λ list. list.items) result) self.new
             (all_imported (map given_of arguments.now) []) self.old }
     {
-        let mut values = Vec::new(alloc);
+        let mut values = Vec::new(self.alloc);
         for datum in arguments {
-            let value = self.import(alloc, datum)?;
+            let value = self.import(datum)?;
             values.push(value)?;
         }
         Ok(values)
@@ -52,21 +52,21 @@ impl<S> WorldState<S> {
 
     /// A reference to the name at a path.
     #[tactic(auto, using(ar_space::proofs::Changes::changing), unfolding(crate::specs::Importing::reference_to))]
-    fn reference_to(&self, alloc: Global, path: &Path) -> Result<Value, Refusal>
+    fn reference_to(&self, path: &Path) -> Result<Value>
         ensures { Does result self.now (reference_to path.now) self.now }
     {
-        let name = absolute(alloc, path)?;
-        let entry = self.entry(&Path::root(alloc), &name)?;
+        let name = absolute(self.alloc, path)?;
+        let entry = self.entry(&Path::root(self.alloc), &name)?;
         Ok(Value::Reference(Reference::Name(entry.number)))
     }
 
     /// A new string of these bytes, in a draft.
     #[tactic(auto, using(crate::proofs::Imports::importing))]
-    fn draft_text(&self, alloc: Global, draft: &mut Draft, bytes: &Octets) -> Result<Value, Refusal>
+    fn draft_text(&self, draft: &mut Draft, bytes: &Octets) -> Result<Value>
         ensures { Does result (drafted self.now draft.new) (on_objects (make_string bytes.now))
             (drafted self.now draft.old) }
     {
-        match bytes.copy(alloc) {
+        match bytes.copy(self.alloc) {
             Ok(bytes) => draft.make_string(&self.heap, bytes),
             Err(refusal) => Err(refusal),
         }
@@ -74,16 +74,11 @@ impl<S> WorldState<S> {
 
     /// A new buffer of these bytes, in a draft.
     #[tactic(auto, using(crate::proofs::Imports::importing))]
-    fn draft_bytes(
-        &self,
-        alloc: Global,
-        draft: &mut Draft,
-        bytes: &Octets,
-    ) -> Result<Value, Refusal>
+    fn draft_bytes(&self, draft: &mut Draft, bytes: &Octets) -> Result<Value>
         ensures { Does result (drafted self.now draft.new) (on_objects (make_buffer bytes.now))
             (drafted self.now draft.old) }
     {
-        match bytes.copy(alloc) {
+        match bytes.copy(self.alloc) {
             Ok(bytes) => draft.make_buffer(&self.heap, bytes),
             Err(refusal) => Err(refusal),
         }
@@ -91,7 +86,7 @@ impl<S> WorldState<S> {
 
     /// A new package of these elements, in a draft.
     #[tactic(auto, using(crate::proofs::Imports::importing))]
-    fn draft_package(&self, draft: &mut Draft, elements: Elements) -> Result<Value, Refusal>
+    fn draft_package(&self, draft: &mut Draft, elements: Elements) -> Result<Value>
         ensures { Does result (drafted self.now draft.new) (on_objects (make_package elements))
             (drafted self.now draft.old) }
     {
@@ -100,7 +95,7 @@ impl<S> WorldState<S> {
 }
 
 /// A path, as a name that stands for it anywhere.
-fn absolute(alloc: Global, path: &Path) -> Result<NameString, Refusal>
+fn absolute(alloc: Global, path: &Path) -> Result<NameString>
     ensures { Answers result (Ok (absolute path.now)) }
 {
     Ok(NameString::new(Prefix::Root, path.copy(alloc)?.into_vec()))
@@ -110,22 +105,21 @@ fn absolute(alloc: Global, path: &Path) -> Result<NameString, Refusal>
 #[cycle(importing)]
 #[tactic(auto, using(crate::proofs::Imports::importing))]
 fn import_by<S>(
-    alloc: Global,
     world: &WorldState<S>,
     draft: &mut Draft,
     levels: usize,
     datum: &Datum,
-) -> Result<Value, Refusal>
+) -> Result<Value>
     ensures { Does result (drafted world.now draft.new) (imported_by (package_imported levels) (given_of datum.now))
         (drafted world.now draft.old) }
 {
     match datum {
         Datum::Nothing => Ok(Value::Uninitialized),
         Datum::Integer(number) => world.integer_kept(*number),
-        Datum::Text(bytes) => world.draft_text(alloc, draft, bytes),
-        Datum::Bytes(bytes) => world.draft_bytes(alloc, draft, bytes),
-        Datum::Package(list) => import_package(alloc, world, draft, levels, list),
-        Datum::Named(path) => world.reference_to(alloc, path),
+        Datum::Text(bytes) => world.draft_text(draft, bytes),
+        Datum::Bytes(bytes) => world.draft_bytes(draft, bytes),
+        Datum::Package(list) => import_package(world, draft, levels, list),
+        Datum::Named(path) => world.reference_to(path),
         Datum::Reference => Err(Refusal::Value(ValueFault::WrongType)),
     }
 }
@@ -133,52 +127,49 @@ fn import_by<S>(
 #[cycle(importing)]
 #[tactic(auto, using(crate::proofs::Imports::importing))]
 fn import_package<S>(
-    alloc: Global,
     world: &WorldState<S>,
     draft: &mut Draft,
     levels: usize,
     list: &[Datum],
-) -> Result<Value, Refusal>
+) -> Result<Value>
     ensures { Does result (drafted world.now draft.new) (package_imported levels (givens (map given_of list.now)))
         (drafted world.now draft.old) }
 {
     if levels == 0 {
         return Err(Refusal::Evaluation(EvaluationFault::ObjectLimit));
     }
-    import_elements(alloc, world, draft, levels - 1, list)
+    import_elements(world, draft, levels - 1, list)
 }
 
 #[cycle(importing)]
 #[tactic(auto, using(ar_space::proofs::Changes::changing), unfolding(crate::specs::Importing::elements_imported))]
 fn import_elements<S>(
-    alloc: Global,
     world: &WorldState<S>,
     draft: &mut Draft,
     levels: usize,
     list: &[Datum],
-) -> Result<Value, Refusal>
+) -> Result<Value>
     ensures { Does result (drafted world.now draft.new) (elements_imported (package_imported levels)
         (givens (map given_of list.now))) (drafted world.now draft.old) }
 {
-    let elements = import_each(alloc, world, draft, levels, list)?;
+    let elements = import_each(world, draft, levels, list)?;
     world.draft_package(draft, elements)
 }
 
 #[cycle(importing)]
 #[tactic(auto, using(ar_space::proofs::Changes::changing))]
 fn import_each<S>(
-    alloc: Global,
     world: &WorldState<S>,
     draft: &mut Draft,
     levels: usize,
     list: &[Datum],
-) -> Result<Elements, Refusal>
+) -> Result<Elements>
     ensures { Does result (drafted world.now draft.new) (each_imported (package_imported levels)
         (givens (map given_of list.now)) []) (drafted world.now draft.old) }
 {
-    let mut done = Elements::new(alloc);
+    let mut done = Elements::new(world.alloc);
     for datum in list {
-        let value = import_by(alloc, world, draft, levels, datum)?;
+        let value = import_by(world, draft, levels, datum)?;
         done.push(Element::Value(value))?;
     }
     Ok(done)

@@ -14,18 +14,13 @@ use crate::world_state::WorldState;
 use aml_convert::{
     BinaryOperator, holds, logical_not, operate, operate_logically, truncate, truth,
 };
-use ar_space::{IntegerWidth, Refusal};
+use ar_space::{IntegerWidth, Result};
 
 impl<S> WorldState<S> {
     /// What an operator gives of two integers, as `operate_on_two` has it. Mod by 0 is refused as `DivideByZero`.
     #[inline]
     #[tactic(auto, using(crate::proofs::IntegerOperations::integers))]
-    pub fn operate_on_integers(
-        &self,
-        operator: BinaryOperator,
-        x: u64,
-        y: u64,
-    ) -> Result<u64, Refusal>
+    pub fn operate_on_integers(&self, operator: BinaryOperator, x: u64, y: u64) -> Result<u64>
         ensures answer { Does (seen Integer result) self.now (result_of_two (two.Integers operator) (Integer x)
             (Integer y)) self.now }
         ensures memory { NotMemory result }

@@ -16,8 +16,7 @@ use crate::world_state::WorldState;
 use aml_namespace::Scope;
 use aml_objects::{Field, MethodBody, NamedObject, NodeId, Reference, Value};
 use aml_path::{NameString, Path};
-use ar_space::{EvaluationFault, NamespaceFault, Refusal};
-use std::alloc::Global;
+use ar_space::{EvaluationFault, NamespaceFault, Refusal, Result};
 
 /// How many control methods may ever be called one inside another.
 const MAX_CALLS: usize = 32;
@@ -26,7 +25,7 @@ impl<S> WorldState<S> {
     /// Whether one more call may be made, where so many control methods are being called; refused as `CallDepth` where
     /// these are 32, and as `DepthSetting` where they are as many as this world allows.
     #[tactic(auto, unfolding(crate::specs::Invocations::call_allowed))]
-    pub fn call_allowed(&self, depth: usize) -> Result<(), Refusal>
+    pub fn call_allowed(&self, depth: usize) -> Result<()>
         ensures answer { Does result self.now (call_allowed depth) self.now }
         ensures few { OnOk result (depth < 32) }
         ensures memory { NotMemory result }
@@ -41,21 +40,20 @@ impl<S> WorldState<S> {
     /// another count than it takes as `ArityChanged`.
     pub fn invocation(
         &self,
-        alloc: Global,
         scope: Scope<'_>,
         name: &NameString,
         count: usize,
-    ) -> Result<Invocation, Refusal>
+    ) -> Result<Invocation>
         ensures { Does result self.now (invocation_found scope.entry.path.now name.now count) self.now }
     {
         match self.search(scope, name) {
-            Ok(id) => self.use_with(alloc, id, count),
+            Ok(id) => self.use_with(id, count),
             Err(refusal) => Err(refusal),
         }
     }
 
     /// The node that a name finds from a scope.
-    pub fn search(&self, scope: Scope<'_>, name: &NameString) -> Result<NodeId, Refusal>
+    pub fn search(&self, scope: Scope<'_>, name: &NameString) -> Result<NodeId>
         ensures answer { seen (λ id. numbered id.number self.now.names.map) result ≡
             seen Some (found self.now.names.map scope.entry.path.now name.now) }
         ensures memory { NotMemory result }
@@ -77,32 +75,27 @@ impl<S> WorldState<S> {
     /// What the node is that a name finds, where a value stands with so many arguments; refused as `ArityChanged`
     /// where it takes another count.
     #[tactic(auto, using(ar_space::proofs::Changes::changing), unfolding(crate::specs::Invocations::use_found))]
-    pub fn use_with(&self, alloc: Global, id: NodeId, count: usize) -> Result<Invocation, Refusal>
+    pub fn use_with(&self, id: NodeId, count: usize) -> Result<Invocation>
         ensures { (f : List Segment × Entry) → numbered id.number self.now.names.map ≡ Some f →
             Does result self.now (use_found f count) self.now }
     {
         as_many(self.arguments_at(id), count)?;
-        self.use_of(alloc, id)
+        self.use_of(id)
     }
 
     /// What a name is where a value stands; refused as `invocation` is, the count of arguments aside.
     #[tactic(auto, unfolding(crate::specs::Invocations::named_use))]
-    pub fn named_use(
-        &self,
-        alloc: Global,
-        scope: Scope<'_>,
-        name: &NameString,
-    ) -> Result<Invocation, Refusal>
+    pub fn named_use(&self, scope: Scope<'_>, name: &NameString) -> Result<Invocation>
         ensures { Does result self.now (named_use scope.entry.path.now name.now) self.now }
     {
         match self.names().search_in(scope, name) {
-            Ok(id) => self.use_of(alloc, id),
+            Ok(id) => self.use_of(id),
             Err(refusal) => Err(refusal),
         }
     }
 
     /// What the node is that a name finds, where a value stands.
-    fn use_of(&self, alloc: Global, id: NodeId) -> Result<Invocation, Refusal>
+    fn use_of(&self, id: NodeId) -> Result<Invocation>
         ensures { (f : List Segment × Entry) → numbered id.number self.now.names.map ≡ Some f →
             Answers result (invocation_of_object f.0 f.1.number f.1.object) }
     {
@@ -111,20 +104,20 @@ impl<S> WorldState<S> {
         };
         match &entry.object {
             NamedObject::Data(value) => Ok(Invocation::Value(read_as(entry.number, *value))),
-            NamedObject::Method(method) => self.call_of(alloc, id, &method.body),
+            NamedObject::Method(method) => self.call_of(id, &method.body),
             NamedObject::FieldUnit(unit) => Ok(Invocation::Field(Field::Unit(*unit))),
             NamedObject::BufferField(field) => Ok(Invocation::Field(Field::Buffer(*field))),
             _ => Ok(Invocation::Value(Value::Reference(Reference::Name(entry.number)))),
         }
     }
 
-    fn call_of(&self, alloc: Global, id: NodeId, body: &MethodBody) -> Result<Invocation, Refusal>
+    fn call_of(&self, id: NodeId, body: &MethodBody) -> Result<Invocation>
         ensures { (f : List Segment × Entry) → numbered id.number self.now.names.map ≡ Some f →
             Answers result (invocation_of_body f.0 body.now) }
     {
         match body {
             MethodBody::Osi => Ok(Invocation::Osi),
-            MethodBody::Aml(body) => match self.names().path_of(alloc, id)? {
+            MethodBody::Aml(body) => match self.names().path_of(self.alloc, id)? {
                 None => Err(Refusal::Namespace(NamespaceFault::NotFound)),
                 Some(path) => Ok(Invocation::Method(path, body.share()?)),
             },
@@ -141,7 +134,7 @@ impl<S> WorldState<S> {
 }
 
 /// At most 32 calls one inside another, and no more than a setting allows.
-fn call_allowed_within(calls: usize, depth: usize) -> Result<(), Refusal>
+fn call_allowed_within(calls: usize, depth: usize) -> Result<()>
     ensures answer { result ≡ call_allowed_within calls depth }
     ensures few { OnOk result (depth < 32) }
     ensures memory { NotMemory result }

@@ -15,8 +15,9 @@ use aml_marks::Marks;
 use aml_namespace::{Located, Names};
 use aml_objects::{Body, Entry, NamedObject, NodeId};
 use aml_path::Path;
-use ar_space::Refusal;
+use ar_space::Result;
 use std::alloc::Global;
+use std::collections::BTreeMap;
 use std::marker::Model;
 use std::mem;
 
@@ -32,13 +33,13 @@ pub(crate) struct ScannedBody {
 
 /// The names that are declared, and how many arguments they take as the tables tell.
 ///
-/// How a body reads is up to the arguments that names take. So the marks of the body that was scanned last are kept,
-/// until another body is scanned or names come to take other arguments. What is kept is not seen.
+/// How a body reads is up to the arguments that names take. So the marks of each body that was scanned are kept, by the
+/// path of its control method, until names come to take other arguments. What is kept is not seen.
 #[derive(Drop)]
 pub(crate) struct Declarations {
     pub(crate) names: Names,
     pub(crate) arities: Arities,
-    pub(crate) kept: Option<ScannedBody>,
+    pub(crate) kept: BTreeMap<Path, ScannedBody>,
 }
 
 impl Model for Declarations {
@@ -48,23 +49,23 @@ impl Model for Declarations {
 
     ghost coded = { known_code };
 
-    ghost use Rattle.aml_meaning.specs.KeptBody.{IsKept};
+    ghost use Rattle.aml_meaning.specs.KeptBodies.{AreKept};
 
     ghost view = { λ d. record { names = d.names; arities = d.arities } };
 
-    ghost invariant = { λ d. IsKept (known_arities (record { names = d.names; arities = d.arities })) d.kept };
+    ghost invariant = { λ d. AreKept (known_arities (record { names = d.names; arities = d.arities })) d.kept.entries };
 }
 
 impl Declarations {
     /// The root alone.
     #[tactic(auto, using(crate::proofs::BodyMarks::forgotten))]
-    pub(crate) fn new(alloc: Global) -> Result<Declarations, Refusal>
+    pub(crate) fn new(alloc: Global) -> Result<Declarations>
         ensures { Answers result (Ok (record { names = root_alone; arities = [] })) }
     {
         Ok(Declarations {
             names: Names::new(alloc)?,
             arities: Arities::new(alloc),
-            kept: None,
+            kept: BTreeMap::new(alloc),
         })
     }
 
@@ -87,7 +88,7 @@ impl Declarations {
     /// Declares a name, as `Names::insert` does. What a name in a body finds may be another one
     /// from then on, so nothing is kept any more; where the declaration is refused, what is kept stays.
     #[tactic(auto, using(crate::proofs::KnownNames::keeping))]
-    pub(crate) fn insert(&mut self, path: Path, object: NamedObject) -> Result<u64, Refusal>
+    pub(crate) fn insert(&mut self, path: Path, object: NamedObject) -> Result<u64>
         ensures change { Does result self.new (on_known (declared path object)) self.old }
         ensures refused { OnErr result (self.new ≡ self.old) }
     {
@@ -107,7 +108,7 @@ impl Declarations {
 
     /// A path takes so many arguments from now on, as `Arities::add` has it.
     #[tactic(auto, using(crate::proofs::BodyMarks::forgotten))]
-    pub(crate) fn add_arity(&mut self, path: Path, count: u8) -> Result<(), Refusal>
+    pub(crate) fn add_arity(&mut self, path: Path, count: u8) -> Result<()>
         ensures change { Answers (seen (λ _. self.new) result) (Ok
             (record self.old {
               arities = self.old.arities ++ record {
@@ -183,11 +184,7 @@ impl Declarations {
     /// Puts another object at a path, as `Names::replace_located` does. Where neither object takes arguments or is an
     /// alias, what is kept stays.
     #[tactic(auto, using(crate::proofs::KnownNames::keeping))]
-    pub(crate) fn replace_located(
-        &mut self,
-        located: &Located,
-        object: NamedObject,
-    ) -> Result<(), Refusal>
+    pub(crate) fn replace_located(&mut self, located: &Located, object: NamedObject) -> Result<()>
         ensures change { Does result self.new (on_known (replaced located.now object)) self.old }
         ensures memory { NotMemory result }
     {
@@ -198,16 +195,16 @@ impl Declarations {
 }
 
 /// Keeps nothing any more.
-fn forget(kept: &mut Option<ScannedBody>)
-    ensures { kept.new ≡ None }
+fn forget(kept: &mut BTreeMap<Path, ScannedBody>)
+    ensures { kept.new.entries ≡ [] }
 {
-    drop(kept.take());
+    kept.clear();
 }
 
 /// Keeps what is kept, or nothing any more.
-fn keep_where(kept: &mut Option<ScannedBody>, stays: bool)
-    ensures stays { stays ≡ true → kept.new ≡ kept.old }
-    ensures goes { stays ≡ false → kept.new ≡ None }
+fn keep_where(kept: &mut BTreeMap<Path, ScannedBody>, stays: bool)
+    ensures stays { stays ≡ true → kept.new.entries ≡ kept.old.entries }
+    ensures goes { stays ≡ false → kept.new.entries ≡ [] }
 {
     if !stays {
         forget(kept);

@@ -16,22 +16,21 @@ use crate::store_target::StoreTarget;
 use crate::world_state::WorldState;
 use aml_namespace::Located;
 use aml_objects::{NamedObject, NodeId, Reference};
-use ar_space::{EvaluationFault, NamespaceFault, Refusal, ValueFault};
-use std::alloc::Global;
+use ar_space::{EvaluationFault, NamespaceFault, Refusal, Result, ValueFault};
 
 impl<S> WorldState<S> {
     /// Acquires the mutex that is named, by a path or by a reference. Refused: a path where nothing stands as
     /// `NotFound`, a reference to a name that is gone as `DeadReference`, anything else that is no mutex as
     /// `WrongType`, and a mutex that is acquired 2^64 - 1 times as `ObjectLimit`.
     #[tactic(auto, using(ar_space::proofs::Changes::changing))]
-    pub fn acquire(&mut self, alloc: Global, target: &StoreTarget) -> Result<(), Refusal>
+    pub fn acquire(&mut self, target: &StoreTarget) -> Result<()>
         ensures { Does result self.new (acquired_at target.now) self.old }
     {
         match target {
             StoreTarget::Nowhere => Err(Refusal::Value(ValueFault::WrongType)),
             StoreTarget::Slot(_) => Err(Refusal::Value(ValueFault::WrongType)),
             StoreTarget::Name(path) => self.acquire_at(path),
-            StoreTarget::Refers(reference) => self.acquire_by(alloc, *reference),
+            StoreTarget::Refers(reference) => self.acquire_by(*reference),
         }
     }
 
@@ -39,24 +38,24 @@ impl<S> WorldState<S> {
     /// `NotFound`, a reference to a name that is gone as `DeadReference`, anything else that is no mutex as
     /// `WrongType`, and a mutex that nobody has acquired as `NotAcquired`.
     #[tactic(auto, using(ar_space::proofs::Changes::changing))]
-    pub fn release(&mut self, alloc: Global, target: &StoreTarget) -> Result<(), Refusal>
+    pub fn release(&mut self, target: &StoreTarget) -> Result<()>
         ensures { Does result self.new (given_back_at target.now) self.old }
     {
         match target {
             StoreTarget::Nowhere => Err(Refusal::Value(ValueFault::WrongType)),
             StoreTarget::Slot(_) => Err(Refusal::Value(ValueFault::WrongType)),
             StoreTarget::Name(path) => self.release_at(path),
-            StoreTarget::Refers(reference) => self.release_by(alloc, *reference),
+            StoreTarget::Refers(reference) => self.release_by(*reference),
         }
     }
 
     /// Acquires the mutex that a reference refers to; a reference to anything but a name is refused as `WrongType`.
     #[tactic(auto, using(ar_space::proofs::Changes::changing))]
-    fn acquire_by(&mut self, alloc: Global, reference: Reference) -> Result<(), Refusal>
+    fn acquire_by(&mut self, reference: Reference) -> Result<()>
         ensures { Does result self.new (acquired_by reference) self.old }
     {
         match reference {
-            Reference::Name(number) => self.acquire_numbered(alloc, number),
+            Reference::Name(number) => self.acquire_numbered(number),
             Reference::Slot(_, _) => Err(Refusal::Value(ValueFault::WrongType)),
             Reference::Element(_, _) => Err(Refusal::Value(ValueFault::WrongType)),
             Reference::Byte(_, _) => Err(Refusal::Value(ValueFault::WrongType)),
@@ -64,20 +63,20 @@ impl<S> WorldState<S> {
     }
 
     #[tactic(auto, using(ar_space::proofs::Changes::changing), unfolding(crate::specs::Mutexes::acquired_by_number))]
-    fn acquire_numbered(&mut self, alloc: Global, number: u64) -> Result<(), Refusal>
+    fn acquire_numbered(&mut self, number: u64) -> Result<()>
         ensures { Does result self.new (acquired_by_number number) self.old }
     {
-        let (path, _) = self.placed_declaration(alloc, number)?;
+        let (path, _) = self.placed_declaration(number)?;
         self.acquire_at(&path)
     }
 
     /// Releases the mutex that a reference refers to; a reference to anything but a name is refused as `WrongType`.
     #[tactic(auto, using(ar_space::proofs::Changes::changing))]
-    fn release_by(&mut self, alloc: Global, reference: Reference) -> Result<(), Refusal>
+    fn release_by(&mut self, reference: Reference) -> Result<()>
         ensures { Does result self.new (given_back_by reference) self.old }
     {
         match reference {
-            Reference::Name(number) => self.release_numbered(alloc, number),
+            Reference::Name(number) => self.release_numbered(number),
             Reference::Slot(_, _) => Err(Refusal::Value(ValueFault::WrongType)),
             Reference::Element(_, _) => Err(Refusal::Value(ValueFault::WrongType)),
             Reference::Byte(_, _) => Err(Refusal::Value(ValueFault::WrongType)),
@@ -85,15 +84,15 @@ impl<S> WorldState<S> {
     }
 
     #[tactic(auto, using(ar_space::proofs::Changes::changing), unfolding(crate::specs::Mutexes::given_back_by_number))]
-    fn release_numbered(&mut self, alloc: Global, number: u64) -> Result<(), Refusal>
+    fn release_numbered(&mut self, number: u64) -> Result<()>
         ensures { Does result self.new (given_back_by_number number) self.old }
     {
-        let (path, _) = self.placed_declaration(alloc, number)?;
+        let (path, _) = self.placed_declaration(number)?;
         self.release_at(&path)
     }
 
     #[tactic(auto, using(ar_space::proofs::Changes::changing), unfolding(crate::specs::Mutexes::acquired))]
-    fn acquire_at(&mut self, path: &Located) -> Result<(), Refusal>
+    fn acquire_at(&mut self, path: &Located) -> Result<()>
         ensures change { Does result self.new (acquired path.now) self.old }
         ensures memory { NotMemory result }
     {
@@ -103,7 +102,7 @@ impl<S> WorldState<S> {
     }
 
     #[tactic(auto, using(ar_space::proofs::Changes::changing), unfolding(crate::specs::Mutexes::given_back))]
-    fn release_at(&mut self, path: &Located) -> Result<(), Refusal>
+    fn release_at(&mut self, path: &Located) -> Result<()>
         ensures change { Does result self.new (given_back path.now) self.old }
         ensures memory { NotMemory result }
     {
@@ -163,7 +162,7 @@ impl<S> WorldState<S> {
     }
 
     #[tactic(auto, using(crate::proofs::Lifted::parts))]
-    fn put_count(&mut self, path: &Located, count: u64) -> Result<(), Refusal>
+    fn put_count(&mut self, path: &Located, count: u64) -> Result<()>
         ensures change { Does result self.new (on_names (replaced path.now (object.Mutex count))) self.old }
         ensures memory { NotMemory result }
     {
@@ -173,7 +172,7 @@ impl<S> WorldState<S> {
 
     /// How often the mutex at a path is acquired.
     #[tactic(auto, unfolding(crate::specs::Mutexes::mutex_count))]
-    fn mutex_count(&self, path: &Located) -> Result<u64, Refusal>
+    fn mutex_count(&self, path: &Located) -> Result<u64>
         ensures answer { Does result self.now (mutex_count path.now) self.now }
         ensures memory { NotMemory result }
     {
@@ -194,7 +193,7 @@ fn count_held(held: &NamedObject) -> Option<u64>
     }
 }
 
-fn count_of(object: &NamedObject) -> Result<u64, Refusal>
+fn count_of(object: &NamedObject) -> Result<u64>
     ensures answer { Answers result (count_of_object object.now) }
     ensures memory { NotMemory result }
 {
@@ -204,7 +203,7 @@ fn count_of(object: &NamedObject) -> Result<u64, Refusal>
     }
 }
 
-pub(crate) fn once_more(count: u64) -> Result<u64, Refusal>
+pub(crate) fn once_more(count: u64) -> Result<u64>
     ensures answer { Answers result (once_more count) }
     ensures memory { NotMemory result }
 {
@@ -214,7 +213,7 @@ pub(crate) fn once_more(count: u64) -> Result<u64, Refusal>
     Ok(count + 1)
 }
 
-fn once_less(count: u64) -> Result<u64, Refusal>
+fn once_less(count: u64) -> Result<u64>
     ensures answer { Answers result (once_less count) }
     ensures memory { NotMemory result }
 {

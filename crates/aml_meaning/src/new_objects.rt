@@ -8,7 +8,7 @@ ghost use Rattle.aml_meaning.specs.NewObjects.{within, sized, filled, new_buffer
 
 use crate::world_state::WorldState;
 use aml_objects::{Element, Elements, Octets, Value};
-use ar_space::{EvaluationFault, Refusal};
+use ar_space::{EvaluationFault, Refusal, Result};
 
 /// How many bytes a buffer may have.
 const MAX_BYTES: u64 = 1_048_576;
@@ -20,14 +20,14 @@ impl<S> WorldState<S> {
     /// A new buffer as long as its size says, or as its bytes where they are more, zero-filled; refused as
     /// `ObjectLimit` where it is too long, or one object too many.
     #[tactic(auto, using(ar_space::proofs::Changes::changing), unfolding(crate::specs::NewObjects::new_buffer))]
-    pub fn new_buffer(&mut self, size: u64, bytes: Octets) -> Result<Value, Refusal>
+    pub fn new_buffer(&mut self, size: u64, bytes: Octets) -> Result<Value>
         ensures { Does result self.new (new_buffer size bytes) self.old }
     {
         self.within(MAX_BYTES, size)?;
         self.make_sized(size, bytes)
     }
 
-    fn make_sized(&mut self, size: u64, bytes: Octets) -> Result<Value, Refusal>
+    fn make_sized(&mut self, size: u64, bytes: Octets) -> Result<Value>
         ensures { Does result self.new (on_objects (make_buffer (sized size bytes))) self.old }
     {
         let bytes = sized(size, bytes)?;
@@ -35,7 +35,7 @@ impl<S> WorldState<S> {
     }
 
     /// A package may have so many elements; more are refused as `ObjectLimit`.
-    pub fn few_elements(&self, count: u64) -> Result<(), Refusal>
+    pub fn few_elements(&self, count: u64) -> Result<()>
         ensures answer { Does result self.now (within 65535 count) self.now }
         ensures memory { NotMemory result }
     {
@@ -43,7 +43,7 @@ impl<S> WorldState<S> {
     }
 
     #[tactic(auto, unfolding(crate::specs::NewObjects::within))]
-    fn within(&self, most: u64, count: u64) -> Result<(), Refusal>
+    fn within(&self, most: u64, count: u64) -> Result<()>
         ensures answer { Does result self.now (within most count) self.now }
         ensures memory { NotMemory result }
     {
@@ -56,7 +56,7 @@ impl<S> WorldState<S> {
     /// A new package with as many elements as it says; those that are left out are uninitialized. Refused as
     /// `ObjectLimit` where it has too many, or one object too many.
     #[tactic(auto, unfolding(crate::specs::NewObjects::new_package))]
-    pub fn new_package(&mut self, count: usize, elements: Elements) -> Result<Value, Refusal>
+    pub fn new_package(&mut self, count: usize, elements: Elements) -> Result<Value>
         ensures { Does result self.new (new_package count elements) self.old }
     {
         let elements = filled(count, elements)?;
@@ -65,7 +65,7 @@ impl<S> WorldState<S> {
 }
 
 /// Bytes, and zeros up to a length.
-fn sized(size: u64, bytes: Octets) -> Result<Octets, Refusal>
+fn sized(size: u64, bytes: Octets) -> Result<Octets>
     ensures { Answers result (Ok (sized size bytes)) }
 {
     let mut list = bytes.into_vec();
@@ -76,7 +76,7 @@ fn sized(size: u64, bytes: Octets) -> Result<Octets, Refusal>
 }
 
 /// Elements, and uninitialized ones up to a count.
-fn filled(count: usize, elements: Elements) -> Result<Elements, Refusal>
+fn filled(count: usize, elements: Elements) -> Result<Elements>
     ensures { Answers result (Ok (filled count elements)) }
 {
     let mut all = elements;

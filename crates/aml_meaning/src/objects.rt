@@ -11,8 +11,7 @@ ghost use Rattle.aml_meaning.specs.State.{on_objects};
 
 use crate::world_state::WorldState;
 use aml_objects::{Content, Element, Elements, Octets, Value};
-use ar_space::Refusal;
-use std::alloc::Global;
+use ar_space::Result;
 
 impl<S> WorldState<S> {
     /// What a value holds. It takes no memory.
@@ -24,7 +23,7 @@ impl<S> WorldState<S> {
 
     /// A new string; refused as `ObjectLimit` where it is too long, or one object too many.
     #[tactic(auto, using(crate::proofs::Lifted::parts))]
-    pub fn make_string(&mut self, bytes: Octets) -> Result<Value, Refusal>
+    pub fn make_string(&mut self, bytes: Octets) -> Result<Value>
         ensures world { Does result self.new (on_objects (make_string bytes)) self.old }
         ensures space { self.new.space ≡ self.old.space }
     {
@@ -33,7 +32,7 @@ impl<S> WorldState<S> {
 
     /// A new buffer; refused as `ObjectLimit` where it is too long, or one object too many.
     #[tactic(auto, using(crate::proofs::Lifted::parts))]
-    pub fn make_buffer(&mut self, bytes: Octets) -> Result<Value, Refusal>
+    pub fn make_buffer(&mut self, bytes: Octets) -> Result<Value>
         ensures { Does result self.new (on_objects (make_buffer bytes)) self.old }
     {
         self.heap.make_buffer(bytes)
@@ -41,7 +40,7 @@ impl<S> WorldState<S> {
 
     /// A new package; refused as `ObjectLimit` where it has too many elements, or one object too many.
     #[tactic(auto, using(crate::proofs::Lifted::parts))]
-    pub fn make_package(&mut self, elements: Elements) -> Result<Value, Refusal>
+    pub fn make_package(&mut self, elements: Elements) -> Result<Value>
         ensures { Does result self.new (on_objects (make_package elements)) self.old }
     {
         self.heap.make_package(elements)
@@ -50,40 +49,40 @@ impl<S> WorldState<S> {
     /// A deep copy of a value; refused as `ObjectLimit` where packages nest too deeply or objects are too many, and
     /// then nothing changes.
     #[tactic(auto, using(crate::proofs::Lifted::parts))]
-    pub fn copy(&mut self, alloc: Global, value: Value) -> Result<Value, Refusal>
+    pub fn copy(&mut self, value: Value) -> Result<Value>
         ensures { Does result self.new (on_objects (copied value)) self.old }
     {
-        self.heap.copy(alloc, value)
+        self.heap.copy(self.alloc, value)
     }
 
     /// The bytes of a string; another kind of object is refused as `WrongType`.
     #[tactic(auto, using(crate::proofs::Lifted::parts))]
-    pub fn string(&self, alloc: Global, object: u32) -> Result<Octets, Refusal>
+    pub fn string(&self, object: u32) -> Result<Octets>
         ensures { Does result self.now (on_objects (string_at object)) self.now }
     {
-        self.heap.string(alloc, object)
+        self.heap.string(self.alloc, object)
     }
 
     /// The bytes of a buffer; another kind of object is refused as `WrongType`.
     #[tactic(auto, using(crate::proofs::Lifted::parts))]
-    pub fn buffer(&self, alloc: Global, object: u32) -> Result<Octets, Refusal>
+    pub fn buffer(&self, object: u32) -> Result<Octets>
         ensures { Does result self.now (on_objects (buffer_at object)) self.now }
     {
-        self.heap.buffer(alloc, object)
+        self.heap.buffer(self.alloc, object)
     }
 
     /// The elements of a package; another kind of object is refused as `WrongType`.
     #[tactic(auto, using(crate::proofs::Lifted::parts))]
-    pub fn elements(&self, alloc: Global, object: u32) -> Result<Elements, Refusal>
+    pub fn elements(&self, object: u32) -> Result<Elements>
         ensures { Does result self.now (on_objects (elements_at object)) self.now }
     {
-        self.heap.elements(alloc, object)
+        self.heap.elements(self.alloc, object)
     }
 
     /// Stores bytes into a buffer, cut or zero-filled to its length; an empty one takes them whole. Refused as
     /// `Heap::write_buffer` refuses it.
     #[tactic(auto, using(crate::proofs::Lifted::parts))]
-    pub fn write_buffer(&mut self, object: u32, bytes: Octets) -> Result<(), Refusal>
+    pub fn write_buffer(&mut self, object: u32, bytes: Octets) -> Result<()>
         ensures { Does result self.new (on_objects (write_buffer object bytes)) self.old }
     {
         self.heap.write_buffer(object, bytes)
@@ -91,7 +90,7 @@ impl<S> WorldState<S> {
 
     /// Stores bytes into a string, which takes their length. Refused as `Heap::write_string` refuses it.
     #[tactic(auto, using(crate::proofs::Lifted::parts))]
-    pub fn write_string(&mut self, object: u32, bytes: Octets) -> Result<(), Refusal>
+    pub fn write_string(&mut self, object: u32, bytes: Octets) -> Result<()>
         ensures change { Does result self.new (on_objects (write_string object bytes)) self.old }
         ensures memory { NotMemory result }
     {
@@ -100,7 +99,7 @@ impl<S> WorldState<S> {
 
     /// An element of a package; past its end, and of another kind of object, this is refused as `DeadReference`.
     #[tactic(auto, using(crate::proofs::Lifted::parts))]
-    pub(crate) fn element(&self, object: u32, index: usize) -> Result<&Element, Refusal>
+    pub(crate) fn element(&self, object: u32, index: usize) -> Result<&Element>
         ensures answer { Does (seen (λ e. e.now) result) self.now (on_objects (element_at object index)) self.now }
         ensures memory { NotMemory result }
     {
@@ -109,7 +108,7 @@ impl<S> WorldState<S> {
 
     /// A byte of a string or a buffer; past its end this is refused as `DeadReference`.
     #[tactic(auto, using(crate::proofs::Lifted::parts))]
-    pub(crate) fn byte(&self, object: u32, index: usize) -> Result<u8, Refusal>
+    pub(crate) fn byte(&self, object: u32, index: usize) -> Result<u8>
         ensures answer { Does result self.now (on_objects (byte_at object index)) self.now }
         ensures memory { NotMemory result }
     {
@@ -119,7 +118,7 @@ impl<S> WorldState<S> {
     /// Tests that a package has an element there; past its end, and of another kind of object, this is refused as
     /// `DeadReference`.
     #[tactic(auto, using(crate::proofs::Lifted::parts))]
-    pub(crate) fn element_there(&self, object: u32, index: usize) -> Result<(), Refusal>
+    pub(crate) fn element_there(&self, object: u32, index: usize) -> Result<()>
         ensures answer { Does result self.now (on_objects (element_there object index)) self.now }
         ensures memory { NotMemory result }
     {
@@ -133,7 +132,7 @@ impl<S> WorldState<S> {
         object: u32,
         index: usize,
         element: Element,
-    ) -> Result<(), Refusal>
+    ) -> Result<()>
         ensures change { Does result self.new (on_objects (write_element object index element)) self.old }
         ensures memory { NotMemory result }
     {
@@ -142,7 +141,7 @@ impl<S> WorldState<S> {
 
     /// Puts a byte in place of one of a string or a buffer.
     #[tactic(auto, using(crate::proofs::Lifted::parts))]
-    pub(crate) fn write_byte(&mut self, object: u32, index: usize, byte: u8) -> Result<(), Refusal>
+    pub(crate) fn write_byte(&mut self, object: u32, index: usize, byte: u8) -> Result<()>
         ensures change { Does result self.new (on_objects (write_byte object index byte)) self.old }
         ensures memory { NotMemory result }
     {

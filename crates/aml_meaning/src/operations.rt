@@ -23,8 +23,7 @@ use aml_convert::{
     operate_on_one, to_buffer, truncate, truth,
 };
 use aml_objects::{Object, Octets, Reference, Value};
-use ar_space::{EvaluationFault, Refusal, ValueFault};
-use std::alloc::Global;
+use ar_space::{EvaluationFault, Refusal, Result, ValueFault};
 
 impl<S> WorldState<S> {
     /// What an operator gives of two values. Both are converted first, from left to right, and refused as that is.
@@ -32,17 +31,16 @@ impl<S> WorldState<S> {
     #[tactic(auto, using(ar_space::proofs::Changes::changing))]
     pub fn operate_on_two(
         &mut self,
-        alloc: Global,
         operator: TwoOperands,
         first: Value,
         second: Value,
-    ) -> Result<Value, Refusal>
+    ) -> Result<Value>
         ensures { Does result self.new (result_of_two operator first second) self.old }
     {
         match operator {
             TwoOperands::Integers(operator) => self.operate(operator, first, second),
-            TwoOperands::Concatenate => self.join(alloc, first, second),
-            TwoOperands::ConcatenateResources => self.join_resources(alloc, first, second),
+            TwoOperands::Concatenate => self.join(first, second),
+            TwoOperands::ConcatenateResources => self.join_resources(first, second),
             TwoOperands::Index => self.index(first, second),
         }
     }
@@ -50,17 +48,12 @@ impl<S> WorldState<S> {
     /// What an operator gives of a value, converted first and refused as that is.
     #[inline(never)]
     #[tactic(auto, using(ar_space::proofs::Changes::changing))]
-    pub fn operate_on_one(
-        &mut self,
-        alloc: Global,
-        operator: OneOperand,
-        value: Value,
-    ) -> Result<Value, Refusal>
+    pub fn operate_on_one(&mut self, operator: OneOperand, value: Value) -> Result<Value>
         ensures { Does result self.new (result_of_one operator value) self.old }
     {
         match operator {
             OneOperand::Integer(operator) => self.operate_on_integer(operator, value),
-            OneOperand::ToBuffer => self.to_buffer(alloc, value),
+            OneOperand::ToBuffer => self.to_buffer(value),
             OneOperand::ToInteger => self.to_integer(value),
         }
     }
@@ -69,25 +62,19 @@ impl<S> WorldState<S> {
     /// compared, the second to the type of the first, and refused as that is.
     #[inline(never)]
     #[tactic(auto, using(ar_space::proofs::Changes::changing))]
-    pub fn test(
-        &self,
-        alloc: Global,
-        test: Test,
-        first: Value,
-        second: Value,
-    ) -> Result<Value, Refusal>
+    pub fn test(&self, test: Test, first: Value, second: Value) -> Result<Value>
         ensures { Does result self.now (result_of_test test first second) self.now }
     {
         match test {
             Test::Logical(operator) => self.operate_logically(operator, first, second),
-            Test::Compare(comparison) => self.compare(alloc, comparison, first, second),
+            Test::Compare(comparison) => self.compare(comparison, first, second),
         }
     }
 
     /// The quotient and the remainder of two values; a divisor of 0 is refused as `DivideByZero`.
     #[inline(never)]
     #[tactic(auto, using(ar_space::proofs::Changes::changing), unfolding(crate::specs::Operations::divided_in))]
-    pub fn divide(&self, first: Value, second: Value) -> Result<Division, Refusal>
+    pub fn divide(&self, first: Value, second: Value) -> Result<Division>
         ensures answer { Does result self.now (divided_in first second) self.now }
         ensures memory { NotMemory result }
     {
@@ -98,7 +85,7 @@ impl<S> WorldState<S> {
 
     /// True where a value is 0, converted to an integer first and refused as that is.
     #[tactic(auto, using(ar_space::proofs::Changes::changing), unfolding(crate::specs::Operations::turned))]
-    pub fn logical_not(&self, value: Value) -> Result<Value, Refusal>
+    pub fn logical_not(&self, value: Value) -> Result<Value>
         ensures answer { Does result self.now (turned value) self.now }
         ensures memory { NotMemory result }
     {
@@ -108,7 +95,7 @@ impl<S> WorldState<S> {
 
     /// The next integer, or the one before.
     #[tactic(auto, using(ar_space::proofs::Changes::changing))]
-    pub fn count(&self, count: Count, number: u64) -> Result<Value, Refusal>
+    pub fn count(&self, count: Count, number: u64) -> Result<Value>
         ensures answer { Does result self.now (counted_by count number) self.now }
         ensures memory { NotMemory result }
     {
@@ -121,7 +108,7 @@ impl<S> WorldState<S> {
     /// How many bytes a string or a buffer has, or elements a package. Anything else, a field unit that isn't read
     /// among it, is refused as `WrongType`, and what is uninitialized as `NoValue`.
     #[tactic(auto, unfolding(crate::specs::Operations::size_in))]
-    pub fn size(&self, referent: Referent) -> Result<Value, Refusal>
+    pub fn size(&self, referent: Referent) -> Result<Value>
         ensures answer { Does result self.now (size_in referent) self.now }
         ensures memory { NotMemory result }
     {
@@ -134,7 +121,7 @@ impl<S> WorldState<S> {
     /// A reference to an element of a package, or to a byte of a string or a buffer. Another source is refused as
     /// `WrongType`, and an index past the end as `IndexLimit`.
     #[tactic(auto, using(ar_space::proofs::Changes::changing))]
-    fn index(&self, source: Value, index: Value) -> Result<Value, Refusal>
+    fn index(&self, source: Value, index: Value) -> Result<Value>
         ensures answer { Does result self.now (indexed source index) self.now }
         ensures memory { NotMemory result }
     {
@@ -149,7 +136,7 @@ impl<S> WorldState<S> {
     }
 
     #[tactic(auto, using(ar_space::proofs::Changes::changing), unfolding(crate::specs::Operations::element_indexed))]
-    fn index_element(&self, object: u32, index: Value) -> Result<Value, Refusal>
+    fn index_element(&self, object: u32, index: Value) -> Result<Value>
         ensures answer { Does result self.now (element_indexed object index) self.now }
         ensures memory { NotMemory result }
     {
@@ -159,7 +146,7 @@ impl<S> WorldState<S> {
     }
 
     #[tactic(auto, using(ar_space::proofs::Changes::changing), unfolding(crate::specs::Operations::byte_indexed))]
-    fn index_byte(&self, source: Value, object: u32, index: Value) -> Result<Value, Refusal>
+    fn index_byte(&self, source: Value, object: u32, index: Value) -> Result<Value>
         ensures answer { Does result self.now (byte_indexed source object index) self.now }
         ensures memory { NotMemory result }
     {
@@ -170,7 +157,7 @@ impl<S> WorldState<S> {
 
     /// How many bytes or elements a value has.
     #[tactic(auto, unfolding(crate::specs::Operations::size_held))]
-    pub(crate) fn size_held(&self, value: Value) -> Result<u64, Refusal>
+    pub(crate) fn size_held(&self, value: Value) -> Result<u64>
         ensures answer { Does result self.now (size_held value) self.now }
         ensures memory { NotMemory result }
     {
@@ -178,12 +165,7 @@ impl<S> WorldState<S> {
     }
 
     #[tactic(auto, using(ar_space::proofs::Changes::changing), unfolding(crate::specs::Operations::operated))]
-    fn operate(
-        &self,
-        operator: BinaryOperator,
-        first: Value,
-        second: Value,
-    ) -> Result<Value, Refusal>
+    fn operate(&self, operator: BinaryOperator, first: Value, second: Value) -> Result<Value>
         ensures answer { Does result self.now (operated operator first second) self.now }
         ensures memory { NotMemory result }
     {
@@ -193,7 +175,7 @@ impl<S> WorldState<S> {
     }
 
     #[tactic(auto, unfolding(crate::specs::Operations::integers_operated))]
-    fn integers_operated(&self, operator: BinaryOperator, x: u64, y: u64) -> Result<Value, Refusal>
+    fn integers_operated(&self, operator: BinaryOperator, x: u64, y: u64) -> Result<Value>
         ensures answer { Does result self.now (integers_operated operator x y) self.now }
         ensures memory { NotMemory result }
     {
@@ -201,7 +183,7 @@ impl<S> WorldState<S> {
     }
 
     #[tactic(auto, using(ar_space::proofs::Changes::changing), unfolding(crate::specs::Operations::operated_on_one))]
-    fn operate_on_integer(&self, operator: UnaryOperator, value: Value) -> Result<Value, Refusal>
+    fn operate_on_integer(&self, operator: UnaryOperator, value: Value) -> Result<Value>
         ensures answer { Does result self.now (operated_on_one operator value) self.now }
         ensures memory { NotMemory result }
     {
@@ -210,7 +192,7 @@ impl<S> WorldState<S> {
     }
 
     #[tactic(auto, unfolding(crate::specs::Operations::integer_operated))]
-    fn integer_operated(&self, operator: UnaryOperator, x: u64) -> Result<Value, Refusal>
+    fn integer_operated(&self, operator: UnaryOperator, x: u64) -> Result<Value>
         ensures answer { Does result self.now (integer_operated operator x) self.now }
         ensures memory { NotMemory result }
     {
@@ -223,7 +205,7 @@ impl<S> WorldState<S> {
         operator: LogicalOperator,
         first: Value,
         second: Value,
-    ) -> Result<Value, Refusal>
+    ) -> Result<Value>
         ensures answer { Does result self.now (operated_logically operator first second) self.now }
         ensures memory { NotMemory result }
     {
@@ -233,7 +215,7 @@ impl<S> WorldState<S> {
     }
 
     #[tactic(auto, unfolding(crate::specs::Operations::integers_tested))]
-    fn integers_tested(&self, operator: LogicalOperator, x: u64, y: u64) -> Result<Value, Refusal>
+    fn integers_tested(&self, operator: LogicalOperator, x: u64, y: u64) -> Result<Value>
         ensures answer { Does result self.now (integers_tested operator x y) self.now }
         ensures memory { NotMemory result }
     {
@@ -241,7 +223,7 @@ impl<S> WorldState<S> {
     }
 
     #[tactic(auto, unfolding(crate::specs::Operations::integer_turned))]
-    fn integer_turned(&self, x: u64) -> Result<Value, Refusal>
+    fn integer_turned(&self, x: u64) -> Result<Value>
         ensures answer { Does result self.now (integer_turned x) self.now }
         ensures memory { NotMemory result }
     {
@@ -249,7 +231,7 @@ impl<S> WorldState<S> {
     }
 
     #[tactic(auto, unfolding(crate::specs::Operations::next_integer))]
-    fn next_integer(&self, x: u64) -> Result<Value, Refusal>
+    fn next_integer(&self, x: u64) -> Result<Value>
         ensures answer { Does result self.now (next_integer x) self.now }
         ensures memory { NotMemory result }
     {
@@ -257,7 +239,7 @@ impl<S> WorldState<S> {
     }
 
     #[tactic(auto, unfolding(crate::specs::Operations::integer_before))]
-    fn integer_before(&self, x: u64) -> Result<Value, Refusal>
+    fn integer_before(&self, x: u64) -> Result<Value>
         ensures answer { Does result self.now (integer_before x) self.now }
         ensures memory { NotMemory result }
     {
@@ -265,17 +247,11 @@ impl<S> WorldState<S> {
     }
 
     #[tactic(auto, unfolding(crate::specs::Operations::compared_in))]
-    fn compare(
-        &self,
-        alloc: Global,
-        comparison: Comparison,
-        first: Value,
-        second: Value,
-    ) -> Result<Value, Refusal>
+    fn compare(&self, comparison: Comparison, first: Value, second: Value) -> Result<Value>
         ensures { Does result self.now (compared_in comparison first second) self.now }
     {
         match compare(
-            alloc,
+            self.alloc,
             self.width,
             self.heap.content(first),
             self.heap.content(second),
@@ -286,26 +262,26 @@ impl<S> WorldState<S> {
     }
 
     #[tactic(auto, using(ar_space::proofs::Changes::changing), unfolding(crate::specs::Operations::joined))]
-    fn join(&mut self, alloc: Global, first: Value, second: Value) -> Result<Value, Refusal>
+    fn join(&mut self, first: Value, second: Value) -> Result<Value>
         ensures { Does result self.new (joined first second) self.old }
     {
-        let contents = self.joined_contents(alloc, first, second)?;
+        let contents = self.joined_contents(first, second)?;
         self.make_formed(contents)
     }
 
     #[tactic(auto, unfolding(crate::specs::Operations::joined_contents))]
-    fn joined_contents(&self, alloc: Global, first: Value, second: Value) -> Result<Formed, Refusal>
+    fn joined_contents(&self, first: Value, second: Value) -> Result<Formed>
         ensures { Does (seen formed_content result) self.now (joined_contents first second) self.now }
     {
         concat(
-            alloc,
+            self.alloc,
             self.width,
             self.heap.content(first),
             self.heap.content(second),
         )
     }
 
-    pub(crate) fn make_formed(&mut self, contents: Formed) -> Result<Value, Refusal>
+    pub(crate) fn make_formed(&mut self, contents: Formed) -> Result<Value>
         ensures { Does result self.new (on_objects (made_of (formed_content contents))) self.old }
     {
         match contents {
@@ -315,27 +291,26 @@ impl<S> WorldState<S> {
     }
 
     #[tactic(auto, using(ar_space::proofs::Changes::changing), unfolding(crate::specs::Operations::joined_resources))]
-    fn join_resources(
-        &mut self,
-        alloc: Global,
-        first: Value,
-        second: Value,
-    ) -> Result<Value, Refusal>
+    fn join_resources(&mut self, first: Value, second: Value) -> Result<Value>
         ensures { Does result self.new (joined_resources first second) self.old }
     {
-        let bytes = self.joined_items(alloc, first, second)?;
+        let bytes = self.joined_items(first, second)?;
         self.make_buffer(bytes)
     }
 
     #[tactic(auto, unfolding(crate::specs::Operations::joined_items))]
-    fn joined_items(&self, alloc: Global, first: Value, second: Value) -> Result<Octets, Refusal>
+    fn joined_items(&self, first: Value, second: Value) -> Result<Octets>
         ensures { Does result self.now (joined_items first second) self.now }
     {
-        concat_resources(alloc, self.heap.content(first), self.heap.content(second))
+        concat_resources(
+            self.alloc,
+            self.heap.content(first),
+            self.heap.content(second),
+        )
     }
 
     #[tactic(auto, unfolding(crate::specs::Operations::to_integer_in))]
-    fn to_integer(&self, value: Value) -> Result<Value, Refusal>
+    fn to_integer(&self, value: Value) -> Result<Value>
         ensures answer { Does result self.now (to_integer_in value) self.now }
         ensures memory { NotMemory result }
     {
@@ -343,35 +318,35 @@ impl<S> WorldState<S> {
     }
 
     #[tactic(auto, using(ar_space::proofs::Changes::changing))]
-    fn to_buffer(&mut self, alloc: Global, value: Value) -> Result<Value, Refusal>
+    fn to_buffer(&mut self, value: Value) -> Result<Value>
         ensures { Does result self.new (to_buffer_in value) self.old }
     {
         match value {
             Value::Buffer(object) => Ok(Value::Buffer(object)),
-            Value::Uninitialized => self.new_buffer_of(alloc, Value::Uninitialized),
-            Value::Integer(number) => self.new_buffer_of(alloc, Value::Integer(number)),
-            Value::String(object) => self.new_buffer_of(alloc, Value::String(object)),
-            Value::Package(object) => self.new_buffer_of(alloc, Value::Package(object)),
-            Value::Reference(reference) => self.new_buffer_of(alloc, Value::Reference(reference)),
+            Value::Uninitialized => self.new_buffer_of(Value::Uninitialized),
+            Value::Integer(number) => self.new_buffer_of(Value::Integer(number)),
+            Value::String(object) => self.new_buffer_of(Value::String(object)),
+            Value::Package(object) => self.new_buffer_of(Value::Package(object)),
+            Value::Reference(reference) => self.new_buffer_of(Value::Reference(reference)),
         }
     }
 
     #[tactic(auto, using(ar_space::proofs::Changes::changing), unfolding(crate::specs::Operations::new_buffer_of))]
-    fn new_buffer_of(&mut self, alloc: Global, value: Value) -> Result<Value, Refusal>
+    fn new_buffer_of(&mut self, value: Value) -> Result<Value>
         ensures { Does result self.new (new_buffer_of value) self.old }
     {
-        let bytes = self.buffer_bytes(alloc, value)?;
+        let bytes = self.buffer_bytes(value)?;
         self.make_buffer(bytes)
     }
 
     #[tactic(auto, unfolding(crate::specs::Operations::buffer_bytes))]
-    fn buffer_bytes(&self, alloc: Global, value: Value) -> Result<Octets, Refusal>
+    fn buffer_bytes(&self, value: Value) -> Result<Octets>
         ensures { Does result self.now (buffer_bytes value) self.now }
     {
-        to_buffer(alloc, self.width, self.heap.content(value))
+        to_buffer(self.alloc, self.width, self.heap.content(value))
     }
 
-    fn size_of(&self, referent: Referent) -> Result<u64, Refusal>
+    fn size_of(&self, referent: Referent) -> Result<u64>
         ensures answer { result ≡ size_of_referent self.now.objects referent }
         ensures memory { NotMemory result }
     {
@@ -383,7 +358,7 @@ impl<S> WorldState<S> {
         }
     }
 
-    fn size_of_value(&self, value: Value) -> Result<u64, Refusal>
+    fn size_of_value(&self, value: Value) -> Result<u64>
         ensures answer { result ≡ size_of_value self.now.objects value }
         ensures memory { NotMemory result }
     {
@@ -399,7 +374,7 @@ impl<S> WorldState<S> {
 }
 
 /// A reference whose index is below a count; another is refused as `IndexLimit`.
-fn below(count: u64, index: u64, reference: Reference) -> Result<Value, Refusal>
+fn below(count: u64, index: u64, reference: Reference) -> Result<Value>
     ensures answer { Answers result (below count index reference) }
     ensures memory { NotMemory result }
 {
@@ -410,7 +385,7 @@ fn below(count: u64, index: u64, reference: Reference) -> Result<Value, Refusal>
     }
 }
 
-pub(crate) fn integer(number: Result<u64, Refusal>) -> Result<Value, Refusal>
+pub(crate) fn integer(number: Result<u64>) -> Result<Value>
     ensures answer { result ≡ as_integer number }
     ensures memory { NotMemory number → NotMemory result }
 {
@@ -420,7 +395,7 @@ pub(crate) fn integer(number: Result<u64, Refusal>) -> Result<Value, Refusal>
     }
 }
 
-fn size_of_object(object: Option<&Object>) -> Result<u64, Refusal>
+fn size_of_object(object: Option<&Object>) -> Result<u64>
     ensures answer { result ≡ size_of_object (option_map (λ o. o.now) object.entry) }
     ensures memory { NotMemory result }
 {

@@ -9,13 +9,13 @@ use crate::slots::value_at;
 use crate::world_state::WorldState;
 use aml_convert::truth;
 use aml_objects::{Content, Octets, Value};
-use ar_space::{IntegerWidth, Refusal, ValueFault};
+use ar_space::{IntegerWidth, Refusal, Result, ValueFault};
 
 impl<S> WorldState<S> {
     /// What `\_OSI` answers to these arguments: True where the first is a string among the texts that the world
     /// knows, False where it is another string. Anything but a string is refused as `WrongType`. It takes no memory.
     #[tactic(auto, unfolding(crate::specs::Osi::osi_answered))]
-    pub fn osi(&self, arguments: &[Value]) -> Result<Value, Refusal>
+    pub fn osi(&self, arguments: &[Value]) -> Result<Value>
         ensures answer { Does result self.now (osi_answered arguments.now) self.now }
         ensures memory { NotMemory result }
     {
@@ -24,7 +24,7 @@ impl<S> WorldState<S> {
     }
 }
 
-fn answer_of(width: IntegerWidth, texts: &[Octets], asked: Content<'_>) -> Result<Value, Refusal>
+fn answer_of(width: IntegerWidth, texts: &[Octets], asked: Content<'_>) -> Result<Value>
     ensures answer { Answers result (osi_answer width texts.now (content_of asked.entry)) }
     ensures memory { NotMemory result }
 {

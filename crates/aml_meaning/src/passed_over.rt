@@ -8,7 +8,7 @@ ghost use Rattle.aml_meaning.specs.Passing.{noted, passed_noted, passed_over};
 
 use crate::world_state::WorldState;
 use aml_path::Path;
-use ar_space::{EvaluationFault, FieldFault, Refusal};
+use ar_space::{EvaluationFault, FieldFault, Refusal, Result};
 use std::alloc::{AllocError, Global};
 use std::marker::Model;
 
@@ -67,7 +67,7 @@ impl PassedOver {
     }
 
     #[tactic(auto, using(ar_space::proofs::Changes::changing), unfolding(crate::specs::Passing::noted))]
-    fn note(&mut self, alloc: Global, scope: &Path, refusal: Refusal) -> Result<(), Refusal>
+    fn note(&mut self, alloc: Global, scope: &Path, refusal: Refusal) -> Result<()>
         ensures { Does result self.new (noted scope.now refusal) self.old }
     {
         keep(alloc, &mut self.kept, scope, refusal)?;
@@ -159,25 +159,20 @@ impl<S> WorldState<S> {
     /// Passes over a refusal, which belongs to a scope: it is noted, and what was told of where evaluation was refused
     /// is forgotten. Another refusal than those that are passed over is handed back, and then nothing changes.
     #[tactic(auto, using(crate::proofs::Lifted::passing))]
-    pub fn pass_over(
-        &mut self,
-        alloc: Global,
-        scope: &Path,
-        refusal: Refusal,
-    ) -> Result<(), Refusal>
+    pub fn pass_over(&mut self, scope: &Path, refusal: Refusal) -> Result<()>
         ensures { Does result self.new (passed_over scope.now refusal) self.old }
     {
         if !is_passable(&refusal) {
             return Err(refusal);
         }
         self.forget_trace();
-        self.note_passed(alloc, scope, refusal)
+        self.note_passed(scope, refusal)
     }
 
     #[tactic(auto, using(crate::proofs::Lifted::passing))]
-    fn note_passed(&mut self, alloc: Global, scope: &Path, refusal: Refusal) -> Result<(), Refusal>
+    fn note_passed(&mut self, scope: &Path, refusal: Refusal) -> Result<()>
         ensures { Does result self.new (passed_noted scope.now refusal) self.old }
     {
-        self.passed.note(alloc, scope, refusal)
+        self.passed.note(self.alloc, scope, refusal)
     }
 }

@@ -7,16 +7,14 @@ ghost use Rattle.aml_namespace.specs.Namespace.{numbered};
 ghost use Rattle.aml_namespace.specs.Search.{Found};
 ghost use Rattle.aml_meaning.specs.PciFunctions.{adr, hid, segment_group, base_bus, is_device_object, is_device, has};
 ghost use Rattle.aml_meaning.specs.PciFunctions.{is_function, is_bridge, fits, nearest_from, nearest, or_deep};
-ghost use Rattle.aml_meaning.specs.PciFunctions.{or_behind, behind_asked};
-ghost use Rattle.aml_meaning.specs.PciFunctions.{pci_function};
+ghost use Rattle.aml_meaning.specs.PciFunctions.{behind_asked, pci_function};
 
 use crate::profile::Profile;
 use crate::world_state::WorldState;
 use aml_namespace::Names;
 use aml_objects::{NamedObject, NodeId};
 use aml_path::{Path, Seg};
-use ar_space::{EvaluationFault, Refusal};
-use std::alloc::Global;
+use ar_space::{EvaluationFault, Refusal, Result};
 
 /// What is sought among a scope and those above it.
 #[derive(Clone, Copy, Debug, PartialEq, Eq)]
@@ -64,40 +62,42 @@ pub fn base_bus() -> Seg
 impl<S> WorldState<S> {
     /// The nearest of a scope and those above it that is what is sought.
     #[tactic(auto, using(crate::proofs::NearestFunctions::nearest_none, crate::proofs::NearestFunctions::nearest_some))]
-    pub fn nearest(
-        &self,
-        alloc: Global,
-        sought: Sought,
-        path: &Path,
-    ) -> Result<Option<Path>, Refusal>
+    pub fn nearest(&self, sought: Sought, path: &Path) -> Result<Option<Path>>
         ensures { Does result self.now (nearest sought path.now) self.now }
     {
         match nearest_depth(self.names(), sought, path) {
             None => Ok(None),
-            Some(depth) => Ok(Some(path.prefix(alloc, depth)?)),
+            Some(depth) => Ok(Some(path.prefix(self.alloc, depth)?)),
         }
     }
 
     /// The device of the PCI function that a scope belongs to: the nearest one with an address. Where there is none,
     /// or in the core profile a bridge stands above it, this is refused as `DeepPci`.
     #[tactic(auto, using(ar_space::proofs::Changes::changing), unfolding(crate::specs::PciFunctions::pci_function))]
-    pub fn pci_function(&self, alloc: Global, scope: &Path) -> Result<Path, Refusal>
+    pub fn pci_function(&self, scope: &Path) -> Result<Path>
         ensures { Does result self.now (pci_function scope.now) self.now }
     {
-        let near = self.nearest(alloc, Sought::Function, scope)?;
+        let near = self.nearest(Sought::Function, scope)?;
         let device = or_deep(near)?;
-        let above = device.prefix(alloc, device.depth().saturating_sub(1))?;
-        let bridge = self.nearest(alloc, Sought::Bridge, &above)?;
+        let above = device.prefix(self.alloc, device.depth().saturating_sub(1))?;
+        let bridge = self.nearest(Sought::Bridge, &above)?;
         self.ask_behind(bridge)?;
         Ok(device)
     }
 
-    /// Asks whether a function is reached above which this bridge stands, or none.
+    /// Asks whether what lies behind this bridge is reached: where there is none, and in the wide profile. Else it is
+    /// refused as `DeepPci`.
     #[tactic(auto, unfolding(crate::specs::PciFunctions::behind_asked))]
-    fn ask_behind(&self, bridge: Option<Path>) -> Result<(), Refusal>
+    pub fn ask_behind(&self, bridge: Option<Path>) -> Result<()>
         ensures { Does result self.now (behind_asked bridge) self.now }
     {
-        or_behind(self.profile, bridge)
+        match self.profile {
+            Profile::Wide => Ok(()),
+            Profile::Core => match bridge {
+                None => Ok(()),
+                Some(_) => Err(Refusal::Evaluation(EvaluationFault::DeepPci)),
+            },
+        }
     }
 }
 
@@ -179,23 +179,11 @@ fn is_device_object(object: &NamedObject) -> bool
     }
 }
 
-fn or_deep(near: Option<Path>) -> Result<Path, Refusal>
+fn or_deep(near: Option<Path>) -> Result<Path>
     ensures { Answers result (or_deep near) }
 {
     match near {
         None => Err(Refusal::Evaluation(EvaluationFault::DeepPci)),
         Some(path) => Ok(path),
-    }
-}
-
-fn or_behind(profile: Profile, bridge: Option<Path>) -> Result<(), Refusal>
-    ensures { Answers result (or_behind profile bridge) }
-{
-    match profile {
-        Profile::Wide => Ok(()),
-        Profile::Core => match bridge {
-            None => Ok(()),
-            Some(_) => Err(Refusal::Evaluation(EvaluationFault::DeepPci)),
-        },
     }
 }

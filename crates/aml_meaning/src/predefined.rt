@@ -10,70 +10,64 @@ ghost use Rattle.aml_meaning.specs.Predefined.{at_root, predefined, predefined_o
 use crate::world_state::WorldState;
 use aml_objects::{Method, MethodBody, MethodFlags, NamedObject, Octets, Value};
 use aml_path::{Path, Seg};
-use ar_space::Refusal;
+use ar_space::Result;
 use std::alloc::Global;
 
 impl<S> WorldState<S> {
     /// The predefined names.
     #[tactic(auto, using(ar_space::proofs::Changes::changing), unfolding(crate::specs::Predefined::predefined))]
-    pub(crate) fn predefine(&mut self, alloc: Global) -> Result<(), Refusal>
+    pub(crate) fn predefine(&mut self) -> Result<()>
         ensures world { Does result self.new predefined self.old }
         ensures space { self.new.space ≡ self.old.space }
     {
-        self.predefine_scopes(alloc)?;
-        self.predefine_objects(alloc)
+        self.predefine_scopes()?;
+        self.predefine_objects()
     }
 
     #[tactic(auto, using(ar_space::proofs::Changes::changing), unfolding(crate::specs::Predefined::predefined_scopes))]
-    fn predefine_scopes(&mut self, alloc: Global) -> Result<(), Refusal>
+    fn predefine_scopes(&mut self) -> Result<()>
         ensures world { Does result self.new predefined_scopes self.old }
         ensures space { self.new.space ≡ self.old.space }
     {
-        self.at_root(alloc, *b"_GPE", NamedObject::Scope, 0)?;
-        self.at_root(alloc, *b"_PR_", NamedObject::Scope, 0)?;
-        self.at_root(alloc, *b"_SB_", NamedObject::Scope, 0)?;
-        self.at_root(alloc, *b"_SI_", NamedObject::Scope, 0)?;
-        self.at_root(alloc, *b"_TZ_", NamedObject::Scope, 0)
+        self.at_root(*b"_GPE", NamedObject::Scope, 0)?;
+        self.at_root(*b"_PR_", NamedObject::Scope, 0)?;
+        self.at_root(*b"_SB_", NamedObject::Scope, 0)?;
+        self.at_root(*b"_SI_", NamedObject::Scope, 0)?;
+        self.at_root(*b"_TZ_", NamedObject::Scope, 0)
     }
 
     #[tactic(auto, using(ar_space::proofs::Changes::changing), unfolding(crate::specs::Predefined::predefined_objects))]
-    fn predefine_objects(&mut self, alloc: Global) -> Result<(), Refusal>
+    fn predefine_objects(&mut self) -> Result<()>
         ensures world { Does result self.new predefined_objects self.old }
         ensures space { self.new.space ≡ self.old.space }
     {
-        self.at_root(alloc, *b"_GL_", NamedObject::Mutex(0), 0)?;
-        let text = self.operating_system(alloc)?;
-        self.at_root(alloc, *b"_OS_", NamedObject::Data(text), 0)?;
-        self.at_root(alloc, *b"_REV", NamedObject::Data(Value::Integer(2)), 0)?;
+        self.at_root(*b"_GL_", NamedObject::Mutex(0), 0)?;
+        let text = self.operating_system()?;
+        self.at_root(*b"_OS_", NamedObject::Data(text), 0)?;
+        self.at_root(*b"_REV", NamedObject::Data(Value::Integer(2)), 0)?;
         let osi = Method {
             flags: MethodFlags { byte: 1 },
             body: MethodBody::Osi,
         };
-        self.at_root(alloc, *b"_OSI", NamedObject::Method(osi), 1)
+        self.at_root(*b"_OSI", NamedObject::Method(osi), 1)
     }
 
     /// A name at the root, given by its four characters, and how many arguments it takes.
     #[tactic(auto, using(ar_space::proofs::Changes::changing), unfolding(crate::specs::Predefined::at_root))]
-    fn at_root(
-        &mut self,
-        alloc: Global,
-        name: [u8; 4],
-        object: NamedObject,
-        count: u8,
-    ) -> Result<(), Refusal>
+    fn at_root(&mut self, name: [u8; 4], object: NamedObject, count: u8) -> Result<()>
         ensures world { Does result self.new (at_root name object count) self.old }
         ensures space { self.new.space ≡ self.old.space }
     {
         let segment = segment(name)?;
-        let path = below_root(alloc, segment)?;
+        let path = below_root(self.alloc, segment)?;
         self.declare(path, object)?;
-        let path = below_root(alloc, segment)?;
+        let path = below_root(self.alloc, segment)?;
         self.takes(path, count)
     }
 
     /// A path takes so many arguments from now on.
     #[tactic(auto, unfolding(crate::specs::Predefined::takes))]
-    fn takes(&mut self, path: Path, count: u8) -> Result<(), Refusal>
+    fn takes(&mut self, path: Path, count: u8) -> Result<()>
         ensures world { Does result self.new (takes path count) self.old }
         ensures space { self.new.space ≡ self.old.space }
     {
@@ -81,22 +75,22 @@ impl<S> WorldState<S> {
     }
 
     /// The value of `\\_OS_`.
-    fn operating_system(&mut self, alloc: Global) -> Result<Value, Refusal>
+    fn operating_system(&mut self) -> Result<Value>
         ensures world { Does result self.new (on_objects (make_string (codes "Microsoft Windows NT"))) self.old }
         ensures space { self.new.space ≡ self.old.space }
     {
-        let name = Octets::from_vec(Vec::from_slice(alloc, b"Microsoft Windows NT")?);
+        let name = Octets::from_vec(Vec::from_slice(self.alloc, b"Microsoft Windows NT")?);
         self.make_string(name)
     }
 }
 
-fn segment(name: [u8; 4]) -> Result<Seg, Refusal>
+fn segment(name: [u8; 4]) -> Result<Seg>
     ensures { Answers result (seg_of name) }
 {
     Seg::new(name)
 }
 
-fn below_root(alloc: Global, segment: Seg) -> Result<Path, Refusal>
+fn below_root(alloc: Global, segment: Seg) -> Result<Path>
     ensures { Answers result (Ok (segment ∷ [])) }
 {
     Path::root(alloc).child(alloc, segment)

@@ -11,23 +11,22 @@ use aml_convert::{to_integer, truncate_integer};
 use aml_namespace::{Located, Scope};
 use aml_objects::{Entry, NamedObject, Reference, Value};
 use aml_path::{NameString, Path};
-use ar_space::{EvaluationFault, Refusal, ValueFault};
-use std::alloc::Global;
+use ar_space::{EvaluationFault, Refusal, Result, ValueFault};
 
 impl<S> WorldState<S> {
     /// A number as an integer keeps it: its lowest 32 or 64 bits.
     #[tactic(auto, unfolding(crate::specs::Readings::integer_kept))]
-    pub fn integer_kept(&self, number: u64) -> Result<Value, Refusal>
+    pub fn integer_kept(&self, number: u64) -> Result<Value>
         ensures answer { Does result self.now (integer_kept number) self.now }
         ensures memory { NotMemory result }
     {
         Ok(Value::Integer(truncate_integer(self.width, number)))
     }
 
-    /// A number as an integer keeps it, as `integer_kept` has it.
+    /// The lowest 32 or 64 bits of a number: what `integer_kept` gives, as a number.
     #[inline]
     #[tactic(auto, unfolding(crate::specs::Readings::integer_kept))]
-    pub fn number_kept(&self, number: u64) -> u64
+    pub fn truncated_number(&self, number: u64) -> u64
         ensures { Does (Ok (Integer result)) self.now (integer_kept number) self.now }
     {
         truncate_integer(self.width, number)
@@ -35,7 +34,7 @@ impl<S> WorldState<S> {
 
     /// A value where an integer is wanted, converted to one; it is refused as conversions are.
     #[tactic(auto, unfolding(crate::specs::Readings::integer_in))]
-    pub fn integer_in(&self, value: Value) -> Result<u64, Refusal>
+    pub fn integer_in(&self, value: Value) -> Result<u64>
         ensures answer { Does result self.now (integer_in value) self.now }
         ensures memory { NotMemory result }
     {
@@ -44,7 +43,7 @@ impl<S> WorldState<S> {
 
     /// What a name finds from a scope; refused as `Names::lookup` refuses it.
     #[tactic(auto, unfolding(crate::specs::Readings::entry_found))]
-    pub(crate) fn entry(&self, scope: &Path, name: &NameString) -> Result<&Entry, Refusal>
+    pub(crate) fn entry(&self, scope: &Path, name: &NameString) -> Result<&Entry>
         ensures answer { Does (seen (λ e. e.now) result) self.now (entry_found scope.now name.now) self.now }
         ensures memory { NotMemory result }
     {
@@ -53,7 +52,7 @@ impl<S> WorldState<S> {
 
     /// The same from a scope.
     #[tactic(auto, unfolding(crate::specs::Readings::entry_found))]
-    pub(crate) fn entry_in(&self, scope: Scope<'_>, name: &NameString) -> Result<&Entry, Refusal>
+    pub(crate) fn entry_in(&self, scope: Scope<'_>, name: &NameString) -> Result<&Entry>
         ensures answer { Does (seen (λ e. e.now) result) self.now (entry_found scope.entry.path.now name.now) self.now }
         ensures memory { NotMemory result }
     {
@@ -69,37 +68,27 @@ impl<S> WorldState<S> {
 
     /// The path of what a name finds from a scope, with the node that is found; refused as `Names::locate` refuses it.
     #[tactic(auto, unfolding(crate::specs::Readings::path_found))]
-    pub fn locate(
-        &self,
-        alloc: Global,
-        scope: Scope<'_>,
-        name: &NameString,
-    ) -> Result<Located, Refusal>
+    pub fn locate(&self, scope: Scope<'_>, name: &NameString) -> Result<Located>
         ensures { Does result self.now (path_found scope.entry.path.now name.now) self.now }
     {
-        self.names().locate_in(alloc, scope, name)
+        self.names().locate_in(self.alloc, scope, name)
     }
 
     /// The path of the scope that a name finds: a predefined scope, a device, a processor, a power resource or a
     /// thermal zone. Anything else is refused as `WrongType` (ACPI 6.5, 19.6, Scope).
     #[tactic(auto, using(ar_space::proofs::Changes::changing), unfolding(crate::specs::Readings::scope_found))]
-    pub fn locate_scope(
-        &self,
-        alloc: Global,
-        scope: Scope<'_>,
-        name: &NameString,
-    ) -> Result<Located, Refusal>
+    pub fn locate_scope(&self, scope: Scope<'_>, name: &NameString) -> Result<Located>
         ensures { Does result self.now (scope_found scope.entry.path.now name.now) self.now }
     {
         let entry = self.entry_in(scope, name)?;
         scope_or_not(&entry.object)?;
-        self.locate(alloc, scope, name)
+        self.locate(scope, name)
     }
 
     /// How many arguments it takes to evaluate what a name finds: those of a control method, none of anything else.
     /// Refused as `Names::lookup` refuses it.
     #[tactic(auto, using(ar_space::proofs::Changes::changing), unfolding(crate::specs::Readings::arguments_found))]
-    pub fn arguments(&self, scope: Scope<'_>, name: &NameString) -> Result<u8, Refusal>
+    pub fn arguments(&self, scope: Scope<'_>, name: &NameString) -> Result<u8>
         ensures answer { Does result self.now (arguments_found scope.entry.path.now name.now) self.now }
         ensures memory { NotMemory result }
     {
@@ -108,7 +97,7 @@ impl<S> WorldState<S> {
     }
 }
 
-fn scope_or_not(object: &NamedObject) -> Result<(), Refusal>
+fn scope_or_not(object: &NamedObject) -> Result<()>
     ensures answer { Answers result (scope_or_not object.now) }
     ensures memory { NotMemory result }
 {
@@ -133,7 +122,7 @@ fn is_scope(object: &NamedObject) -> bool
     }
 }
 
-pub(crate) fn as_many(wanted: u8, count: usize) -> Result<(), Refusal>
+pub(crate) fn as_many(wanted: u8, count: usize) -> Result<()>
     ensures answer { Answers result (as_many wanted count) }
     ensures memory { NotMemory result }
 {

@@ -12,48 +12,43 @@ use crate::store_target::Stored;
 use crate::targets::holding_of;
 use crate::world_state::WorldState;
 use aml_objects::{Content, Element, Reference, Slot, Value};
-use ar_space::{EvaluationFault, Refusal, ValueFault};
-use std::alloc::Global;
+use ar_space::{EvaluationFault, Refusal, Result, ValueFault};
 
 /// Stores a value to a slot of the frame at an index: an argument that holds a reference stands for what that refers
 /// to.
 #[cycle(through)]
 #[tactic(auto, using(ar_space::proofs::Changes::changing), unfolding(crate::specs::Stores::store_in_frame))]
 pub(crate) fn store_in_frame<S>(
-    alloc: Global,
     world: &mut WorldState<S>,
     levels: usize,
     frame: usize,
     slot: Slot,
     value: Value,
-) -> Result<Stored, Refusal>
+) -> Result<Stored>
     ensures { Does result world.new (store_in_frame (stored_through levels) frame slot value) world.old }
 {
     let held = world.slot_held(frame, slot)?;
-    store_over_slot(alloc, world, levels, frame, slot, held, value)
+    store_over_slot(world, levels, frame, slot, held, value)
 }
 
 #[cycle(through)]
 #[tactic(auto, using(ar_space::proofs::Changes::changing))]
 fn store_over_slot<S>(
-    alloc: Global,
     world: &mut WorldState<S>,
     levels: usize,
     frame: usize,
     slot: Slot,
     held: Value,
     value: Value,
-) -> Result<Stored, Refusal>
+) -> Result<Stored>
     ensures { Does result world.new (store_over_slot (stored_through levels) frame slot held value) world.old }
 {
     match (slot, held) {
         (Slot::Argument(_), Value::Reference(reference)) => {
-            store_through(alloc, world, levels, reference, value)
+            store_through(world, levels, reference, value)
         }
-        (Slot::Local(index), _) => world.copy_into_slot(alloc, frame, Slot::Local(index), value),
-        (Slot::Argument(index), _) => {
-            world.copy_into_slot(alloc, frame, Slot::Argument(index), value)
-        }
+        (Slot::Local(index), _) => world.copy_into_slot(frame, Slot::Local(index), value),
+        (Slot::Argument(index), _) => { world.copy_into_slot(frame, Slot::Argument(index), value) }
     }
 }
 
@@ -61,37 +56,35 @@ fn store_over_slot<S>(
 #[cycle(through)]
 #[tactic(auto, using(crate::proofs::Following::following))]
 pub(crate) fn store_through<S>(
-    alloc: Global,
     world: &mut WorldState<S>,
     levels: usize,
     reference: Reference,
     value: Value,
-) -> Result<Stored, Refusal>
+) -> Result<Stored>
     ensures { Does result world.new (stored_through levels reference value) world.old }
 {
     if levels == 0 {
         return Err(Refusal::Evaluation(EvaluationFault::DeadReference));
     }
-    store_at_reference(alloc, world, levels - 1, reference, value)
+    store_at_reference(world, levels - 1, reference, value)
 }
 
 #[cycle(through)]
 #[tactic(auto, using(ar_space::proofs::Changes::changing))]
 fn store_at_reference<S>(
-    alloc: Global,
     world: &mut WorldState<S>,
     levels: usize,
     reference: Reference,
     value: Value,
-) -> Result<Stored, Refusal>
+) -> Result<Stored>
     ensures { Does result world.new (store_at_reference (stored_through levels) reference value) world.old }
 {
     match reference {
-        Reference::Name(number) => world.copy_into_declared(alloc, number, value),
+        Reference::Name(number) => world.copy_into_declared(number, value),
         Reference::Slot(slot, number) => {
-            store_in_frame_numbered(alloc, world, levels, number, slot, value)
+            store_in_frame_numbered(world, levels, number, slot, value)
         }
-        Reference::Element(object, index) => world.copy_into_element(alloc, object, index, value),
+        Reference::Element(object, index) => world.copy_into_element(object, index, value),
         Reference::Byte(object, index) => world.store_byte(object, index, value),
     }
 }
@@ -99,53 +92,41 @@ fn store_at_reference<S>(
 #[cycle(through)]
 #[tactic(auto, using(ar_space::proofs::Changes::changing), unfolding(crate::specs::Stores::store_in_frame_numbered))]
 fn store_in_frame_numbered<S>(
-    alloc: Global,
     world: &mut WorldState<S>,
     levels: usize,
     number: u64,
     slot: Slot,
     value: Value,
-) -> Result<Stored, Refusal>
+) -> Result<Stored>
     ensures { Does result world.new (store_in_frame_numbered (stored_through levels) number slot value) world.old }
 {
     let frame = world.frame_found(number)?;
-    store_in_frame(alloc, world, levels, frame, slot, value)
+    store_in_frame(world, levels, frame, slot, value)
 }
 
 impl<S> WorldState<S> {
     /// The name of a declaration holds a copy of a value from now on.
     #[tactic(auto, using(ar_space::proofs::Changes::changing), unfolding(crate::specs::Stores::copy_into_declared))]
-    fn copy_into_declared(
-        &mut self,
-        alloc: Global,
-        number: u64,
-        value: Value,
-    ) -> Result<Stored, Refusal>
+    fn copy_into_declared(&mut self, number: u64, value: Value) -> Result<Stored>
         ensures { Does result self.new (copy_into_declared number value) self.old }
     {
-        let (path, entry) = self.placed_declaration(alloc, number)?;
+        let (path, entry) = self.placed_declaration(number)?;
         let held = holding_of(&entry.object);
-        self.copy_over(alloc, held, &path, value)
+        self.copy_over(held, &path, value)
     }
 
     #[tactic(auto, using(ar_space::proofs::Changes::changing), unfolding(crate::specs::Stores::copy_into_element))]
-    fn copy_into_element(
-        &mut self,
-        alloc: Global,
-        object: u32,
-        index: usize,
-        value: Value,
-    ) -> Result<Stored, Refusal>
+    fn copy_into_element(&mut self, object: u32, index: usize, value: Value) -> Result<Stored>
         ensures { Does result self.new (copy_into_element object index value) self.old }
     {
         self.element_there(object, index)?;
-        let copy = self.copy(alloc, value)?;
+        let copy = self.copy(value)?;
         self.write_element(object, index, Element::Value(copy))?;
         Ok(Stored::Done)
     }
 
     #[tactic(auto, using(ar_space::proofs::Changes::changing), unfolding(crate::specs::Stores::store_byte))]
-    fn store_byte(&mut self, object: u32, index: usize, value: Value) -> Result<Stored, Refusal>
+    fn store_byte(&mut self, object: u32, index: usize, value: Value) -> Result<Stored>
         ensures change { Does result self.new (store_byte object index value) self.old }
         ensures memory { NotMemory result }
     {
@@ -157,44 +138,32 @@ impl<S> WorldState<S> {
 
     /// The name of a declaration takes a value, converted to what it holds.
     #[tactic(auto, using(ar_space::proofs::Changes::changing), unfolding(crate::specs::Stores::store_in_declared))]
-    fn store_in_declared(
-        &mut self,
-        alloc: Global,
-        number: u64,
-        value: Value,
-    ) -> Result<Stored, Refusal>
+    fn store_in_declared(&mut self, number: u64, value: Value) -> Result<Stored>
         ensures { Does result self.new (store_in_declared number value) self.old }
     {
-        let (path, entry) = self.placed_declaration(alloc, number)?;
+        let (path, entry) = self.placed_declaration(number)?;
         let held = holding_of(&entry.object);
-        self.store_over(alloc, held, &path, value)
+        self.store_over(held, &path, value)
     }
 
     /// Stores a value to what a reference refers to, with conversion; an argument that is met on the way takes a copy.
     #[tactic(auto, using(ar_space::proofs::Changes::changing))]
-    pub(crate) fn store_to(
-        &mut self,
-        alloc: Global,
-        reference: Reference,
-        value: Value,
-    ) -> Result<Stored, Refusal>
+    pub(crate) fn store_to(&mut self, reference: Reference, value: Value) -> Result<Stored>
         ensures { Does result self.new (store_to reference value) self.old }
     {
         match reference {
-            Reference::Name(number) => self.store_in_declared(alloc, number, value),
+            Reference::Name(number) => self.store_in_declared(number, value),
             Reference::Slot(slot, number) => {
-                store_in_frame_numbered(alloc, self, MOST_REFERENCES, number, slot, value)
+                store_in_frame_numbered(self, MOST_REFERENCES, number, slot, value)
             }
-            Reference::Element(object, index) => {
-                self.copy_into_element(alloc, object, index, value)
-            }
+            Reference::Element(object, index) => { self.copy_into_element(object, index, value) }
             Reference::Byte(object, index) => self.store_byte(object, index, value),
         }
     }
 
     /// What a byte of a string or a buffer takes of a value.
     #[tactic(auto, unfolding(crate::specs::Stores::byte_in))]
-    fn byte_in(&self, value: Value) -> Result<u8, Refusal>
+    fn byte_in(&self, value: Value) -> Result<u8>
         ensures answer { Does result self.now (byte_in value) self.now }
         ensures memory { NotMemory result }
     {
@@ -202,7 +171,7 @@ impl<S> WorldState<S> {
     }
 }
 
-fn byte_of(content: Content<'_>) -> Result<u8, Refusal>
+fn byte_of(content: Content<'_>) -> Result<u8>
     ensures answer { Answers result (byte_of (content_of content.entry)) }
     ensures memory { NotMemory result }
 {
@@ -214,7 +183,7 @@ fn byte_of(content: Content<'_>) -> Result<u8, Refusal>
     }
 }
 
-fn first_byte(bytes: &[u8]) -> Result<u8, Refusal>
+fn first_byte(bytes: &[u8]) -> Result<u8>
     ensures answer { Answers result (first_byte bytes.now) }
     ensures memory { NotMemory result }
 {

@@ -15,7 +15,7 @@ use crate::world_state::WorldState;
 use aml_namespace::Located;
 use aml_objects::{Element, Field, NamedObject, Reference, Slot, Value};
 use aml_path::{NameString, Path};
-use ar_space::{EvaluationFault, NamespaceFault, Refusal};
+use ar_space::{EvaluationFault, NamespaceFault, Refusal, Result};
 
 /// How many references are followed one after another.
 pub(crate) const MOST_REFERENCES: usize = 64;
@@ -25,7 +25,7 @@ impl<S> WorldState<S> {
     /// is handed back, for its value to be read. A reference to what is gone, and a longer chain, are refused as
     /// `DeadReference`.
     #[tactic(auto, using(ar_space::proofs::Changes::changing))]
-    pub fn target_referent(&self, target: &StoreTarget) -> Result<Referent, Refusal>
+    pub fn target_referent(&self, target: &StoreTarget) -> Result<Referent>
         ensures answer { Does result self.now (target_referent target.now) self.now }
         ensures memory { NotMemory result }
     {
@@ -38,7 +38,7 @@ impl<S> WorldState<S> {
     }
 
     /// What a value refers to when references are followed, at most 64 of them; itself where it is no reference.
-    pub fn value_referent(&self, value: Value) -> Result<Referent, Refusal>
+    pub fn value_referent(&self, value: Value) -> Result<Referent>
         ensures answer { Does result self.now (value_followed (followed most_references) value) self.now }
         ensures memory { NotMemory result }
     {
@@ -46,7 +46,7 @@ impl<S> WorldState<S> {
     }
 
     #[tactic(auto, using(ar_space::proofs::Changes::changing), unfolding(crate::specs::StoreTargets::slot_referent))]
-    fn slot_referent(&self, slot: Slot) -> Result<Referent, Refusal>
+    fn slot_referent(&self, slot: Slot) -> Result<Referent>
         ensures answer { Does result self.now (slot_referent slot) self.now }
         ensures memory { NotMemory result }
     {
@@ -55,7 +55,7 @@ impl<S> WorldState<S> {
     }
 
     #[tactic(auto, using(ar_space::proofs::Changes::changing), unfolding(crate::specs::StoreTargets::name_referent))]
-    fn name_referent(&self, path: &Located) -> Result<Referent, Refusal>
+    fn name_referent(&self, path: &Located) -> Result<Referent>
         ensures answer { Does result self.now (name_referent path.now) self.now }
         ensures memory { NotMemory result }
     {
@@ -64,7 +64,7 @@ impl<S> WorldState<S> {
     }
 
     #[tactic(auto, unfolding(crate::specs::StoreTargets::declared_referent))]
-    fn declared_referent(&self, path: &Located) -> Result<Referent, Refusal>
+    fn declared_referent(&self, path: &Located) -> Result<Referent>
         ensures answer { Does result self.now (declared_referent path.now) self.now }
         ensures memory { NotMemory result }
     {
@@ -97,11 +97,7 @@ fn referent_of(object: &NamedObject) -> Referent
 
 #[cycle(following)]
 #[tactic(auto, using(ar_space::proofs::Changes::changing))]
-fn value_followed<S>(
-    world: &WorldState<S>,
-    levels: usize,
-    value: Value,
-) -> Result<Referent, Refusal>
+fn value_followed<S>(world: &WorldState<S>, levels: usize, value: Value) -> Result<Referent>
     ensures answer { Does result world.now (value_followed (followed levels) value) world.now }
     ensures memory { NotMemory result }
 {
@@ -121,7 +117,7 @@ fn referent_followed<S>(
     world: &WorldState<S>,
     levels: usize,
     referent: Referent,
-) -> Result<Referent, Refusal>
+) -> Result<Referent>
     ensures answer { Does result world.now (referent_followed (followed levels) referent) world.now }
     ensures memory { NotMemory result }
 {
@@ -136,11 +132,7 @@ fn referent_followed<S>(
 /// What a reference refers to in the end, at most so many followed one after another.
 #[cycle(following)]
 #[tactic(auto, using(crate::proofs::Following::following))]
-fn follow<S>(
-    world: &WorldState<S>,
-    levels: usize,
-    reference: Reference,
-) -> Result<Referent, Refusal>
+fn follow<S>(world: &WorldState<S>, levels: usize, reference: Reference) -> Result<Referent>
     ensures answer { Does result world.now (followed levels reference) world.now }
     ensures memory { NotMemory result }
 {
@@ -156,7 +148,7 @@ fn reference_followed<S>(
     world: &WorldState<S>,
     levels: usize,
     reference: Reference,
-) -> Result<Referent, Refusal>
+) -> Result<Referent>
     ensures answer { Does result world.now (reference_followed (followed levels) reference) world.now }
     ensures memory { NotMemory result }
 {
@@ -170,11 +162,7 @@ fn reference_followed<S>(
 
 #[cycle(following)]
 #[tactic(auto, using(ar_space::proofs::Changes::changing, crate::proofs::Declared::declared), unfolding(crate::specs::StoreTargets::declared_followed))]
-fn declared_followed<S>(
-    world: &WorldState<S>,
-    levels: usize,
-    number: u64,
-) -> Result<Referent, Refusal>
+fn declared_followed<S>(world: &WorldState<S>, levels: usize, number: u64) -> Result<Referent>
     ensures answer { Does result world.now (declared_followed (followed levels) number) world.now }
     ensures memory { NotMemory result }
 {
@@ -189,7 +177,7 @@ fn slot_followed<S>(
     levels: usize,
     number: u64,
     slot: Slot,
-) -> Result<Referent, Refusal>
+) -> Result<Referent>
     ensures answer { Does result world.now (slot_followed (followed levels) number slot) world.now }
     ensures memory { NotMemory result }
 {
@@ -205,7 +193,7 @@ fn held_followed<S>(
     levels: usize,
     object: u32,
     index: usize,
-) -> Result<Referent, Refusal>
+) -> Result<Referent>
     ensures answer { Does result world.now (held_followed (followed levels) object index) world.now }
     ensures memory { NotMemory result }
 {
@@ -215,11 +203,7 @@ fn held_followed<S>(
 
 #[cycle(following)]
 #[tactic(auto, using(ar_space::proofs::Changes::changing))]
-fn element_followed<S>(
-    world: &WorldState<S>,
-    levels: usize,
-    element: &Element,
-) -> Result<Referent, Refusal>
+fn element_followed<S>(world: &WorldState<S>, levels: usize, element: &Element) -> Result<Referent>
     ensures answer { Does result world.now (element_followed (followed levels) element.now) world.now }
     ensures memory { NotMemory result }
 {
@@ -236,7 +220,7 @@ fn name_followed<S>(
     levels: usize,
     name: &NameString,
     scope: &Path,
-) -> Result<Referent, Refusal>
+) -> Result<Referent>
     ensures answer { Does result world.now (name_followed (followed levels) name.now scope.now) world.now }
     ensures memory { NotMemory result }
 {
@@ -253,7 +237,7 @@ fn element_named<S>(
     levels: usize,
     number: u64,
     object: &NamedObject,
-) -> Result<Referent, Refusal>
+) -> Result<Referent>
     ensures answer { Does result world.now (element_named (followed levels) number object.now) world.now }
     ensures memory { NotMemory result }
 {
@@ -266,7 +250,7 @@ fn element_named<S>(
 }
 
 #[tactic(auto, using(ar_space::proofs::Changes::changing), unfolding(crate::specs::StoreTargets::byte_followed))]
-fn byte_followed<S>(world: &WorldState<S>, object: u32, index: usize) -> Result<Referent, Refusal>
+fn byte_followed<S>(world: &WorldState<S>, object: u32, index: usize) -> Result<Referent>
     ensures answer { Does result world.now (byte_followed object index) world.now }
     ensures memory { NotMemory result }
 {

@@ -20,8 +20,7 @@ use aml_convert::to_integer;
 use aml_fields::{AddressSpace, Region, read_field, write_field};
 use aml_objects::{Content, FieldSource, FieldUnit, NamedObject, Octets, OperationRegion, Value};
 use aml_path::Path;
-use ar_space::{EvaluationFault, FieldFault, IntegerWidth, Refusal, Space, ValueFault};
-use std::alloc::Global;
+use ar_space::{EvaluationFault, FieldFault, IntegerWidth, Refusal, Result, Space, ValueFault};
 
 /// The address space of an operation region.
 #[derive(Clone, Copy, Debug, PartialEq, Eq)]
@@ -57,7 +56,7 @@ pub fn space_numbered(number: u8) -> RegionSpace
 
 /// What an object answers that is a part of an address: an integer. Nothing is refused as `NoValue`, anything else as
 /// `WrongType`; no value is converted.
-pub fn integer_only(value: Value) -> Result<u64, Refusal>
+pub fn integer_only(value: Value) -> Result<u64>
     ensures answer { Answers result (integer_only value) }
     ensures memory { NotMemory result }
 {
@@ -73,7 +72,7 @@ pub fn integer_only(value: Value) -> Result<u64, Refusal>
 
 /// The registers of a PCI function, by its segment group, its bus, and its address (device in the high word, function
 /// in the low one). A number that is out of range is refused as `RegionLimit`.
-pub fn pci_space(segment: u64, bus: u64, address: u64) -> Result<AddressSpace, Refusal>
+pub fn pci_space(segment: u64, bus: u64, address: u64) -> Result<AddressSpace>
     ensures answer { Answers result (pci_space segment bus address) }
     ensures memory { NotMemory result }
 {
@@ -95,21 +94,17 @@ impl<S> WorldState<S> {
     /// The operation region with the number of a declaration, and the scope that it was declared in; one that is gone
     /// is refused as `DeadReference`.
     #[tactic(auto, using(ar_space::proofs::Changes::changing), unfolding(crate::specs::Regions::region_declared))]
-    pub fn region_declared(
-        &self,
-        alloc: Global,
-        number: u64,
-    ) -> Result<(Path, OperationRegion), Refusal>
+    pub fn region_declared(&self, number: u64) -> Result<(Path, OperationRegion)>
         ensures { Does result self.now (region_declared number) self.now }
     {
-        let (path, entry) = self.placed_declaration(alloc, number)?;
+        let (path, entry) = self.placed_declaration(number)?;
         let region = region_of_object(&entry.object)?;
         Ok((above(path.into_path()), region))
     }
 
     /// The field unit of a region with the number of a declaration; one that is gone is refused as `DeadReference`.
     #[tactic(auto, using(ar_space::proofs::Changes::changing, crate::proofs::Declared::declared), unfolding(crate::specs::Regions::field_declared))]
-    pub fn field_declared(&self, number: u64) -> Result<RegionField, Refusal>
+    pub fn field_declared(&self, number: u64) -> Result<RegionField>
         ensures answer { Does result self.now (field_declared number) self.now }
         ensures memory { NotMemory result }
     {
@@ -120,7 +115,7 @@ impl<S> WorldState<S> {
     /// The bits of a field as a value: an integer where they are no more than an integer has, else a new buffer,
     /// refused as `make_buffer` refuses it.
     #[tactic(auto, unfolding(crate::specs::Regions::value_of_bits))]
-    pub fn value_of_bits(&mut self, count: u32, bytes: Octets) -> Result<Value, Refusal>
+    pub fn value_of_bits(&mut self, count: u32, bytes: Octets) -> Result<Value>
         ensures { Does result self.new (value_of_bits count bytes) self.old }
     {
         if is_wide(self.width, count) {
@@ -132,7 +127,7 @@ impl<S> WorldState<S> {
 
     /// The bits of a field as an integer, converted as a buffer is.
     #[tactic(auto, unfolding(crate::specs::Regions::integer_of_bits))]
-    pub fn integer_of_bits(&self, bytes: &[u8]) -> Result<u64, Refusal>
+    pub fn integer_of_bits(&self, bytes: &[u8]) -> Result<u64>
         ensures answer { Does result self.now (integer_of_bits bytes.now) self.now }
         ensures memory { NotMemory result }
     {
@@ -141,7 +136,7 @@ impl<S> WorldState<S> {
 
     /// The bits of a field as a part of an address; more than an integer has are refused as `WrongType`.
     #[tactic(auto, unfolding(crate::specs::Regions::integer_alone))]
-    pub fn integer_alone(&self, count: u32, bytes: &[u8]) -> Result<u64, Refusal>
+    pub fn integer_alone(&self, count: u32, bytes: &[u8]) -> Result<u64>
         ensures answer { Does result self.now (integer_alone count bytes.now) self.now }
         ensures memory { NotMemory result }
     {
@@ -155,7 +150,7 @@ impl<S> WorldState<S> {
     /// The bits of a field as they are handed out: an integer where they are no more than an integer has, else bytes.
     /// No object is made.
     #[tactic(auto, unfolding(crate::specs::Regions::given_of_bits))]
-    pub fn datum_of_bits(&self, count: u32, bytes: Octets) -> Result<Datum, Refusal>
+    pub fn datum_of_bits(&self, count: u32, bytes: Octets) -> Result<Datum>
         ensures answer { Does (seen given_of result) self.now (given_of_bits count bytes) self.now }
         ensures memory { NotMemory result }
     {
@@ -171,7 +166,7 @@ impl<S> WorldState<S> {
     /// The bits of a field as what SizeOf and ObjectType speak of: an integer where they are no more than an integer
     /// has, else so many bytes. No object is made.
     #[tactic(auto, unfolding(crate::specs::Regions::referent_of_bits))]
-    pub fn referent_of_bits(&self, count: u32, bytes: &[u8]) -> Result<Referent, Refusal>
+    pub fn referent_of_bits(&self, count: u32, bytes: &[u8]) -> Result<Referent>
         ensures answer { Does result self.now (referent_of_bits count bytes.now) self.now }
         ensures memory { NotMemory result }
     {
@@ -185,7 +180,7 @@ impl<S> WorldState<S> {
     }
 
     #[tactic(auto, using(ar_space::proofs::Changes::changing), unfolding(crate::specs::Regions::integer_value))]
-    fn integer_value(&self, bytes: &[u8]) -> Result<Value, Refusal>
+    fn integer_value(&self, bytes: &[u8]) -> Result<Value>
         ensures answer { Does result self.now (integer_value bytes.now) self.now }
         ensures memory { NotMemory result }
     {
@@ -198,25 +193,15 @@ impl<S: Space> WorldState<S> {
     /// A read of a field of a region that is located: its bits, lowest first, as bytes. Refused as
     /// `aml_fields::read_field` refuses it.
     #[tactic(auto, using(crate::proofs::Lifted::parts))]
-    pub fn read_field(
-        &mut self,
-        alloc: Global,
-        region: Region,
-        field: FieldUnit,
-    ) -> Result<Vec<u8>, Refusal>
+    pub fn read_field(&mut self, region: Region, field: FieldUnit) -> Result<Vec<u8>>
         ensures { Does (seen (λ v. v.items) result) self.new (on_space (read_field S.accesses region field)) self.old }
     {
-        read_field(alloc, &mut self.space, region, field)
+        read_field(self.alloc, &mut self.space, region, field)
     }
 
     /// A write of a field of a region that is located. Refused as `aml_fields::write_field` refuses it.
     #[tactic(auto, using(crate::proofs::Lifted::parts))]
-    pub fn write_field(
-        &mut self,
-        region: Region,
-        field: FieldUnit,
-        bytes: &[u8],
-    ) -> Result<(), Refusal>
+    pub fn write_field(&mut self, region: Region, field: FieldUnit, bytes: &[u8]) -> Result<()>
         ensures change { Does result self.new (on_space (write_field S.accesses region field bytes.now)) self.old }
         ensures memory { NotMemory result }
     {
@@ -250,7 +235,7 @@ fn integer_bits(width: IntegerWidth) -> u8
     }
 }
 
-fn region_of_object(object: &NamedObject) -> Result<OperationRegion, Refusal>
+fn region_of_object(object: &NamedObject) -> Result<OperationRegion>
     ensures answer { Answers result (region_of_object object.now) }
     ensures memory { NotMemory result }
 {
@@ -260,7 +245,7 @@ fn region_of_object(object: &NamedObject) -> Result<OperationRegion, Refusal>
     }
 }
 
-fn field_of_object(object: &NamedObject) -> Result<RegionField, Refusal>
+fn field_of_object(object: &NamedObject) -> Result<RegionField>
     ensures answer { Answers result (field_of_object object.now) }
     ensures memory { NotMemory result }
 {
@@ -270,7 +255,7 @@ fn field_of_object(object: &NamedObject) -> Result<RegionField, Refusal>
     }
 }
 
-fn region_field(source: FieldSource, unit: FieldUnit) -> Result<RegionField, Refusal>
+fn region_field(source: FieldSource, unit: FieldUnit) -> Result<RegionField>
     ensures answer { Answers result (region_field source unit) }
     ensures memory { NotMemory result }
 {

@@ -7,7 +7,7 @@ ghost use Rattle.ar_space.specs.Outcome.{NotMemory};
 ghost use Rattle.aml_meaning.specs.Run.{charge};
 
 use crate::world_state::WorldState;
-use ar_space::{EvaluationFault, Refusal};
+use ar_space::{EvaluationFault, Refusal, Result};
 use std::marker::Model;
 
 /// The state of a world, and how many steps are left to what is evaluated in it (ACPI 6.5, 5.5: no evaluation runs
@@ -37,7 +37,7 @@ impl<S> Model for Running<S> {
 impl<S> Running<S> {
     /// One step, which each term takes when it begins; refused as `OutOfSteps` where none is left.
     #[tactic(auto, unfolding(crate::specs::Run::charge))]
-    pub fn charge(&mut self) -> Result<(), Refusal>
+    pub fn charge(&mut self) -> Result<()>
         ensures does { Does result self.new charge self.old }
         ensures spent { self.new.1 ≤ self.old.1 }
         ensures paid { OnOk result (self.new.1 < self.old.1) }

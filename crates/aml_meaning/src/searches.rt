@@ -15,8 +15,7 @@ use crate::world_state::WorldState;
 use aml_convert::{MatchOperator, is_match};
 use aml_objects::{Element, Value};
 use aml_path::{NameString, Path};
-use ar_space::{EvaluationFault, NamespaceFault, Refusal, ValueFault};
-use std::alloc::Global;
+use ar_space::{EvaluationFault, NamespaceFault, Refusal, Result, ValueFault};
 
 /// What Match asks of an element.
 #[derive(Clone, Copy, Debug)]
@@ -57,7 +56,7 @@ impl<S> WorldState<S> {
         first: (u8, Value),
         second: (u8, Value),
         start: Value,
-    ) -> Result<Searching, Refusal>
+    ) -> Result<Searching>
         ensures answer { Does result self.now (search_begun source first.0 first.1 second.0 second.1 start) self.now }
         ensures memory { NotMemory result }
     {
@@ -78,7 +77,7 @@ impl<S> WorldState<S> {
     /// What the element of a package at an index holds: a value, or a field that is read next; nothing where it is
     /// uninitialized, or a name that isn't found.
     #[tactic(auto, using(ar_space::proofs::Changes::changing), unfolding(crate::specs::MatchTerms::element_held))]
-    pub fn element_held(&self, object: u32, index: usize) -> Result<Option<Held>, Refusal>
+    pub fn element_held(&self, object: u32, index: usize) -> Result<Option<Held>>
         ensures answer { Does result self.now (element_held object index) self.now }
         ensures memory { NotMemory result }
     {
@@ -87,7 +86,7 @@ impl<S> WorldState<S> {
     }
 
     #[tactic(auto, using(ar_space::proofs::Changes::changing))]
-    fn held_by(&self, element: &Element) -> Result<Option<Held>, Refusal>
+    fn held_by(&self, element: &Element) -> Result<Option<Held>>
         ensures answer { Does result self.now (held_by element.now) self.now }
         ensures memory { NotMemory result }
     {
@@ -98,7 +97,7 @@ impl<S> WorldState<S> {
     }
 
     #[tactic(auto, unfolding(crate::specs::MatchTerms::name_held))]
-    fn name_held(&self, name: &NameString, scope: &Path) -> Result<Option<Held>, Refusal>
+    fn name_held(&self, name: &NameString, scope: &Path) -> Result<Option<Held>>
         ensures answer { Does result self.now (name_held name.now scope.now) self.now }
         ensures memory { NotMemory result }
     {
@@ -111,42 +110,42 @@ impl<S> WorldState<S> {
 
     /// Whether a value meets both tests of a search.
     #[tactic(auto, using(ar_space::proofs::Changes::changing))]
-    pub fn value_meets(&self, alloc: Global, search: &Search, value: Value) -> Result<bool, Refusal>
+    pub fn value_meets(&self, search: &Search, value: Value) -> Result<bool>
         ensures { Does result self.now (value_meets search.now value) self.now }
     {
         match value {
             Value::Uninitialized => Ok(false),
-            Value::Integer(_) => self.meets(alloc, search, value),
-            Value::String(_) => self.meets(alloc, search, value),
-            Value::Buffer(_) => self.meets(alloc, search, value),
-            Value::Package(_) => self.meets(alloc, search, value),
-            Value::Reference(_) => self.meets(alloc, search, value),
+            Value::Integer(_) => self.meets(search, value),
+            Value::String(_) => self.meets(search, value),
+            Value::Buffer(_) => self.meets(search, value),
+            Value::Package(_) => self.meets(search, value),
+            Value::Reference(_) => self.meets(search, value),
         }
     }
 
     #[tactic(auto, unfolding(crate::specs::MatchTerms::meets))]
-    fn meets(&self, alloc: Global, search: &Search, value: Value) -> Result<bool, Refusal>
+    fn meets(&self, search: &Search, value: Value) -> Result<bool>
         ensures { Does result self.now (meets search.now value) self.now }
     {
-        if self.meets_test(alloc, search.first, value)? {
-            return self.meets_test(alloc, search.second, value);
+        if self.meets_test(search.first, value)? {
+            return self.meets_test(search.second, value);
         }
         Ok(false)
     }
 
     /// Whether a value meets a test.
-    fn meets_test(&self, alloc: Global, test: MatchTest, value: Value) -> Result<bool, Refusal>
+    fn meets_test(&self, test: MatchTest, value: Value) -> Result<bool>
         ensures { Answers result (Ok (is_match self.now.width test.operator (content_in self.now.objects test.object)
             (content_in self.now.objects value))) }
     {
         let object = self.heap.content(test.object);
         let element = self.heap.content(value);
-        is_match(alloc, self.width, test.operator, object, element)
+        is_match(self.alloc, self.width, test.operator, object, element)
     }
 }
 
 /// The package that a value is; any other value is refused as `WrongType`.
-fn package_of(value: Value) -> Result<u32, Refusal>
+fn package_of(value: Value) -> Result<u32>
     ensures answer { Answers result (package_of value) }
     ensures memory { NotMemory result }
 {
@@ -161,7 +160,7 @@ fn package_of(value: Value) -> Result<u32, Refusal>
 }
 
 /// A test by the byte of its operator and its object; another byte or object is refused as `WrongType`.
-fn test_of(number: u8, object: Value) -> Result<MatchTest, Refusal>
+fn test_of(number: u8, object: Value) -> Result<MatchTest>
     ensures answer { Answers result (test_of number object) }
     ensures memory { NotMemory result }
 {
@@ -191,7 +190,7 @@ fn is_comparable(value: Value) -> bool
 }
 
 /// A search that begins at an index; refused as `IndexLimit` where no element stands there.
-fn searching_from(search: Search, index: u64) -> Result<Searching, Refusal>
+fn searching_from(search: Search, index: u64) -> Result<Searching>
     ensures answer { Answers result (searching_from search index) }
     ensures memory { NotMemory result }
 {

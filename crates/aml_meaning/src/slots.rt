@@ -15,7 +15,7 @@ ghost use Rattle.aml_objects.specs.declared.value.Value.TheVariants.{Uninitializ
 use crate::frame::Frame;
 use crate::world_state::WorldState;
 use aml_objects::{Slot, Value};
-use ar_space::{EvaluationFault, Refusal};
+use ar_space::{EvaluationFault, Refusal, Result};
 
 /// The index of the frame with a number.
 pub(crate) fn frame_index(frames: &[Frame], number: u64) -> Option<usize>
@@ -137,7 +137,7 @@ fn put(values: &mut [Value], index: u8, value: Value)
 impl<S> WorldState<S> {
     /// What a slot of the frame with a number holds; a frame that ended is refused as `DeadReference`.
     #[tactic(auto, unfolding(crate::specs::Slots::slot_of))]
-    pub fn slot(&self, number: u64, slot: Slot) -> Result<Value, Refusal>
+    pub fn slot(&self, number: u64, slot: Slot) -> Result<Value>
         ensures answer { Does result self.now (slot_of number slot) self.now }
         ensures memory { NotMemory result }
     {
@@ -181,7 +181,7 @@ impl<S> WorldState<S> {
     /// Opens a frame with these arguments, and gives its number, which is never given again; refused as `ObjectLimit`
     /// where no number is left.
     #[tactic(auto, unfolding(crate::specs::Slots::opened))]
-    pub fn open_frame(&mut self, arguments: [Value; 7]) -> Result<u64, Refusal>
+    pub fn open_frame(&mut self, arguments: [Value; 7]) -> Result<u64>
         ensures { Does result self.new (opened arguments) self.old }
     {
         if self.started == u64::MAX {

@@ -16,8 +16,7 @@ use crate::world_state::WorldState;
 use aml_convert::{to_buffer, to_text};
 use aml_namespace::Located;
 use aml_objects::{NamedObject, Octets, Slot, Value};
-use ar_space::{Refusal, ValueFault};
-use std::alloc::Global;
+use ar_space::{Refusal, Result, ValueFault};
 
 impl<S> WorldState<S> {
     /// Stores a value to a target.
@@ -28,19 +27,14 @@ impl<S> WorldState<S> {
     /// reference a copy of anything. Where the target is a field, nothing is stored yet: the caller writes it next.
     /// Other names are refused as `WrongType`. A refused store changes nothing.
     #[tactic(auto, using(ar_space::proofs::Changes::changing))]
-    pub fn store(
-        &mut self,
-        alloc: Global,
-        target: &StoreTarget,
-        value: Value,
-    ) -> Result<Stored, Refusal>
+    pub fn store(&mut self, target: &StoreTarget, value: Value) -> Result<Stored>
         ensures { Does result self.new (stored target.now value) self.old }
     {
         match target {
             StoreTarget::Nowhere => Ok(Stored::Done),
-            StoreTarget::Slot(slot) => self.store_in_slot(alloc, *slot, value),
-            StoreTarget::Name(path) => self.store_in_name(alloc, path, value),
-            StoreTarget::Refers(reference) => self.store_to(alloc, *reference, value),
+            StoreTarget::Slot(slot) => self.store_in_slot(*slot, value),
+            StoreTarget::Name(path) => self.store_in_name(path, value),
+            StoreTarget::Refers(reference) => self.store_to(*reference, value),
         }
     }
 
@@ -48,75 +42,54 @@ impl<S> WorldState<S> {
     /// Anything else is as `store` has it.
     #[inline(never)]
     #[tactic(auto, using(ar_space::proofs::Changes::changing))]
-    pub fn copy_to(
-        &mut self,
-        alloc: Global,
-        target: &StoreTarget,
-        value: Value,
-    ) -> Result<Stored, Refusal>
+    pub fn copy_to(&mut self, target: &StoreTarget, value: Value) -> Result<Stored>
         ensures { Does result self.new (copied_to target.now value) self.old }
     {
         match target {
             StoreTarget::Nowhere => Ok(Stored::Done),
-            StoreTarget::Slot(slot) => self.store_in_slot(alloc, *slot, value),
-            StoreTarget::Name(path) => self.copy_in_name(alloc, path, value),
+            StoreTarget::Slot(slot) => self.store_in_slot(*slot, value),
+            StoreTarget::Name(path) => self.copy_in_name(path, value),
             StoreTarget::Refers(reference) => {
-                store_through(alloc, self, MOST_REFERENCES, *reference, value)
+                store_through(self, MOST_REFERENCES, *reference, value)
             }
         }
     }
 
     #[tactic(auto, using(ar_space::proofs::Changes::changing), unfolding(crate::specs::Stores::store_in_slot))]
-    pub(crate) fn store_in_slot(
-        &mut self,
-        alloc: Global,
-        slot: Slot,
-        value: Value,
-    ) -> Result<Stored, Refusal>
+    pub(crate) fn store_in_slot(&mut self, slot: Slot, value: Value) -> Result<Stored>
         ensures { Does result self.new (store_in_slot slot value) self.old }
     {
         let frame = self.latest_frame()?;
-        store_in_frame(alloc, self, MOST_REFERENCES, frame, slot, value)
+        store_in_frame(self, MOST_REFERENCES, frame, slot, value)
     }
 
     #[tactic(auto, using(ar_space::proofs::Changes::changing), unfolding(crate::specs::Stores::store_in_name))]
-    fn store_in_name(
-        &mut self,
-        alloc: Global,
-        path: &Located,
-        value: Value,
-    ) -> Result<Stored, Refusal>
+    fn store_in_name(&mut self, path: &Located, value: Value) -> Result<Stored>
         ensures { Does result self.new (store_in_name path.now value) self.old }
     {
         let held = self.held_at(path)?;
-        self.store_over(alloc, held, path, value)
+        self.store_over(held, path, value)
     }
 
     #[tactic(auto, using(ar_space::proofs::Changes::changing), unfolding(crate::specs::Stores::copy_in_name))]
-    fn copy_in_name(
-        &mut self,
-        alloc: Global,
-        path: &Located,
-        value: Value,
-    ) -> Result<Stored, Refusal>
+    fn copy_in_name(&mut self, path: &Located, value: Value) -> Result<Stored>
         ensures { Does result self.new (copy_in_name path.now value) self.old }
     {
         let held = self.held_at(path)?;
-        self.copy_over(alloc, held, path, value)
+        self.copy_over(held, path, value)
     }
 
     #[tactic(auto, using(ar_space::proofs::Changes::changing))]
     pub(crate) fn store_over(
         &mut self,
-        alloc: Global,
         held: Holding,
         path: &Located,
         value: Value,
-    ) -> Result<Stored, Refusal>
+    ) -> Result<Stored>
         ensures { Does result self.new (store_over held path.now value) self.old }
     {
         match held {
-            Holding::Value(old) => self.store_over_value(alloc, old, path, value),
+            Holding::Value(old) => self.store_over_value(old, path, value),
             Holding::Field(field) => Ok(Stored::Field(field)),
             Holding::Nothing => Err(Refusal::Value(ValueFault::WrongType)),
         }
@@ -125,25 +98,24 @@ impl<S> WorldState<S> {
     #[tactic(auto, using(ar_space::proofs::Changes::changing))]
     pub(crate) fn store_over_value(
         &mut self,
-        alloc: Global,
         old: Value,
         path: &Located,
         value: Value,
-    ) -> Result<Stored, Refusal>
+    ) -> Result<Stored>
         ensures { Does result self.new (store_over_value old path.now value) self.old }
     {
         match old {
             Value::Integer(_) => self.store_integer(path, value),
-            Value::String(object) => self.store_text(alloc, object, value),
-            Value::Buffer(object) => self.store_bytes(alloc, object, value),
-            Value::Package(_) => self.store_package(alloc, path, value),
-            Value::Reference(_) => self.copy_into_name(alloc, path, value),
-            Value::Uninitialized => self.copy_into_name(alloc, path, value),
+            Value::String(object) => self.store_text(object, value),
+            Value::Buffer(object) => self.store_bytes(object, value),
+            Value::Package(_) => self.store_package(path, value),
+            Value::Reference(_) => self.copy_into_name(path, value),
+            Value::Uninitialized => self.copy_into_name(path, value),
         }
     }
 
     #[tactic(auto, using(ar_space::proofs::Changes::changing), unfolding(crate::specs::Stores::store_integer))]
-    fn store_integer(&mut self, path: &Located, value: Value) -> Result<Stored, Refusal>
+    fn store_integer(&mut self, path: &Located, value: Value) -> Result<Stored>
         ensures change { Does result self.new (store_integer path.now value) self.old }
         ensures memory { NotMemory result }
     {
@@ -153,34 +125,29 @@ impl<S> WorldState<S> {
     }
 
     #[tactic(auto, using(ar_space::proofs::Changes::changing), unfolding(crate::specs::Stores::store_text))]
-    fn store_text(&mut self, alloc: Global, object: u32, value: Value) -> Result<Stored, Refusal>
+    fn store_text(&mut self, object: u32, value: Value) -> Result<Stored>
         ensures { Does result self.new (store_text object value) self.old }
     {
-        let bytes = self.text_in(alloc, value)?;
+        let bytes = self.text_in(value)?;
         self.write_string(object, bytes)?;
         Ok(Stored::Done)
     }
 
     #[tactic(auto, using(ar_space::proofs::Changes::changing), unfolding(crate::specs::Stores::store_bytes))]
-    fn store_bytes(&mut self, alloc: Global, object: u32, value: Value) -> Result<Stored, Refusal>
+    fn store_bytes(&mut self, object: u32, value: Value) -> Result<Stored>
         ensures { Does result self.new (store_bytes object value) self.old }
     {
-        let bytes = self.bytes_in(alloc, value)?;
+        let bytes = self.bytes_in(value)?;
         self.write_buffer(object, bytes)?;
         Ok(Stored::Done)
     }
 
     #[tactic(auto, using(ar_space::proofs::Changes::changing))]
-    fn store_package(
-        &mut self,
-        alloc: Global,
-        path: &Located,
-        value: Value,
-    ) -> Result<Stored, Refusal>
+    fn store_package(&mut self, path: &Located, value: Value) -> Result<Stored>
         ensures { Does result self.new (store_package path.now value) self.old }
     {
         match value {
-            Value::Package(object) => self.copy_into_name(alloc, path, Value::Package(object)),
+            Value::Package(object) => self.copy_into_name(path, Value::Package(object)),
             Value::Uninitialized => Err(Refusal::Value(ValueFault::WrongType)),
             Value::Integer(_) => Err(Refusal::Value(ValueFault::WrongType)),
             Value::String(_) => Err(Refusal::Value(ValueFault::WrongType)),
@@ -193,37 +160,31 @@ impl<S> WorldState<S> {
     #[tactic(auto, using(ar_space::proofs::Changes::changing))]
     pub(crate) fn copy_over(
         &mut self,
-        alloc: Global,
         held: Holding,
         path: &Located,
         value: Value,
-    ) -> Result<Stored, Refusal>
+    ) -> Result<Stored>
         ensures { Does result self.new (copy_over held path.now value) self.old }
     {
         match held {
-            Holding::Value(_) => self.copy_into_name(alloc, path, value),
+            Holding::Value(_) => self.copy_into_name(path, value),
             Holding::Field(field) => Ok(Stored::Field(field)),
             Holding::Nothing => Err(Refusal::Value(ValueFault::WrongType)),
         }
     }
 
     #[tactic(auto, using(ar_space::proofs::Changes::changing), unfolding(crate::specs::Stores::copy_into_name))]
-    pub(crate) fn copy_into_name(
-        &mut self,
-        alloc: Global,
-        path: &Located,
-        value: Value,
-    ) -> Result<Stored, Refusal>
+    pub(crate) fn copy_into_name(&mut self, path: &Located, value: Value) -> Result<Stored>
         ensures { Does result self.new (copy_into_name path.now value) self.old }
     {
-        let copy = self.copy(alloc, value)?;
+        let copy = self.copy(value)?;
         self.put_data(path, copy)?;
         Ok(Stored::Done)
     }
 
     /// The name at a path holds a value from now on.
     #[tactic(auto, using(crate::proofs::Lifted::parts))]
-    fn put_data(&mut self, path: &Located, value: Value) -> Result<(), Refusal>
+    fn put_data(&mut self, path: &Located, value: Value) -> Result<()>
         ensures change { Does result self.new (on_names (replaced path.now (Data value))) self.old }
         ensures memory { NotMemory result }
     {
@@ -234,21 +195,20 @@ impl<S> WorldState<S> {
     #[tactic(auto, using(ar_space::proofs::Changes::changing), unfolding(crate::specs::Stores::copy_into_slot))]
     pub(crate) fn copy_into_slot(
         &mut self,
-        alloc: Global,
         frame: usize,
         slot: Slot,
         value: Value,
-    ) -> Result<Stored, Refusal>
+    ) -> Result<Stored>
         ensures { Does result self.new (copy_into_slot frame slot value) self.old }
     {
-        let copy = self.copy(alloc, value)?;
+        let copy = self.copy(value)?;
         self.slot_put(frame, slot, copy)?;
         Ok(Stored::Done)
     }
 
     /// A slot of the frame at an index holds a value from now on.
     #[tactic(auto, unfolding(crate::specs::Stores::slot_put))]
-    fn slot_put(&mut self, frame: usize, slot: Slot, value: Value) -> Result<(), Refusal>
+    fn slot_put(&mut self, frame: usize, slot: Slot, value: Value) -> Result<()>
         ensures change { Does result self.new (slot_put frame slot value) self.old }
         ensures memory { NotMemory result }
     {
@@ -261,17 +221,17 @@ impl<S> WorldState<S> {
 
     /// A value as a string.
     #[tactic(auto, unfolding(crate::specs::Stores::text_in))]
-    fn text_in(&self, alloc: Global, value: Value) -> Result<Octets, Refusal>
+    fn text_in(&self, value: Value) -> Result<Octets>
         ensures { Does result self.now (text_in value) self.now }
     {
-        to_text(alloc, self.width, self.heap.content(value))
+        to_text(self.alloc, self.width, self.heap.content(value))
     }
 
     /// A value as a buffer, converted to one; it is refused as conversions are.
     #[tactic(auto, unfolding(crate::specs::Stores::bytes_in))]
-    pub fn bytes_in(&self, alloc: Global, value: Value) -> Result<Octets, Refusal>
+    pub fn bytes_in(&self, value: Value) -> Result<Octets>
         ensures { Does result self.now (bytes_in value) self.now }
     {
-        to_buffer(alloc, self.width, self.heap.content(value))
+        to_buffer(self.alloc, self.width, self.heap.content(value))
     }
 }

@@ -4,7 +4,6 @@ ghost use Rattle.aml_meaning.specs.Calling.{released};
 
 use crate::world_state::WorldState;
 use aml_grammar::Arities;
-use std::alloc::Global;
 
 impl<S> WorldState<S> {
     /// The arguments that names take, as the tables so far have declared them, and as Externals told.
@@ -16,11 +15,11 @@ impl<S> WorldState<S> {
 
     /// Hands out the arguments that names take, and keeps none: they are set again once more are declared. It takes
     /// no memory.
-    pub fn take_arities(&mut self, alloc: Global) -> Arities
+    pub fn take_arities(&mut self) -> Arities
         ensures arities { result ≡ self.old.arities }
         ensures none { self.new ≡ record self.old { arities = [] } }
     {
-        self.declarations.take_arities(alloc)
+        self.declarations.take_arities(self.alloc)
     }
 
     /// Takes over the arguments that names take from now on. It takes no memory.

@@ -13,27 +13,21 @@ use crate::world_state::WorldState;
 use aml_namespace::{Located, Scope};
 use aml_objects::{Entry, Field, NamedObject, NodeId, Slot, Value};
 use aml_path::NameString;
-use ar_space::{EvaluationFault, NamespaceFault, Refusal, ValueFault};
-use std::alloc::Global;
+use ar_space::{EvaluationFault, NamespaceFault, Refusal, Result, ValueFault};
 
 impl<S> WorldState<S> {
     /// The target that a name stands for; refused as `Names::locate` refuses it.
     #[tactic(auto, using(ar_space::proofs::Changes::changing), unfolding(crate::specs::TargetTerms::target_named))]
-    pub fn target_named(
-        &self,
-        alloc: Global,
-        scope: Scope<'_>,
-        name: &NameString,
-    ) -> Result<StoreTarget, Refusal>
+    pub fn target_named(&self, scope: Scope<'_>, name: &NameString) -> Result<StoreTarget>
         ensures { Does result self.now (target_named scope.entry.path.now name.now) self.now }
     {
-        let located = self.locate(alloc, scope, name)?;
+        let located = self.locate(scope, name)?;
         Ok(StoreTarget::Name(located))
     }
 
     /// What the name at a path holds; refused as `NotFound` where none stands there.
     #[tactic(auto, unfolding(crate::specs::StoreTargets::held_at))]
-    pub(crate) fn held_at(&self, path: &Located) -> Result<Holding, Refusal>
+    pub(crate) fn held_at(&self, path: &Located) -> Result<Holding>
         ensures answer { Does result self.now (held_at path.now) self.now }
         ensures memory { NotMemory result }
     {
@@ -45,7 +39,7 @@ impl<S> WorldState<S> {
 
     /// The index of the frame of the control method that runs.
     #[tactic(auto, unfolding(crate::specs::StoreTargets::latest_frame))]
-    pub(crate) fn latest_frame(&self) -> Result<usize, Refusal>
+    pub(crate) fn latest_frame(&self) -> Result<usize>
         ensures answer { Does result self.now latest_frame self.now }
         ensures memory { NotMemory result }
     {
@@ -57,7 +51,7 @@ impl<S> WorldState<S> {
 
     /// The index of the frame with a number; one that ended is refused as `DeadReference`.
     #[tactic(auto, unfolding(crate::specs::StoreTargets::frame_found))]
-    pub(crate) fn frame_found(&self, number: u64) -> Result<usize, Refusal>
+    pub(crate) fn frame_found(&self, number: u64) -> Result<usize>
         ensures answer { Does result self.now (frame_found number) self.now }
         ensures memory { NotMemory result }
     {
@@ -69,7 +63,7 @@ impl<S> WorldState<S> {
 
     /// What a slot of the frame at an index holds.
     #[tactic(auto, unfolding(crate::specs::StoreTargets::slot_held))]
-    pub(crate) fn slot_held(&self, index: usize, slot: Slot) -> Result<Value, Refusal>
+    pub(crate) fn slot_held(&self, index: usize, slot: Slot) -> Result<Value>
         ensures answer { Does result self.now (slot_held index slot) self.now }
         ensures memory { NotMemory result }
     {
@@ -81,7 +75,7 @@ impl<S> WorldState<S> {
 
     /// What a slot of the control method that runs holds.
     #[tactic(auto, using(ar_space::proofs::Changes::changing), unfolding(crate::specs::StoreTargets::own_slot))]
-    pub(crate) fn own_slot(&self, slot: Slot) -> Result<Value, Refusal>
+    pub(crate) fn own_slot(&self, slot: Slot) -> Result<Value>
         ensures answer { Does result self.now (own_slot slot) self.now }
         ensures memory { NotMemory result }
     {
@@ -91,7 +85,7 @@ impl<S> WorldState<S> {
 
     /// The value of a local or an argument; one that is uninitialized is refused as `NoValue`.
     #[tactic(auto, using(ar_space::proofs::Changes::changing), unfolding(crate::specs::StoreTargets::slot_read))]
-    pub fn slot_read(&self, slot: Slot) -> Result<Value, Refusal>
+    pub fn slot_read(&self, slot: Slot) -> Result<Value>
         ensures answer { Does result self.now (slot_read slot) self.now }
         ensures memory { NotMemory result }
     {
@@ -102,7 +96,7 @@ impl<S> WorldState<S> {
     /// What a target holds, for what is stored there next. A target that holds no value is refused as `WrongType`,
     /// and an uninitialized slot as `NoValue`.
     #[tactic(auto, using(ar_space::proofs::Changes::changing))]
-    pub fn target_read(&self, target: &StoreTarget) -> Result<Held, Refusal>
+    pub fn target_read(&self, target: &StoreTarget) -> Result<Held>
         ensures answer { Does result self.now (target_read target.now) self.now }
         ensures memory { NotMemory result }
     {
@@ -115,7 +109,7 @@ impl<S> WorldState<S> {
     }
 
     #[tactic(auto, using(ar_space::proofs::Changes::changing), unfolding(crate::specs::StoreTargets::held_in_slot))]
-    fn held_in_slot(&self, slot: Slot) -> Result<Held, Refusal>
+    fn held_in_slot(&self, slot: Slot) -> Result<Held>
         ensures answer { Does result self.now (held_in_slot slot) self.now }
         ensures memory { NotMemory result }
     {
@@ -124,7 +118,7 @@ impl<S> WorldState<S> {
     }
 
     #[tactic(auto, using(ar_space::proofs::Changes::changing), unfolding(crate::specs::StoreTargets::name_read))]
-    fn name_read(&self, path: &Located) -> Result<Held, Refusal>
+    fn name_read(&self, path: &Located) -> Result<Held>
         ensures answer { Does result self.now (name_read path.now) self.now }
         ensures memory { NotMemory result }
     {
@@ -134,7 +128,7 @@ impl<S> WorldState<S> {
 
     /// What stands under the number of a declaration; one that was removed is refused as `DeadReference`.
     #[tactic(auto, unfolding(crate::specs::StoreTargets::entry_declared))]
-    pub(crate) fn declaration(&self, number: u64) -> Result<&Entry, Refusal>
+    pub(crate) fn declaration(&self, number: u64) -> Result<&Entry>
         ensures answer { Does (seen (λ e. e.now) result) self.now (entry_declared number) self.now }
         ensures memory { NotMemory result }
     {
@@ -146,18 +140,14 @@ impl<S> WorldState<S> {
 
     /// The same, with the path of the declaration.
     #[tactic(auto, unfolding(crate::specs::StoreTargets::declaration))]
-    pub(crate) fn placed_declaration(
-        &self,
-        alloc: Global,
-        number: u64,
-    ) -> Result<(Located, &Entry), Refusal>
+    pub(crate) fn placed_declaration(&self, number: u64) -> Result<(Located, &Entry)>
         ensures { Does (seen (λ d. (d.0, d.1.now)) result) self.now (declaration number) self.now }
     {
         let node = self.names().id_of(number);
         let Some(entry) = self.names().node(node) else {
             return Err(Refusal::Evaluation(EvaluationFault::DeadReference));
         };
-        match self.names().locate_node(alloc, node)? {
+        match self.names().locate_node(self.alloc, node)? {
             None => Err(Refusal::Evaluation(EvaluationFault::DeadReference)),
             Some(located) => Ok((located, entry)),
         }
@@ -176,7 +166,7 @@ pub(crate) fn holding_of(object: &NamedObject) -> Holding
     }
 }
 
-pub(crate) fn initialized(value: Value) -> Result<Value, Refusal>
+pub(crate) fn initialized(value: Value) -> Result<Value>
     ensures answer { Answers result (initialized value) }
     ensures memory { NotMemory result }
 {
@@ -190,7 +180,7 @@ pub(crate) fn initialized(value: Value) -> Result<Value, Refusal>
     }
 }
 
-fn held_in(held: Holding) -> Result<Held, Refusal>
+fn held_in(held: Holding) -> Result<Held>
     ensures answer { Answers result (held_in held) }
     ensures memory { NotMemory result }
 {

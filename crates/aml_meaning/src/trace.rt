@@ -7,7 +7,7 @@ ghost use Rattle.std.specs.Prelude.{◌≡◌};
 
 use crate::world_state::WorldState;
 use aml_path::{NameString, Path};
-use ar_space::Refusal;
+use ar_space::Result;
 use std::alloc::Global;
 
 /// A list of terms that was being evaluated, and the term of it that was.
@@ -87,7 +87,7 @@ impl Trace {
         self.is_cut = false;
     }
 
-    fn put_place(&mut self, place: Result<TracePlace, Refusal>) {
+    fn put_place(&mut self, place: Result<TracePlace>) {
         if self.is_cut {
             return;
         }
@@ -103,7 +103,7 @@ impl Trace {
         }
     }
 
-    fn put_name(&mut self, name: Result<TraceName, Refusal>) {
+    fn put_name(&mut self, name: Result<TraceName>) {
         match name {
             Ok(name) => self.name = Some(name),
             Err(_) => self.is_cut = true,
@@ -141,7 +141,7 @@ impl<S> WorldState<S> {
     /// A list that was being evaluated when evaluation was refused; those around it follow. Where memory for it ran
     /// out, no further place is kept.
     #[cold]
-    pub fn put_trace_place(&mut self, place: Result<TracePlace, Refusal>)
+    pub fn put_trace_place(&mut self, place: Result<TracePlace>)
         ensures { self.new ≡ self.old }
     {
         self.trace.put_place(place);
@@ -149,18 +149,18 @@ impl<S> WorldState<S> {
 
     /// The name that evaluation is refused for, which stands in a scope.
     #[cold]
-    pub fn put_trace_name(&mut self, alloc: Global, name: &NameString, scope: &Path)
+    pub fn put_trace_name(&mut self, name: &NameString, scope: &Path)
         ensures { self.new ≡ self.old }
     {
-        self.trace.put_name(named(alloc, name, scope));
+        self.trace.put_name(named(self.alloc, name, scope));
     }
 
     /// The path from outside that evaluation is refused for.
     #[cold]
-    pub fn put_trace_path(&mut self, alloc: Global, path: &Path)
+    pub fn put_trace_path(&mut self, path: &Path)
         ensures { self.new ≡ self.old }
     {
-        self.trace.put_name(from_root(alloc, path));
+        self.trace.put_name(from_root(self.alloc, path));
     }
 
     /// So many steps are left.
@@ -181,7 +181,7 @@ impl<S> WorldState<S> {
 }
 
 /// A name and its scope, for a trace.
-fn named(alloc: Global, name: &NameString, scope: &Path) -> Result<TraceName, Refusal> {
+fn named(alloc: Global, name: &NameString, scope: &Path) -> Result<TraceName> {
     Ok(TraceName {
         path: path_of(alloc, name, scope)?,
         scope: scope.copy(alloc)?,
@@ -189,7 +189,7 @@ fn named(alloc: Global, name: &NameString, scope: &Path) -> Result<TraceName, Re
 }
 
 /// A path that was looked for from the root, for a trace.
-fn from_root(alloc: Global, path: &Path) -> Result<TraceName, Refusal> {
+fn from_root(alloc: Global, path: &Path) -> Result<TraceName> {
     Ok(TraceName {
         path: path.copy(alloc)?,
         scope: Path::root(alloc),
@@ -197,7 +197,7 @@ fn from_root(alloc: Global, path: &Path) -> Result<TraceName, Refusal> {
 }
 
 /// The path that a name stands for in a scope; of one that stands for none, that of its segments below the root.
-fn path_of(alloc: Global, name: &NameString, scope: &Path) -> Result<Path, Refusal> {
+fn path_of(alloc: Global, name: &NameString, scope: &Path) -> Result<Path> {
     match name.resolve_in(alloc, scope) {
         Ok(path) => Ok(path),
         Err(_) => Path::root(alloc).below_prefix(alloc, 0, name.segments()),

@@ -16,7 +16,7 @@ use crate::regions::is_wide;
 use crate::world_state::WorldState;
 use aml_fields::{AddressSpace, Region, read_number, write_number};
 use aml_objects::{FieldSource, FieldUnit, NamedObject, NodeId, OperationRegion};
-use ar_space::{Refusal, Space};
+use ar_space::{Result, Space};
 
 impl<S> WorldState<S> {
     /// The region in which a field unit lies, where it is one of SystemMemory or SystemIO.
@@ -38,7 +38,7 @@ impl<S: Space> WorldState<S> {
     /// The bits of a field unit as an integer, which is its value, where it lies within one access unit of
     /// SystemMemory or SystemIO and has no more bits than an integer; none where it doesn't, and then nothing
     /// changes. Refused as `read_field` refuses it.
-    pub fn unit_integer(&mut self, unit: FieldUnit) -> Result<Option<u64>, Refusal>
+    pub fn unit_integer(&mut self, unit: FieldUnit) -> Result<Option<u64>>
         ensures read { IfOk result (λ read. MatchOption read (self.new ≡ self.old)
             (λ number. (call : List Segment → Run S ℕ) (steps : ℕ) →
             Does (Ok (Integer number)) (self.new, steps) (field_value S.accesses call (field.Unit unit))
@@ -59,7 +59,7 @@ impl<S: Space> WorldState<S> {
     /// Stores an integer to a field unit that lies within one access unit of SystemMemory or SystemIO and has no more
     /// bits than an integer. It answers no where the unit is another, and then nothing changes. Refused as
     /// `write_field` refuses it.
-    pub fn put_unit_integer(&mut self, unit: FieldUnit, number: u64) -> Result<bool, Refusal>
+    pub fn put_unit_integer(&mut self, unit: FieldUnit, number: u64) -> Result<bool>
         ensures written { IfOk result (λ done. MatchBool done ((call : List Segment → Run S ℕ) (steps : ℕ) →
             Does (Ok tt) (self.new, steps) (field_stored S.accesses call (field.Unit unit) (Integer number))
             (self.old, steps)) (self.new ≡ self.old)) }

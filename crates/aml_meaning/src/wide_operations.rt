@@ -19,14 +19,13 @@ use aml_convert::{
 };
 use aml_grammar::Opcode;
 use aml_objects::{Octets, Value};
-use ar_space::{EvaluationFault, Refusal};
-use std::alloc::Global;
+use ar_space::{EvaluationFault, Refusal, Result};
 
 impl<S> WorldState<S> {
     /// Asks whether a term of the wide profile is evaluated: in a world of the core profile it is refused as
     /// `Unsupported`.
     #[tactic(auto, unfolding(crate::specs::Profiles::asked_for))]
-    pub fn ask_for(&self, opcode: Opcode) -> Result<(), Refusal>
+    pub fn ask_for(&self, opcode: Opcode) -> Result<()>
         ensures answer { Does result self.now (asked_for opcode) self.now }
         ensures memory { NotMemory result }
     {
@@ -36,17 +35,12 @@ impl<S> WorldState<S> {
     /// What an explicit conversion gives of a value; it is refused as that is.
     #[inline(never)]
     #[tactic(auto, using(ar_space::proofs::Changes::changing))]
-    pub fn convert(
-        &mut self,
-        alloc: Global,
-        conversion: Conversion,
-        value: Value,
-    ) -> Result<Value, Refusal>
+    pub fn convert(&mut self, conversion: Conversion, value: Value) -> Result<Value>
         ensures { Does result self.new (converted conversion value) self.old }
     {
         match conversion {
-            Conversion::DecimalString => self.to_decimal_string(alloc, value),
-            Conversion::HexadecimalString => self.to_hexadecimal_string(alloc, value),
+            Conversion::DecimalString => self.to_decimal_string(value),
+            Conversion::HexadecimalString => self.to_hexadecimal_string(value),
             Conversion::FromDecimal => self.decode_decimal(value),
             Conversion::ToDecimal => self.code_decimal(value),
         }
@@ -55,98 +49,85 @@ impl<S> WorldState<S> {
     /// ToString: a new string of the bytes of a value before the first zero, at most as many as are asked for.
     #[inline(never)]
     #[tactic(auto, using(ar_space::proofs::Changes::changing), unfolding(crate::specs::WideOperations::string_in))]
-    pub fn to_string(
-        &mut self,
-        alloc: Global,
-        source: Value,
-        count: Value,
-    ) -> Result<Value, Refusal>
+    pub fn to_string(&mut self, source: Value, count: Value) -> Result<Value>
         ensures { Does result self.new (string_in source count) self.old }
     {
-        let text = self.string_text(alloc, source, count)?;
+        let text = self.string_text(source, count)?;
         self.make_string(text)
     }
 
     /// Mid: a part of a value, from a place on, at most as many bytes as are asked for.
     #[inline(never)]
     #[tactic(auto, using(ar_space::proofs::Changes::changing), unfolding(crate::specs::WideOperations::middle_in))]
-    pub fn middle(
-        &mut self,
-        alloc: Global,
-        source: Value,
-        start: Value,
-        count: Value,
-    ) -> Result<Value, Refusal>
+    pub fn middle(&mut self, source: Value, start: Value, count: Value) -> Result<Value>
         ensures { Does result self.new (middle_in source start count) self.old }
     {
-        let content = self.middle_content(alloc, source, start, count)?;
+        let content = self.middle_content(source, start, count)?;
         self.make_formed(content)
     }
 
     #[tactic(auto, using(ar_space::proofs::Changes::changing))]
-    fn to_decimal_string(&mut self, alloc: Global, value: Value) -> Result<Value, Refusal>
+    fn to_decimal_string(&mut self, value: Value) -> Result<Value>
         ensures { Does result self.new (decimal_string_in value) self.old }
     {
         match value {
             Value::String(object) => Ok(Value::String(object)),
-            Value::Uninitialized => self.new_decimal_string(alloc, Value::Uninitialized),
-            Value::Integer(number) => self.new_decimal_string(alloc, Value::Integer(number)),
-            Value::Buffer(object) => self.new_decimal_string(alloc, Value::Buffer(object)),
-            Value::Package(object) => self.new_decimal_string(alloc, Value::Package(object)),
-            Value::Reference(reference) => {
-                self.new_decimal_string(alloc, Value::Reference(reference))
-            }
+            Value::Uninitialized => self.new_decimal_string(Value::Uninitialized),
+            Value::Integer(number) => self.new_decimal_string(Value::Integer(number)),
+            Value::Buffer(object) => self.new_decimal_string(Value::Buffer(object)),
+            Value::Package(object) => self.new_decimal_string(Value::Package(object)),
+            Value::Reference(reference) => { self.new_decimal_string(Value::Reference(reference)) }
         }
     }
 
     #[tactic(auto, using(ar_space::proofs::Changes::changing), unfolding(crate::specs::WideOperations::new_decimal_string))]
-    fn new_decimal_string(&mut self, alloc: Global, value: Value) -> Result<Value, Refusal>
+    fn new_decimal_string(&mut self, value: Value) -> Result<Value>
         ensures { Does result self.new (new_decimal_string value) self.old }
     {
-        let text = self.decimal_text(alloc, value)?;
+        let text = self.decimal_text(value)?;
         self.make_string(text)
     }
 
     #[tactic(auto, unfolding(crate::specs::WideOperations::decimal_text))]
-    fn decimal_text(&self, alloc: Global, value: Value) -> Result<Octets, Refusal>
+    fn decimal_text(&self, value: Value) -> Result<Octets>
         ensures { Does result self.now (decimal_text value) self.now }
     {
-        to_decimal_string(alloc, self.heap.content(value))
+        to_decimal_string(self.alloc, self.heap.content(value))
     }
 
     #[tactic(auto, using(ar_space::proofs::Changes::changing))]
-    fn to_hexadecimal_string(&mut self, alloc: Global, value: Value) -> Result<Value, Refusal>
+    fn to_hexadecimal_string(&mut self, value: Value) -> Result<Value>
         ensures { Does result self.new (hexadecimal_string_in value) self.old }
     {
         match value {
             Value::String(object) => Ok(Value::String(object)),
-            Value::Uninitialized => self.new_hexadecimal_string(alloc, Value::Uninitialized),
-            Value::Integer(number) => self.new_hexadecimal_string(alloc, Value::Integer(number)),
-            Value::Buffer(object) => self.new_hexadecimal_string(alloc, Value::Buffer(object)),
-            Value::Package(object) => self.new_hexadecimal_string(alloc, Value::Package(object)),
+            Value::Uninitialized => self.new_hexadecimal_string(Value::Uninitialized),
+            Value::Integer(number) => self.new_hexadecimal_string(Value::Integer(number)),
+            Value::Buffer(object) => self.new_hexadecimal_string(Value::Buffer(object)),
+            Value::Package(object) => self.new_hexadecimal_string(Value::Package(object)),
             Value::Reference(reference) => {
-                self.new_hexadecimal_string(alloc, Value::Reference(reference))
+                self.new_hexadecimal_string(Value::Reference(reference))
             }
         }
     }
 
     #[tactic(auto, using(ar_space::proofs::Changes::changing), unfolding(crate::specs::WideOperations::new_hexadecimal_string))]
-    fn new_hexadecimal_string(&mut self, alloc: Global, value: Value) -> Result<Value, Refusal>
+    fn new_hexadecimal_string(&mut self, value: Value) -> Result<Value>
         ensures { Does result self.new (new_hexadecimal_string value) self.old }
     {
-        let text = self.hexadecimal_text(alloc, value)?;
+        let text = self.hexadecimal_text(value)?;
         self.make_string(text)
     }
 
     #[tactic(auto, unfolding(crate::specs::WideOperations::hexadecimal_text))]
-    fn hexadecimal_text(&self, alloc: Global, value: Value) -> Result<Octets, Refusal>
+    fn hexadecimal_text(&self, value: Value) -> Result<Octets>
         ensures { Does result self.now (hexadecimal_text value) self.now }
     {
-        to_hexadecimal_string(alloc, self.width, self.heap.content(value))
+        to_hexadecimal_string(self.alloc, self.width, self.heap.content(value))
     }
 
     #[tactic(auto, using(ar_space::proofs::Changes::changing), unfolding(crate::specs::WideOperations::decoded_in))]
-    fn decode_decimal(&self, value: Value) -> Result<Value, Refusal>
+    fn decode_decimal(&self, value: Value) -> Result<Value>
         ensures answer { Does result self.now (decoded_in value) self.now }
         ensures memory { NotMemory result }
     {
@@ -155,7 +136,7 @@ impl<S> WorldState<S> {
     }
 
     #[tactic(auto, using(ar_space::proofs::Changes::changing), unfolding(crate::specs::WideOperations::coded_in))]
-    fn code_decimal(&self, value: Value) -> Result<Value, Refusal>
+    fn code_decimal(&self, value: Value) -> Result<Value>
         ensures answer { Does result self.now (coded_in value) self.now }
         ensures memory { NotMemory result }
     {
@@ -164,7 +145,7 @@ impl<S> WorldState<S> {
     }
 
     #[tactic(auto, unfolding(crate::specs::WideOperations::number_coded))]
-    fn number_coded(&self, number: u64) -> Result<Value, Refusal>
+    fn number_coded(&self, number: u64) -> Result<Value>
         ensures answer { Does result self.now (number_coded number) self.now }
         ensures memory { NotMemory result }
     {
@@ -172,11 +153,11 @@ impl<S> WorldState<S> {
     }
 
     #[tactic(auto, unfolding(crate::specs::WideOperations::string_text))]
-    fn string_text(&self, alloc: Global, source: Value, count: Value) -> Result<Octets, Refusal>
+    fn string_text(&self, source: Value, count: Value) -> Result<Octets>
         ensures { Does result self.now (string_text source count) self.now }
     {
         to_string(
-            alloc,
+            self.alloc,
             self.width,
             self.heap.content(source),
             self.heap.content(count),
@@ -184,17 +165,11 @@ impl<S> WorldState<S> {
     }
 
     #[tactic(auto, unfolding(crate::specs::WideOperations::middle_content))]
-    fn middle_content(
-        &self,
-        alloc: Global,
-        source: Value,
-        start: Value,
-        count: Value,
-    ) -> Result<Formed, Refusal>
+    fn middle_content(&self, source: Value, start: Value, count: Value) -> Result<Formed>
         ensures { Does (seen formed_content result) self.now (middle_content source start count) self.now }
     {
         middle(
-            alloc,
+            self.alloc,
             self.width,
             self.heap.content(source),
             self.heap.content(start),
@@ -204,7 +179,7 @@ impl<S> WorldState<S> {
 }
 
 /// Whether a profile evaluates a term of the wide one.
-fn evaluated_in(profile: Profile, opcode: Opcode) -> Result<(), Refusal>
+fn evaluated_in(profile: Profile, opcode: Opcode) -> Result<()>
     ensures answer { result ≡ evaluated_in profile opcode }
     ensures memory { NotMemory result }
 {

@@ -15,7 +15,7 @@ use crate::world_state::WorldState;
 use aml_namespace::Names;
 use aml_objects::{Octets, Value};
 use aml_path::Path;
-use ar_space::{IntegerWidth, Refusal};
+use ar_space::{IntegerWidth, Refusal, Result};
 use std::alloc::Global;
 use std::marker::Model;
 
@@ -119,15 +119,10 @@ impl<S> World<S> {
     }
 
     /// Passes over a refusal, as `WorldState::pass_over` does.
-    pub fn pass_over(
-        &mut self,
-        alloc: Global,
-        scope: &Path,
-        refusal: Refusal,
-    ) -> Result<(), Refusal>
+    pub fn pass_over(&mut self, scope: &Path, refusal: Refusal) -> Result<()>
         ensures { Does result self.new (passed_over scope.now refusal) self.old }
     {
-        self.running.world.pass_over(alloc, scope, refusal)
+        self.running.world.pass_over(scope, refusal)
     }
 
     /// How wide integers are.

@@ -33,6 +33,8 @@ pub struct WorldState<S> {
     pub(crate) nesting: Nesting,
     pub(crate) passed: PassedOver,
     pub(crate) trace: Trace,
+    /// Where the world takes its memory.
+    pub alloc: Global,
 }
 
 impl<S> Model for WorldState<S> {
@@ -76,8 +78,9 @@ impl<S> WorldState<S> {
             nesting: settings.nesting,
             passed: PassedOver::new(alloc),
             trace: Trace::new(alloc),
+            alloc,
         };
-        match world.predefine(alloc) {
+        match world.predefine() {
             Ok(()) => Ok(world),
             Err(refusal) => Err((refusal, world.space)),
         }

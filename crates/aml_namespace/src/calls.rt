@@ -8,7 +8,7 @@ ghost use Rattle.aml_namespace.specs.Calls.{all_listed, object_replaced, all_rel
 use crate::names::Names;
 use aml_objects::{Entry, NamedObject};
 use aml_path::{NameString, Path, Seg};
-use ar_space::Refusal;
+use ar_space::{Refusal, Result};
 use std::alloc::Global;
 use std::collections::VecDeque;
 use std::marker::Model;
@@ -38,18 +38,18 @@ pub enum Call {
 #[derive(Debug, Drop)]
 pub enum Reply {
     /// The number of the declaration, or why there is none.
-    Declared(Result<u64, Refusal>),
+    Declared(Result<u64>),
     Removed,
     /// The number of the declaration that was found, or why there is none.
-    Found(Result<u64, Refusal>),
+    Found(Result<u64>),
     /// The path of what was found, or why there is none.
-    Located(Result<Path, Refusal>),
+    Located(Result<Path>),
     /// The last segments of the names one level below a path, ascending.
     Children(SegmentList),
     /// The paths of all names but the root, in path order.
     Walked(PathList),
     /// Whether something stood at the path.
-    Replaced(Result<(), Refusal>),
+    Replaced(Result<()>),
     Released,
 }
 
@@ -104,11 +104,7 @@ impl PathList {
 impl Names {
     /// Answers calls in order. Each reply, and the namespace after them, are those of the finite map of paths and of
     /// the next declaration's number. Only want of memory ends the run.
-    pub fn answer_all(
-        &mut self,
-        alloc: Global,
-        calls: VecDeque<Call>,
-    ) -> Result<Vec<Reply>, Refusal>
+    pub fn answer_all(&mut self, alloc: Global, calls: VecDeque<Call>) -> Result<Vec<Reply>>
         ensures replies { IfOk result (λ replies. replies.items ≡ replies_to calls.items self.old) }
         ensures namespace { OnOk result (self.new ≡ left_by calls.items self.old) }
         ensures memory { IsOkUnless result OutOfMemory }
@@ -124,7 +120,7 @@ impl Names {
 
     /// Answers one call. A refusal of the call is its reply; only want of memory ends the run.
     #[tactic(auto, unfolding(crate::specs::Calls::answered))]
-    fn answer(&mut self, alloc: Global, call: Call) -> Result<Reply, Refusal>
+    fn answer(&mut self, alloc: Global, call: Call) -> Result<Reply>
         ensures reply { IfOk result (λ reply. answered call self.old ≡ (reply, self.new)) }
         ensures kept { OnErr result (self.new ≡ self.old) }
         ensures memory { IsOkUnless result OutOfMemory }
@@ -142,7 +138,7 @@ impl Names {
     }
 
     #[tactic(auto, using(crate::proofs::Replies::replied))]
-    fn answer_insert(&mut self, path: Path, object: NamedObject) -> Result<Reply, Refusal>
+    fn answer_insert(&mut self, path: Path, object: NamedObject) -> Result<Reply>
         ensures reply { IfOk result (λ reply. inserted path object self.old ≡ (reply, self.new)) }
         ensures kept { OnErr result (self.new ≡ self.old) }
         ensures memory { IsOkUnless result OutOfMemory }
@@ -154,7 +150,7 @@ impl Names {
         Ok(Reply::Declared(outcome))
     }
 
-    fn answer_remove(&mut self, path: Path) -> Result<Reply, Refusal>
+    fn answer_remove(&mut self, path: Path) -> Result<Reply>
         ensures reply { IfOk result (λ reply. removed path self.old ≡ (reply, self.new)) }
         ensures kept { OnErr result (self.new ≡ self.old) }
         ensures memory { IsOkUnless result OutOfMemory }
@@ -163,7 +159,7 @@ impl Names {
         Ok(Reply::Removed)
     }
 
-    fn answer_lookup(&mut self, scope: Path, name: NameString) -> Result<Reply, Refusal>
+    fn answer_lookup(&mut self, scope: Path, name: NameString) -> Result<Reply>
         ensures reply { IfOk result (λ reply. looked_up scope name self.old ≡ (reply, self.new)) }
         ensures kept { OnErr result (self.new ≡ self.old) }
         ensures memory { IsOkUnless result OutOfMemory }
@@ -172,12 +168,7 @@ impl Names {
     }
 
     #[tactic(auto, using(crate::proofs::Replies::place_replied))]
-    fn answer_locate(
-        &mut self,
-        alloc: Global,
-        scope: Path,
-        name: NameString,
-    ) -> Result<Reply, Refusal>
+    fn answer_locate(&mut self, alloc: Global, scope: Path, name: NameString) -> Result<Reply>
         ensures reply { IfOk result (λ reply. located scope name self.old ≡ (reply, self.new)) }
         ensures kept { OnErr result (self.new ≡ self.old) }
         ensures memory { IsOkUnless result OutOfMemory }
@@ -189,7 +180,7 @@ impl Names {
         Ok(Reply::Located(outcome))
     }
 
-    fn answer_children(&mut self, alloc: Global, path: Path) -> Result<Reply, Refusal>
+    fn answer_children(&mut self, alloc: Global, path: Path) -> Result<Reply>
         ensures reply { IfOk result (λ reply. children_listed path self.old ≡ (reply, self.new)) }
         ensures kept { OnErr result (self.new ≡ self.old) }
         ensures memory { IsOkUnless result OutOfMemory }
@@ -200,7 +191,7 @@ impl Names {
         }
     }
 
-    fn answer_walk(&mut self, alloc: Global) -> Result<Reply, Refusal>
+    fn answer_walk(&mut self, alloc: Global) -> Result<Reply>
         ensures reply { IfOk result (λ reply. all_listed self.old ≡ (reply, self.new)) }
         ensures kept { OnErr result (self.new ≡ self.old) }
         ensures memory { IsOkUnless result OutOfMemory }
@@ -212,7 +203,7 @@ impl Names {
     }
 
     #[tactic(auto, using(crate::proofs::Replies::object_replied))]
-    fn answer_replace(&mut self, path: Path, object: NamedObject) -> Result<Reply, Refusal>
+    fn answer_replace(&mut self, path: Path, object: NamedObject) -> Result<Reply>
         ensures reply { IfOk result (λ reply. object_replaced path object self.old ≡ (reply, self.new)) }
         ensures kept { OnErr result (self.new ≡ self.old) }
         ensures memory { IsOkUnless result OutOfMemory }
@@ -221,7 +212,7 @@ impl Names {
         Ok(Reply::Replaced(outcome))
     }
 
-    fn answer_release(&mut self) -> Result<Reply, Refusal>
+    fn answer_release(&mut self) -> Result<Reply>
         ensures reply { IfOk result (λ reply. all_released self.old ≡ (reply, self.new)) }
         ensures kept { OnErr result (self.new ≡ self.old) }
         ensures memory { IsOkUnless result OutOfMemory }
@@ -231,14 +222,14 @@ impl Names {
     }
 }
 
-fn is_out_of_memory<T>(outcome: &Result<T, Refusal>) -> bool
+fn is_out_of_memory<T>(outcome: &Result<T>) -> bool
     ensures no { result ≡ false → NotMemory outcome.now }
     ensures yes { result ≡ true → IsErr outcome.now }
 {
     matches!(outcome, Err(Refusal::OutOfMemory))
 }
 
-fn number_of(found: Result<&Entry, Refusal>) -> Result<u64, Refusal>
+fn number_of(found: Result<&Entry>) -> Result<u64>
     ensures { result ≡ seen (λ entry. entry.now.number) found.entry }
 {
     match found {

@@ -12,7 +12,7 @@ use crate::names::{Names, root_id};
 use crate::tree::{child, descend};
 use aml_objects::{Entry, NodeId};
 use aml_path::{Path, Seg};
-use ar_space::Refusal;
+use ar_space::Result;
 use std::alloc::Global;
 
 impl Names {
@@ -88,7 +88,7 @@ impl Names {
     }
 
     /// The path of the node with an id; none where its declaration doesn't stand.
-    pub fn path_of(&self, alloc: Global, id: NodeId) -> Result<Option<Path>, Refusal>
+    pub fn path_of(&self, alloc: Global, id: NodeId) -> Result<Option<Path>>
         ensures { Answers result (Ok (option_map (λ f. f.0) (numbered id.number self.now.map))) }
     {
         let Some(_) = self.node(id) else {

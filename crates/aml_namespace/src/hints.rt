@@ -4,7 +4,7 @@ ghost use Rattle.ar_space.specs.declared.refusal.Refusal.TheVariants.{OutOfMemor
 ghost use Rattle.aml_namespace.specs.Places.{place_of};
 
 use aml_path::Seg;
-use ar_space::Refusal;
+use ar_space::Result;
 use std::alloc::Global;
 
 /// The key of no node.
@@ -86,7 +86,7 @@ impl Hints {
     ///
     /// A table whose nodes were removed keeps its length, so it doesn't grow with what was ever declared. Either way
     /// as many nodes as a quarter of the length can be noted before it is full again, which pays for noting all anew.
-    pub(crate) fn renew(&mut self, nodes: usize) -> Result<(), Refusal>
+    pub(crate) fn renew(&mut self, nodes: usize) -> Result<()>
         ensures memory { IsOkUnless result OutOfMemory }
     {
         let length = self.keys.len();

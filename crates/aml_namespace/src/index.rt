@@ -15,7 +15,7 @@ use crate::parents::Parents;
 use crate::taken_places::TakenPlaces;
 use aml_objects::NodeId;
 use aml_path::Seg;
-use ar_space::Refusal;
+use ar_space::Result;
 use std::alloc::Global;
 use std::collections::BTreeMap;
 use std::marker::Model;
@@ -47,7 +47,7 @@ impl Model for Index {
 
 impl Index {
     /// No node.
-    pub(crate) fn new(alloc: Global) -> Result<Index, Refusal>
+    pub(crate) fn new(alloc: Global) -> Result<Index>
         ensures empty { IfOk result (λ index. index ≡ []) }
         ensures memory { IsOkUnless result OutOfMemory }
     {
@@ -89,7 +89,7 @@ impl Index {
     }
 
     /// Puts a node below a parent by a segment. Where there is no memory for it, nothing changes.
-    pub(crate) fn insert(&mut self, parent: u64, segment: Seg, id: NodeId) -> Result<(), Refusal>
+    pub(crate) fn insert(&mut self, parent: u64, segment: Seg, id: NodeId) -> Result<()>
         ensures children { OnOk result ((p : ℕ) (s : Seg) → child_in self.new p s ≡
             cond (eq_by_cmp index_cmp (parent, segment) (p, s)) (Some id.number) (child_in self.old p s)) }
         ensures unchanged { OnErr result (self.new ≡ self.old) }
@@ -133,7 +133,7 @@ impl Index {
     }
 
     /// The segments of a node's children, in order.
-    pub(crate) fn children_of(&self, alloc: Global, parent: u64) -> Result<Vec<Seg>, Refusal>
+    pub(crate) fn children_of(&self, alloc: Global, parent: u64) -> Result<Vec<Seg>>
         requires { parent + 1 < 2 ^ 64 }
         ensures children { Answers (seen (λ list. list.items) result) (Ok (segments_below parent self.now)) }
         ensures ordered { IsStrictlySortedBy index_cmp (keys_of self.now) }
@@ -149,7 +149,7 @@ impl Index {
 }
 
 /// Makes room for one more mark: once there are many, all are made anew.
-fn make_room(taken: &mut TakenPlaces, places: &BTreeMap<(u64, Seg), NodeId>) -> Result<(), Refusal>
+fn make_room(taken: &mut TakenPlaces, places: &BTreeMap<(u64, Seg), NodeId>) -> Result<()>
     requires { PlacesMarked taken.old places.now.entries }
     ensures marked { PlacesMarked taken.new places.now.entries }
     ensures memory { IsOkUnless result OutOfMemory }

@@ -10,7 +10,7 @@ use crate::names::Names;
 use crate::scope::Scope;
 use aml_objects::{Entry, NamedObject, NodeId};
 use aml_path::Path;
-use ar_space::{NamespaceFault, Refusal};
+use ar_space::{NamespaceFault, Refusal, Result};
 use std::alloc::Global;
 use std::marker::Model;
 
@@ -69,7 +69,7 @@ impl Names {
     }
 
     /// The path of the node with an id, and that node; none where its declaration doesn't stand.
-    pub fn locate_node(&self, alloc: Global, node: NodeId) -> Result<Option<Located>, Refusal>
+    pub fn locate_node(&self, alloc: Global, node: NodeId) -> Result<Option<Located>>
         ensures { Answers result (Ok (option_map (λ f. f.0) (numbered node.number self.now.map))) }
     {
         match self.path_of(alloc, node)? {
@@ -104,7 +104,7 @@ impl Names {
     /// no memory.
     ///
     /// Where nothing stands at the path this is refused as `NotFound`, and nothing changes.
-    pub fn replace_located(&mut self, located: &Located, object: NamedObject) -> Result<(), Refusal>
+    pub fn replace_located(&mut self, located: &Located, object: NamedObject) -> Result<()>
         ensures change { Does result self.new (replaced located.now object) self.old }
         ensures memory { NotMemory result }
     {

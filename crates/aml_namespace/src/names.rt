@@ -17,7 +17,7 @@ use crate::nodes::Nodes;
 use crate::tree::{child, descend, put};
 use aml_objects::{Entry, NamedObject, NodeId};
 use aml_path::{Path, Seg};
-use ar_space::{EvaluationFault, NamespaceFault, Refusal};
+use ar_space::{EvaluationFault, NamespaceFault, Refusal, Result};
 use std::alloc::Global;
 use std::marker::Model;
 
@@ -55,7 +55,7 @@ pub(crate) fn root_id() -> NodeId
 
 impl Names {
     /// The root alone.
-    pub fn new(alloc: Global) -> Result<Names, Refusal>
+    pub fn new(alloc: Global) -> Result<Names>
         ensures { Answers result (Ok root_alone) }
     {
         let mut nodes = Nodes::new(alloc);
@@ -127,7 +127,7 @@ impl Names {
     ///
     /// A name whose parent doesn't stand is refused as `NotFound`, one that stands already as `Exists`, and one for
     /// which no number is left as `ObjectLimit`. Where a name is refused, as for want of memory, nothing changes.
-    pub fn insert(&mut self, path: Path, object: NamedObject) -> Result<u64, Refusal>
+    pub fn insert(&mut self, path: Path, object: NamedObject) -> Result<u64>
         ensures change { Does result self.new (declared path object) self.old }
         ensures refused { OnErr result (self.new ≡ self.old) }
         ensures memory { IsErr (declared path object self.old).0 → NotMemory result }
@@ -158,7 +158,7 @@ impl Names {
     /// Puts another object in place of what stands at a path, under the number of its declaration. It takes no memory.
     ///
     /// Where nothing stands at the path this is refused as `NotFound`, and nothing changes.
-    pub fn replace(&mut self, path: &Path, object: NamedObject) -> Result<(), Refusal>
+    pub fn replace(&mut self, path: &Path, object: NamedObject) -> Result<()>
         ensures change { Does result self.new (replaced path.now object) self.old }
         ensures memory { NotMemory result }
     {

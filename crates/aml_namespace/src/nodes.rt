@@ -16,7 +16,7 @@ use crate::mutexes::{acquired, release};
 use crate::node::Node;
 use aml_objects::{NamedObject, NodeId, Value};
 use aml_path::Seg;
-use ar_space::Refusal;
+use ar_space::Result;
 use slab::Slab;
 use std::alloc::Global;
 use std::collections::BTreeMap;
@@ -123,7 +123,7 @@ impl Nodes {
     }
 
     /// Puts a node that is new. Where there is no memory for it, nothing changes.
-    pub(crate) fn insert(&mut self, node: Node) -> Result<NodeId, Refusal>
+    pub(crate) fn insert(&mut self, node: Node) -> Result<NodeId>
         requires new { map.get self.old node.entry.number ≡ None }
         ensures put { OnOk result (self.new ≡ map.insert self.old node.entry.number node) }
         ensures id { IfOk result (λ id. id.number ≡ node.entry.number) }
@@ -228,11 +228,7 @@ fn node_in(slab: &Slab<Node>, key: usize, parent: u64, segment: Seg) -> Option<N
 }
 
 /// Makes room for one more hint: once there are many, the table is renewed.
-fn make_room(
-    hints: &mut Hints,
-    slab: &Slab<Node>,
-    keys: &BTreeMap<u64, usize>,
-) -> Result<(), Refusal>
+fn make_room(hints: &mut Hints, slab: &Slab<Node>, keys: &BTreeMap<u64, usize>) -> Result<()>
     ensures memory { IsOkUnless result OutOfMemory }
 {
     if hints.is_full() {

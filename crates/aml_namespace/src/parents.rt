@@ -3,7 +3,7 @@ ghost use Rattle.std.specs.Prelude.{◌≡◌, ℕ, true, IsOkUnless};
 ghost use Rattle.ar_space.specs.declared.refusal.Refusal.TheVariants.{OutOfMemory};
 ghost use Rattle.aml_namespace.specs.Parents.{is_marked};
 
-use ar_space::Refusal;
+use ar_space::Result;
 use std::alloc::Global;
 use std::marker::Model;
 
@@ -30,7 +30,7 @@ impl Model for Parents {
 
 impl Parents {
     /// No mark.
-    pub(crate) fn new(alloc: Global) -> Result<Parents, Refusal>
+    pub(crate) fn new(alloc: Global) -> Result<Parents>
         ensures memory { IsOkUnless result OutOfMemory }
     {
         let marks = vec![in alloc; false; MARKS]?;

@@ -12,7 +12,7 @@ use crate::names::{Names, root_id};
 use crate::search::found_or_not;
 use aml_objects::{Entry, NodeId};
 use aml_path::{NameString, Path, Seg};
-use ar_space::{NamespaceFault, Refusal};
+use ar_space::{NamespaceFault, Refusal, Result};
 use std::alloc::Global;
 
 /// A scope: its path, and the node that is expected to stand there.
@@ -41,7 +41,7 @@ impl Names {
     }
 
     /// The node that a name finds from a scope, refused as `lookup` is. It takes no memory.
-    pub fn search_in(&self, scope: Scope<'_>, name: &NameString) -> Result<NodeId, Refusal>
+    pub fn search_in(&self, scope: Scope<'_>, name: &NameString) -> Result<NodeId>
         ensures answer { seen (λ id. numbered id.number self.now.map) result ≡
             seen Some (found self.now.map scope.entry.path.now name.now) }
         ensures memory { NotMemory result }
@@ -79,7 +79,7 @@ impl Names {
     }
 
     /// What a name finds from a scope, refused as `lookup` is. It takes no memory.
-    pub fn lookup_in(&self, scope: Scope<'_>, name: &NameString) -> Result<&Entry, Refusal>
+    pub fn lookup_in(&self, scope: Scope<'_>, name: &NameString) -> Result<&Entry>
         ensures answer { seen (λ entry. entry.now) result ≡ seen (λ f. f.1)
             (found self.now.map scope.entry.path.now name.now) }
         ensures memory { NotMemory result }
@@ -91,12 +91,7 @@ impl Names {
     }
 
     /// The path of what a name finds from a scope, with the node that is found; refused as `lookup` is.
-    pub fn locate_in(
-        &self,
-        alloc: Global,
-        scope: Scope<'_>,
-        name: &NameString,
-    ) -> Result<Located, Refusal>
+    pub fn locate_in(&self, alloc: Global, scope: Scope<'_>, name: &NameString) -> Result<Located>
         ensures answer { Answers result (seen (λ f. f.0) (found self.now.map scope.entry.path.now name.now)) }
         ensures memory { IsErr (found self.now.map scope.entry.path.now name.now) → NotMemory result }
     {

@@ -12,7 +12,7 @@ ghost use Rattle.aml_namespace.specs.Search.{target_of, found, found_from, IsFro
 use crate::names::Names;
 use aml_objects::{Entry, NamedObject, NodeId};
 use aml_path::{NameString, Path, Prefix, Seg};
-use ar_space::{NameFault, NamespaceFault, Refusal};
+use ar_space::{NameFault, NamespaceFault, Refusal, Result};
 use std::alloc::Global;
 
 impl Names {
@@ -22,7 +22,7 @@ impl Names {
     /// stands for one path. An alias gives what stands at its target, in one step. Where nothing is found, or an
     /// alias leads to nothing or to another alias, the name is refused as `NotFound`; the null name is refused as
     /// `BadName`, and a name with more `^` than the scope has parents as `AboveRoot`.
-    pub fn lookup(&self, scope: &Path, name: &NameString) -> Result<&Entry, Refusal>
+    pub fn lookup(&self, scope: &Path, name: &NameString) -> Result<&Entry>
         ensures answer { seen (λ entry. entry.now) result ≡ seen (λ f. f.1) (found self.now.map scope.now name.now) }
         ensures memory { NotMemory result }
     {
@@ -33,7 +33,7 @@ impl Names {
     }
 
     /// The path of what a name finds from a scope, refused as `lookup` is.
-    pub fn locate(&self, alloc: Global, scope: &Path, name: &NameString) -> Result<Path, Refusal>
+    pub fn locate(&self, alloc: Global, scope: &Path, name: &NameString) -> Result<Path>
         ensures answer { Answers result (seen (λ f. f.0) (found self.now.map scope.now name.now)) }
         ensures memory { IsErr (found self.now.map scope.now name.now) → NotMemory result }
     {
@@ -47,7 +47,7 @@ impl Names {
     }
 
     /// The node that a name finds from a scope's path, refused as `lookup` is. It takes no memory.
-    pub fn search_at(&self, scope: &Path, name: &NameString) -> Result<NodeId, Refusal>
+    pub fn search_at(&self, scope: &Path, name: &NameString) -> Result<NodeId>
         ensures answer { seen (λ id. numbered id.number self.now.map) result ≡
             seen Some (found self.now.map scope.now name.now) }
         ensures memory { NotMemory result }
@@ -60,7 +60,7 @@ impl Names {
 
     /// The node that a name finds from the scope that is the node with an id; refused as `lookup` is, and as
     /// `NotFound` where the scope doesn't stand. It takes no memory.
-    pub fn search(&self, scope: NodeId, name: &NameString) -> Result<NodeId, Refusal>
+    pub fn search(&self, scope: NodeId, name: &NameString) -> Result<NodeId>
         ensures answer { seen (λ id. numbered id.number self.now.map) result ≡
             seen Some (found_from self.now.map scope.number name.now) }
         ensures memory { NotMemory result }
@@ -75,7 +75,7 @@ impl Names {
     }
 
     /// What a name finds from a scope's path, aliases not followed.
-    fn first_at(&self, scope: &Path, name: &NameString) -> Result<NodeId, Refusal>
+    fn first_at(&self, scope: &Path, name: &NameString) -> Result<NodeId>
         ensures answer { seen (λ id. numbered id.number self.now.map) result ≡
             seen Some (first_found self.now.map scope.now name.now) }
         ensures memory { NotMemory result }
@@ -90,7 +90,7 @@ impl Names {
     }
 
     /// What a name finds from a scope that stands, aliases not followed.
-    fn first_from(&self, scope: NodeId, name: &NameString) -> Result<NodeId, Refusal>
+    fn first_from(&self, scope: NodeId, name: &NameString) -> Result<NodeId>
         ensures answer { (f : List Seg × Entry) → numbered scope.number self.now.map ≡ Some f →
             seen (λ id. numbered id.number self.now.map) result ≡ seen Some (first_found self.now.map f.0 name.now) }
         ensures memory { NotMemory result }
@@ -134,7 +134,7 @@ impl Names {
     }
 
     /// The node below which a name's own segments stand, from a scope that stands.
-    fn front_from(&self, scope: NodeId, name: &NameString) -> Result<NodeId, Refusal>
+    fn front_from(&self, scope: NodeId, name: &NameString) -> Result<NodeId>
         ensures front { (f : List Seg × Entry) → numbered scope.number self.now.map ≡ Some f →
             MatchResult result (λ front. IsFront self.now.map front.number name.now.segments (resolved name.now f.0))
             (λ refusal. resolved name.now f.0 ≡ Err refusal) }
@@ -153,7 +153,7 @@ impl Names {
     }
 
     /// The target of an alias, in one step; any other node that stands is found itself.
-    fn through(&self, id: NodeId) -> Result<NodeId, Refusal>
+    fn through(&self, id: NodeId) -> Result<NodeId>
         ensures answer { (f : List Seg × Entry) → numbered id.number self.now.map ≡ Some f →
             seen (λ id. numbered id.number self.now.map) result ≡ seen Some (through self.now.map f) }
         ensures memory { NotMemory result }
@@ -208,7 +208,7 @@ fn alias_of(object: &NamedObject) -> Option<&Path>
     }
 }
 
-pub(crate) fn found_or_not<T: Drop>(found: Option<T>) -> Result<T, Refusal>
+pub(crate) fn found_or_not<T: Drop>(found: Option<T>) -> Result<T>
     ensures answer { result ≡ found_or_not found }
     ensures memory { NotMemory result }
 {
@@ -220,7 +220,7 @@ pub(crate) fn found_or_not<T: Drop>(found: Option<T>) -> Result<T, Refusal>
 
 /// The part of the scope that stands before a name's own segments in the path that it stands for.
 #[tactic(auto, unfolding(aml_path::specs::Paths::resolved))]
-fn front_of<'a>(name: &NameString, scope: &'a Path) -> Result<&'a [Seg], Refusal>
+fn front_of<'a>(name: &NameString, scope: &'a Path) -> Result<&'a [Seg]>
     ensures front { MatchResult result (λ front. resolved name.now scope.now ≡ Ok (front.now ++ name.now.segments))
         (λ refusal. resolved name.now scope.now ≡ Err refusal) }
     ensures memory { NotMemory result }

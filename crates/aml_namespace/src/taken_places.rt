@@ -3,7 +3,7 @@ ghost use Rattle.std.specs.Prelude.{◌≡◌, ℕ, true, OnErr, IsOkUnless};
 ghost use Rattle.ar_space.specs.declared.refusal.Refusal.TheVariants.{OutOfMemory};
 ghost use Rattle.aml_namespace.specs.Places.{may_be};
 
-use ar_space::Refusal;
+use ar_space::Result;
 use std::alloc::Global;
 use std::marker::Model;
 
@@ -71,7 +71,7 @@ impl TakenPlaces {
     /// Takes all marks away, and makes room for so many. Where there is no memory for them, nothing changes.
     ///
     /// A table most of whose marks were of what is gone keeps its length, so it doesn't grow with all that ever was.
-    pub(crate) fn renew(&mut self, count: usize) -> Result<(), Refusal>
+    pub(crate) fn renew(&mut self, count: usize) -> Result<()>
         ensures unchanged { OnErr result (self.new ≡ self.old) }
         ensures memory { IsOkUnless result OutOfMemory }
     {

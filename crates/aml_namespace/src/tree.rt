@@ -11,7 +11,7 @@ use crate::node::Node;
 use crate::nodes::Nodes;
 use aml_objects::NodeId;
 use aml_path::Seg;
-use ar_space::Refusal;
+use ar_space::Result;
 
 /// The child of a node that has this segment. Most that don't stand are known by a mark, and a hint finds most that
 /// do, however many nodes there are. Else the index says it. The root is nobody's child, though it has a segment and
@@ -50,7 +50,7 @@ pub(crate) fn descend(
 }
 
 /// Puts a node under its parent. Where there is no memory for it, nothing changes.
-pub(crate) fn put(nodes: &mut Nodes, index: &mut Index, node: Node) -> Result<(), Refusal>
+pub(crate) fn put(nodes: &mut Nodes, index: &mut Index, node: Node) -> Result<()>
     requires new { map.get nodes.old node.entry.number ≡ None }
     requires free { child_in index.old node.parent.number node.segment ≡ None }
     ensures nodes { OnOk result (nodes.new ≡ map.insert nodes.old node.entry.number node) }

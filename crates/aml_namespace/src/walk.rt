@@ -11,13 +11,13 @@ use crate::names::{Names, root_id};
 use crate::tree::descend;
 use aml_objects::NodeId;
 use aml_path::{Path, Seg};
-use ar_space::Refusal;
+use ar_space::Result;
 use std::alloc::Global;
 use std::collections::BTreeSet;
 
 impl Names {
     /// The last segments of the names one level below a path, ascending.
-    pub fn children(&self, alloc: Global, path: &Path) -> Result<Vec<Seg>, Refusal>
+    pub fn children(&self, alloc: Global, path: &Path) -> Result<Vec<Seg>>
         ensures { Answers (seen (λ list. list.items) result) (Ok (children path.now self.now.map)) }
     {
         // A number is below the next one.
@@ -29,7 +29,7 @@ impl Names {
     }
 
     /// The paths of all names but the root, in path order.
-    pub fn walk(&self, alloc: Global) -> Result<Vec<Path>, Refusal>
+    pub fn walk(&self, alloc: Global) -> Result<Vec<Path>>
         ensures { Answers (seen (λ list. list.items) result) (Ok (walked self.now.map)) }
     {
         let mut paths = BTreeSet::new(alloc);
@@ -41,7 +41,7 @@ impl Names {
 }
 
 /// Puts a path among others, if there is one and it isn't the root's.
-fn put_named(paths: &mut BTreeSet<Path>, path: Option<Path>) -> Result<(), Refusal>
+fn put_named(paths: &mut BTreeSet<Path>, path: Option<Path>) -> Result<()>
     ensures put { OnOk result ((q : List Seg) → contains path_cmp paths.new q ≡
         (contains path_cmp paths.old q || is_named q path)) }
     ensures memory { IsOkUnless result OutOfMemory }
@@ -59,7 +59,7 @@ fn put_named(paths: &mut BTreeSet<Path>, path: Option<Path>) -> Result<(), Refus
 }
 
 /// Paths in path order.
-fn listed(alloc: Global, paths: BTreeSet<Path>) -> Result<Vec<Path>, Refusal>
+fn listed(alloc: Global, paths: BTreeSet<Path>) -> Result<Vec<Path>>
     ensures paths { Answers (seen (λ list. list.items) result) (Ok paths.keys) }
     ensures ordered { IsOrdered path_cmp paths }
 {

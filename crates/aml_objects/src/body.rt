@@ -3,7 +3,7 @@ ghost use Rattle.std.specs.Prelude.{◌≡◌, Ok};
 ghost use Rattle.ar_space.specs.Outcome.{Answers};
 
 use crate::object::Octets;
-use ar_space::Refusal;
+use ar_space::Result;
 use std::alloc::Global;
 use std::marker::Model;
 use std::rc::Rc;
@@ -26,7 +26,7 @@ impl Model for Body {
 
 impl Body {
     /// The body that these bytes are.
-    pub fn new(alloc: Global, bytes: Octets) -> Result<Body, Refusal>
+    pub fn new(alloc: Global, bytes: Octets) -> Result<Body>
         ensures { Answers result (Ok bytes) }
     {
         Ok(Body {
@@ -36,7 +36,7 @@ impl Body {
 
     /// Another share of the same bytes. It takes no memory, and is refused as `OutOfMemory` where no more shares can be
     /// counted.
-    pub fn share(&self) -> Result<Body, Refusal>
+    pub fn share(&self) -> Result<Body>
         ensures { Answers result (Ok self.now) }
     {
         Ok(Body {

@@ -7,7 +7,7 @@ ghost use Rattle.aml_objects.specs.Copies.{whole_copy, package_copy, copied};
 use crate::heap::Heap;
 use crate::object::{Element, Elements, Object};
 use crate::value::Value;
-use ar_space::{EvaluationFault, Refusal};
+use ar_space::{EvaluationFault, Refusal, Result};
 use std::alloc::Global;
 
 /// How deep packages may nest where one is copied.
@@ -16,7 +16,7 @@ const MAX_NESTING: usize = 64;
 impl Heap {
     /// A copy of a value, packages deeply. A refused one makes no object.
     #[tactic(auto, using(crate::proofs::Copying::copying))]
-    pub fn copy(&mut self, alloc: Global, value: Value) -> Result<Value, Refusal>
+    pub fn copy(&mut self, alloc: Global, value: Value) -> Result<Value>
         ensures { Does result self.new (copied value) self.old }
     {
         let before = self.len();
@@ -32,7 +32,7 @@ impl Heap {
 
 #[cycle(copies)]
 #[tactic(auto, using(ar_space::proofs::Changes::changing), unfolding(crate::specs::Copies::value_copy))]
-fn copy_value(alloc: Global, heap: &mut Heap, levels: usize, value: Value) -> Result<Value, Refusal>
+fn copy_value(alloc: Global, heap: &mut Heap, levels: usize, value: Value) -> Result<Value>
     ensures { Does result heap.new (value_copy (package_copy levels) value) heap.old }
 {
     match value {
@@ -46,7 +46,7 @@ fn copy_value(alloc: Global, heap: &mut Heap, levels: usize, value: Value) -> Re
 }
 
 #[tactic(auto, using(ar_space::proofs::Changes::changing), unfolding(crate::specs::Copies::string_copy))]
-fn copy_string(alloc: Global, heap: &mut Heap, object: u32) -> Result<Value, Refusal>
+fn copy_string(alloc: Global, heap: &mut Heap, object: u32) -> Result<Value>
     ensures { Does result heap.new (string_copy object) heap.old }
 {
     let bytes = heap.string(alloc, object)?;
@@ -54,7 +54,7 @@ fn copy_string(alloc: Global, heap: &mut Heap, object: u32) -> Result<Value, Ref
 }
 
 #[tactic(auto, using(ar_space::proofs::Changes::changing), unfolding(crate::specs::Copies::buffer_copy))]
-fn copy_buffer(alloc: Global, heap: &mut Heap, object: u32) -> Result<Value, Refusal>
+fn copy_buffer(alloc: Global, heap: &mut Heap, object: u32) -> Result<Value>
     ensures { Does result heap.new (buffer_copy object) heap.old }
 {
     let bytes = heap.buffer(alloc, object)?;
@@ -63,12 +63,7 @@ fn copy_buffer(alloc: Global, heap: &mut Heap, object: u32) -> Result<Value, Ref
 
 #[cycle(copies)]
 #[tactic(auto, using(crate::proofs::Copying::copying))]
-fn copy_package(
-    alloc: Global,
-    heap: &mut Heap,
-    levels: usize,
-    object: u32,
-) -> Result<Value, Refusal>
+fn copy_package(alloc: Global, heap: &mut Heap, levels: usize, object: u32) -> Result<Value>
     ensures { Does result heap.new (package_copy levels object) heap.old }
 {
     if levels == 0 {
@@ -79,7 +74,7 @@ fn copy_package(
 
 #[cycle(copies)]
 #[tactic(auto, using(ar_space::proofs::Changes::changing), unfolding(crate::specs::Copies::whole_copy))]
-fn copy_whole(alloc: Global, heap: &mut Heap, levels: usize, object: u32) -> Result<Value, Refusal>
+fn copy_whole(alloc: Global, heap: &mut Heap, levels: usize, object: u32) -> Result<Value>
     ensures { Does result heap.new (whole_copy (package_copy levels) object) heap.old }
 {
     let elements = heap.elements(alloc, object)?;
@@ -95,7 +90,7 @@ fn copy_each(
     heap: &mut Heap,
     levels: usize,
     elements: &[Element],
-) -> Result<Elements, Refusal>
+) -> Result<Elements>
     ensures { Does result heap.new (copies_of (package_copy levels) elements.now []) heap.old }
 {
     let mut done = Elements::new(alloc);
@@ -108,12 +103,7 @@ fn copy_each(
 
 #[cycle(copies)]
 #[tactic(auto, using(ar_space::proofs::Changes::changing), unfolding(crate::specs::Copies::element_copy))]
-fn copy_element(
-    alloc: Global,
-    heap: &mut Heap,
-    levels: usize,
-    element: &Element,
-) -> Result<Element, Refusal>
+fn copy_element(alloc: Global, heap: &mut Heap, levels: usize, element: &Element) -> Result<Element>
     ensures { Does result heap.new (element_copy (package_copy levels) element.now) heap.old }
 {
     match element {
@@ -124,12 +114,7 @@ fn copy_element(
 
 #[cycle(copies)]
 #[tactic(auto, using(ar_space::proofs::Changes::changing), unfolding(crate::specs::Copies::held_copy))]
-fn copy_held(
-    alloc: Global,
-    heap: &mut Heap,
-    levels: usize,
-    value: Value,
-) -> Result<Element, Refusal>
+fn copy_held(alloc: Global, heap: &mut Heap, levels: usize, value: Value) -> Result<Element>
     ensures { Does result heap.new (held_copy (package_copy levels) value) heap.old }
 {
     let copy = copy_value(alloc, heap, levels, value)?;

@@ -7,7 +7,7 @@ use crate::heap::Heap;
 use crate::making;
 use crate::object::{Elements, Object, Octets};
 use crate::value::Value;
-use ar_space::Refusal;
+use ar_space::Result;
 use std::alloc::Global;
 use std::marker::Model;
 
@@ -45,21 +45,21 @@ impl Draft {
     }
 
     /// A new string, as `Heap::make_string` makes it behind the objects of a heap and those of the draft.
-    pub fn make_string(&mut self, heap: &Heap, bytes: Octets) -> Result<Value, Refusal>
+    pub fn make_string(&mut self, heap: &Heap, bytes: Octets) -> Result<Value>
         ensures { Does result (heap.now ++ self.new) (make_string bytes) (heap.now ++ self.old) }
     {
         making::make_string(heap.as_slice(), &mut self.made, bytes)
     }
 
     /// A new buffer, as `Heap::make_buffer` makes it behind the objects of a heap and those of the draft.
-    pub fn make_buffer(&mut self, heap: &Heap, bytes: Octets) -> Result<Value, Refusal>
+    pub fn make_buffer(&mut self, heap: &Heap, bytes: Octets) -> Result<Value>
         ensures { Does result (heap.now ++ self.new) (make_buffer bytes) (heap.now ++ self.old) }
     {
         making::make_buffer(heap.as_slice(), &mut self.made, bytes)
     }
 
     /// A new package, as `Heap::make_package` makes it behind the objects of a heap and those of the draft.
-    pub fn make_package(&mut self, heap: &Heap, elements: Elements) -> Result<Value, Refusal>
+    pub fn make_package(&mut self, heap: &Heap, elements: Elements) -> Result<Value>
         ensures { Does result (heap.now ++ self.new) (make_package elements) (heap.now ++ self.old) }
     {
         making::make_package(heap.as_slice(), &mut self.made, elements)

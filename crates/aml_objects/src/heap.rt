@@ -14,7 +14,7 @@ use crate::draft::Draft;
 use crate::making::{MAX_BYTES, make, make_buffer, make_package, make_string};
 use crate::object::{Element, Elements, Object, Octets};
 use crate::value::Value;
-use ar_space::{EvaluationFault, Refusal, ValueFault};
+use ar_space::{EvaluationFault, Refusal, Result, ValueFault};
 use std::alloc::Global;
 use std::marker::Model;
 use std::mem;
@@ -66,7 +66,7 @@ impl Heap {
     }
 
     /// The objects of a draft, behind those that are here. Only want of memory refuses it, and then nothing changes.
-    pub fn append(&mut self, draft: Draft) -> Result<(), Refusal>
+    pub fn append(&mut self, draft: Draft) -> Result<()>
         ensures ok { OnOk result (self.new ≡ self.old ++ draft) }
         ensures refused { OnErr result (self.new ≡ self.old) }
         ensures memory { IsOkUnless result OutOfMemory }
@@ -91,7 +91,7 @@ impl Heap {
     }
 
     /// A new object, and its number; one too many is refused as `ObjectLimit`.
-    pub(crate) fn make(&mut self, object: Object) -> Result<u32, Refusal>
+    pub(crate) fn make(&mut self, object: Object) -> Result<u32>
         ensures { Does result self.new (make object) self.old }
     {
         make(&[], &mut self.objects, object)
@@ -100,7 +100,7 @@ impl Heap {
     /// A new string.
     ///
     /// Too many bytes, and one object too many, are refused as `ObjectLimit`, and then nothing changes.
-    pub fn make_string(&mut self, bytes: Octets) -> Result<Value, Refusal>
+    pub fn make_string(&mut self, bytes: Octets) -> Result<Value>
         ensures { Does result self.new (make_string bytes) self.old }
     {
         make_string(&[], &mut self.objects, bytes)
@@ -108,14 +108,14 @@ impl Heap {
 
     /// A new package; too many elements, and one object too many, are refused as `ObjectLimit`, and then nothing
     /// changes.
-    pub fn make_package(&mut self, elements: Elements) -> Result<Value, Refusal>
+    pub fn make_package(&mut self, elements: Elements) -> Result<Value>
         ensures { Does result self.new (make_package elements) self.old }
     {
         make_package(&[], &mut self.objects, elements)
     }
 
     /// A new buffer; too many bytes, and one object too many, are refused as `ObjectLimit`, and then nothing changes.
-    pub fn make_buffer(&mut self, bytes: Octets) -> Result<Value, Refusal>
+    pub fn make_buffer(&mut self, bytes: Octets) -> Result<Value>
         ensures { Does result self.new (make_buffer bytes) self.old }
     {
         make_buffer(&[], &mut self.objects, bytes)
@@ -123,7 +123,7 @@ impl Heap {
 
     /// The bytes of a string; another kind of object is refused as `WrongType`.
     #[tactic(auto, unfolding(crate::specs::Objects::string_at))]
-    pub fn string(&self, alloc: Global, object: u32) -> Result<Octets, Refusal>
+    pub fn string(&self, alloc: Global, object: u32) -> Result<Octets>
         ensures { Does result self.now (string_at object) self.now }
     {
         if object as usize >= self.objects.len() {
@@ -138,7 +138,7 @@ impl Heap {
 
     /// The bytes of a buffer; another kind of object is refused as `WrongType`.
     #[tactic(auto, unfolding(crate::specs::Objects::buffer_at))]
-    pub fn buffer(&self, alloc: Global, object: u32) -> Result<Octets, Refusal>
+    pub fn buffer(&self, alloc: Global, object: u32) -> Result<Octets>
         ensures { Does result self.now (buffer_at object) self.now }
     {
         if object as usize >= self.objects.len() {
@@ -153,7 +153,7 @@ impl Heap {
 
     /// The bytes of a buffer, lent; another kind of object is refused as `WrongType`.
     #[tactic(auto, unfolding(crate::specs::Objects::buffer_at))]
-    pub fn buffer_bytes(&self, object: u32) -> Result<&[u8], Refusal>
+    pub fn buffer_bytes(&self, object: u32) -> Result<&[u8]>
         ensures answer { Does (seen (λ bytes. bytes.now) result) self.now (buffer_at object) self.now }
         ensures memory { NotMemory result }
     {
@@ -166,7 +166,7 @@ impl Heap {
     /// Puts bytes in place of those of a buffer, which are given back; another kind of object is refused as
     /// `WrongType`, and then nothing changes.
     #[tactic(auto, unfolding(crate::specs::Objects::exchange_buffer))]
-    pub fn exchange_buffer(&mut self, object: u32, bytes: Octets) -> Result<Octets, Refusal>
+    pub fn exchange_buffer(&mut self, object: u32, bytes: Octets) -> Result<Octets>
         ensures change { Does result self.new (exchange_buffer object bytes) self.old }
         ensures memory { NotMemory result }
     {
@@ -178,7 +178,7 @@ impl Heap {
 
     /// The elements of a package; another kind of object is refused as `WrongType`.
     #[tactic(auto, unfolding(crate::specs::Objects::elements_at))]
-    pub fn elements(&self, alloc: Global, object: u32) -> Result<Elements, Refusal>
+    pub fn elements(&self, alloc: Global, object: u32) -> Result<Elements>
         ensures { Does result self.now (elements_at object) self.now }
     {
         if object as usize >= self.objects.len() {
@@ -194,7 +194,7 @@ impl Heap {
     /// Writes one byte of a string or a buffer. Past its end, and of another object, this is refused as
     /// `DeadReference`.
     #[tactic(auto, unfolding(crate::specs::Objects::write_byte))]
-    pub fn write_byte(&mut self, object: u32, index: usize, byte: u8) -> Result<(), Refusal>
+    pub fn write_byte(&mut self, object: u32, index: usize, byte: u8) -> Result<()>
         ensures change { Does result self.new (write_byte object index byte) self.old }
         ensures memory { NotMemory result }
     {
@@ -206,7 +206,7 @@ impl Heap {
 
     /// One element of a package. Past its end, and of another object, this is refused as `DeadReference`.
     #[tactic(auto, unfolding(crate::specs::Objects::element_at))]
-    pub fn element(&self, object: u32, index: usize) -> Result<&Element, Refusal>
+    pub fn element(&self, object: u32, index: usize) -> Result<&Element>
         ensures answer { Does (seen (λ e. e.now) result) self.now (element_at object index) self.now }
         ensures memory { NotMemory result }
     {
@@ -222,7 +222,7 @@ impl Heap {
 
     /// One byte of a string or a buffer. Past its end, and of another object, this is refused as `DeadReference`.
     #[tactic(auto, unfolding(crate::specs::Objects::byte_at))]
-    pub fn byte(&self, object: u32, index: usize) -> Result<u8, Refusal>
+    pub fn byte(&self, object: u32, index: usize) -> Result<u8>
         ensures answer { Does result self.now (byte_at object index) self.now }
         ensures memory { NotMemory result }
     {
@@ -239,7 +239,7 @@ impl Heap {
     /// Tests that a package has an element at an index. Past its end, and of another object, this is refused as
     /// `DeadReference`.
     #[tactic(auto, unfolding(crate::specs::Objects::element_there))]
-    pub fn element_there(&self, object: u32, index: usize) -> Result<(), Refusal>
+    pub fn element_there(&self, object: u32, index: usize) -> Result<()>
         ensures answer { Does result self.now (element_there object index) self.now }
         ensures memory { NotMemory result }
     {
@@ -251,12 +251,7 @@ impl Heap {
 
     /// Replaces one element of a package. Past its end, and of another object, this is refused as `DeadReference`.
     #[tactic(auto, unfolding(crate::specs::Objects::write_element))]
-    pub fn write_element(
-        &mut self,
-        object: u32,
-        index: usize,
-        element: Element,
-    ) -> Result<(), Refusal>
+    pub fn write_element(&mut self, object: u32, index: usize, element: Element) -> Result<()>
         ensures change { Does result self.new (write_element object index element) self.old }
         ensures memory { NotMemory result }
     {
@@ -270,7 +265,7 @@ impl Heap {
     ///
     /// Another kind of object is refused as `WrongType`, too many bytes as `ObjectLimit`.
     #[tactic(auto, unfolding(crate::specs::Objects::write_buffer))]
-    pub fn write_buffer(&mut self, object: u32, bytes: Octets) -> Result<(), Refusal>
+    pub fn write_buffer(&mut self, object: u32, bytes: Octets) -> Result<()>
         ensures { Does result self.new (write_buffer object bytes) self.old }
     {
         if object as usize >= self.objects.len() {
@@ -293,7 +288,7 @@ impl Heap {
     ///
     /// Another kind of object is refused as `WrongType`, too many bytes as `ObjectLimit`.
     #[tactic(auto, unfolding(crate::specs::Objects::write_string))]
-    pub fn write_string(&mut self, object: u32, bytes: Octets) -> Result<(), Refusal>
+    pub fn write_string(&mut self, object: u32, bytes: Octets) -> Result<()>
         ensures change { Does result self.new (write_string object bytes) self.old }
         ensures memory { NotMemory result }
     {
@@ -314,7 +309,7 @@ impl Heap {
 }
 
 /// Other bytes in place of a buffer's.
-fn exchanged(object: &mut Object, bytes: Octets) -> Result<Octets, Refusal>
+fn exchanged(object: &mut Object, bytes: Octets) -> Result<Octets>
     ensures outcome { result ≡ buffer_in (Some object.old) }
     ensures object { object.new ≡ exchanged_with bytes object.old }
 {
@@ -326,7 +321,7 @@ fn exchanged(object: &mut Object, bytes: Octets) -> Result<Octets, Refusal>
 }
 
 /// Bytes that are cut or zero-filled to a length, unless that is 0.
-fn fitted(bytes: Octets, room: usize) -> Result<Octets, Refusal>
+fn fitted(bytes: Octets, room: usize) -> Result<Octets>
     ensures { Answers result (Ok (fitted_to room bytes)) }
 {
     if room == 0 {
@@ -337,7 +332,7 @@ fn fitted(bytes: Octets, room: usize) -> Result<Octets, Refusal>
     Ok(Octets::from_vec(list))
 }
 
-fn byte_of(bytes: &Octets, index: usize) -> Result<u8, Refusal>
+fn byte_of(bytes: &Octets, index: usize) -> Result<u8>
     ensures { result ≡ or_dead (slice_get bytes.now index) }
 {
     if index >= bytes.as_slice().len() {
@@ -346,7 +341,7 @@ fn byte_of(bytes: &Octets, index: usize) -> Result<u8, Refusal>
     Ok(bytes.as_slice()[index])
 }
 
-fn element_stands(object: &Object, index: usize) -> Result<(), Refusal>
+fn element_stands(object: &Object, index: usize) -> Result<()>
     ensures { result ≡ element_outcome index object.now }
 {
     match object {
@@ -356,7 +351,7 @@ fn element_stands(object: &Object, index: usize) -> Result<(), Refusal>
     }
 }
 
-fn element_into(object: &mut Object, index: usize, element: Element) -> Result<(), Refusal>
+fn element_into(object: &mut Object, index: usize, element: Element) -> Result<()>
     ensures outcome { result ≡ element_outcome index object.old }
     ensures written { object.new ≡ element_written index element object.old }
 {
@@ -367,7 +362,7 @@ fn element_into(object: &mut Object, index: usize, element: Element) -> Result<(
     }
 }
 
-fn write_into(object: &mut Object, index: usize, byte: u8) -> Result<(), Refusal>
+fn write_into(object: &mut Object, index: usize, byte: u8) -> Result<()>
     ensures outcome { result ≡ byte_outcome index object.old }
     ensures written { object.new ≡ byte_written index byte object.old }
 {

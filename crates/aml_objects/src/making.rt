@@ -6,7 +6,7 @@ ghost use Rattle.aml_objects.specs.Objects.{fits, few, make, make_string, make_b
 
 use crate::object::{Elements, Object, Octets};
 use crate::value::Value;
-use ar_space::{EvaluationFault, Refusal};
+use ar_space::{EvaluationFault, Refusal, Result};
 
 /// How many objects a machine may have: the number of each is a `u32`.
 const MAX_OBJECTS: usize = 262_144;
@@ -19,11 +19,7 @@ const MAX_ELEMENTS: usize = 65_535;
 
 /// A new object behind those of two lists, and its number; one too many is refused as `ObjectLimit`.
 #[tactic(auto, unfolding(crate::specs::Objects::make))]
-pub(crate) fn make(
-    before: &[Object],
-    objects: &mut Vec<Object>,
-    object: Object,
-) -> Result<u32, Refusal>
+pub(crate) fn make(before: &[Object], objects: &mut Vec<Object>, object: Object) -> Result<u32>
     ensures { Does result (before.now ++ objects.new.items) (make object) (before.now ++ objects.old.items) }
 {
     if objects.len() >= MAX_OBJECTS.saturating_sub(before.len()) {
@@ -36,7 +32,7 @@ pub(crate) fn make(
 
 /// A package may have so many elements.
 #[tactic(auto, unfolding(crate::specs::Objects::few))]
-fn few(elements: &Elements) -> Result<(), Refusal>
+fn few(elements: &Elements) -> Result<()>
     ensures { Answers result (few elements.now) }
 {
     if elements.as_slice().len() > MAX_ELEMENTS {
@@ -47,7 +43,7 @@ fn few(elements: &Elements) -> Result<(), Refusal>
 
 /// A string or a buffer may have so many bytes.
 #[tactic(auto, unfolding(crate::specs::Objects::fits))]
-fn fits(bytes: &Octets) -> Result<(), Refusal>
+fn fits(bytes: &Octets) -> Result<()>
     ensures { Answers result (fits bytes.now) }
 {
     if bytes.as_slice().len() > MAX_BYTES {
@@ -62,7 +58,7 @@ pub(crate) fn make_string(
     before: &[Object],
     objects: &mut Vec<Object>,
     bytes: Octets,
-) -> Result<Value, Refusal>
+) -> Result<Value>
     ensures { Does result (before.now ++ objects.new.items) (make_string bytes) (before.now ++ objects.old.items) }
 {
     fits(&bytes)?;
@@ -76,7 +72,7 @@ pub(crate) fn make_buffer(
     before: &[Object],
     objects: &mut Vec<Object>,
     bytes: Octets,
-) -> Result<Value, Refusal>
+) -> Result<Value>
     ensures { Does result (before.now ++ objects.new.items) (make_buffer bytes) (before.now ++ objects.old.items) }
 {
     fits(&bytes)?;
@@ -90,7 +86,7 @@ pub(crate) fn make_package(
     before: &[Object],
     objects: &mut Vec<Object>,
     elements: Elements,
-) -> Result<Value, Refusal>
+) -> Result<Value>
     ensures { Does result (before.now ++ objects.new.items) (make_package elements) (before.now ++ objects.old.items) }
 {
     few(&elements)?;

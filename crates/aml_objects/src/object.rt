@@ -8,7 +8,7 @@ ghost use Rattle.aml_objects.specs.Objects.{or_dead, buffer_in};
 
 use crate::value::Value;
 use aml_path::{NameString, Path};
-use ar_space::{EvaluationFault, Refusal, ValueFault};
+use ar_space::{EvaluationFault, Refusal, Result, ValueFault};
 use std::alloc::Global;
 use std::marker::Model;
 
@@ -59,7 +59,7 @@ pub enum Object {
 
 impl Object {
     /// The bytes of a buffer; another kind of object is refused as `WrongType`.
-    pub(crate) fn buffer_bytes(&self) -> Result<&[u8], Refusal>
+    pub(crate) fn buffer_bytes(&self) -> Result<&[u8]>
         ensures answer { Answers (seen (λ bytes. bytes.now) result) (buffer_in (Some self.now)) }
         ensures memory { NotMemory result }
     {
@@ -101,7 +101,7 @@ impl Octets {
     }
 
     /// A copy.
-    pub fn copy(&self, alloc: Global) -> Result<Octets, Refusal>
+    pub fn copy(&self, alloc: Global) -> Result<Octets>
         ensures { Answers result (Ok self.now) }
     {
         Ok(Octets {
@@ -110,7 +110,7 @@ impl Octets {
     }
 
     /// Sets one byte; a reference to a byte past the end is dead, and nothing changes.
-    pub(crate) fn set(&mut self, index: usize, byte: u8) -> Result<(), Refusal>
+    pub(crate) fn set(&mut self, index: usize, byte: u8) -> Result<()>
         ensures outcome { result ≡ (if nat_lt index (length self.old) then Ok tt else Err (Evaluation DeadReference)) }
         ensures set { self.new ≡ (if nat_lt index (length self.old) then slice_set self.old index byte else self.old) }
     {
@@ -140,7 +140,7 @@ impl Elements {
     }
 
     /// One element more, at the end. Only want of memory refuses it.
-    pub fn push(&mut self, element: Element) -> Result<(), Refusal>
+    pub fn push(&mut self, element: Element) -> Result<()>
         ensures ok { OnOk result (self.new ≡ self.old ++ element ∷ []) }
         ensures memory { IsOkUnless result OutOfMemory }
     {
@@ -149,7 +149,7 @@ impl Elements {
     }
 
     /// A copy, in which the same objects are named.
-    pub fn copy(&self, alloc: Global) -> Result<Elements, Refusal>
+    pub fn copy(&self, alloc: Global) -> Result<Elements>
         ensures { Answers result (Ok self.now) }
     {
         let mut list = Vec::new(alloc);
@@ -160,7 +160,7 @@ impl Elements {
     }
 
     /// One element; a reference past the end is dead.
-    pub(crate) fn at(&self, index: usize) -> Result<&Element, Refusal>
+    pub(crate) fn at(&self, index: usize) -> Result<&Element>
         ensures answer { Answers (seen (λ e. e.now) result) (or_dead (slice_get self.now index)) }
         ensures memory { NotMemory result }
     {
@@ -171,7 +171,7 @@ impl Elements {
     }
 
     /// Tests that an element stands at an index; a reference past the end is dead.
-    pub(crate) fn stands(&self, index: usize) -> Result<(), Refusal>
+    pub(crate) fn stands(&self, index: usize) -> Result<()>
         ensures { result ≡ (if nat_lt index (length self.now) then Ok tt else Err (Evaluation DeadReference)) }
     {
         if index >= self.list.len() {
@@ -181,7 +181,7 @@ impl Elements {
     }
 
     /// Replaces one element; a reference past the end is dead, and nothing changes.
-    pub(crate) fn set(&mut self, index: usize, element: Element) -> Result<(), Refusal>
+    pub(crate) fn set(&mut self, index: usize, element: Element) -> Result<()>
         ensures outcome { result ≡ (if nat_lt index (length self.old) then Ok tt else Err (Evaluation DeadReference)) }
         ensures set { self.new ≡ (if nat_lt index (length self.old) then slice_set self.old index
             element else self.old) }
@@ -196,7 +196,7 @@ impl Elements {
 
 impl Element {
     /// A copy, in which the same object is named.
-    pub fn copy(&self, alloc: Global) -> Result<Element, Refusal>
+    pub fn copy(&self, alloc: Global) -> Result<Element>
         ensures { Answers result (Ok self.now) }
     {
         match self {

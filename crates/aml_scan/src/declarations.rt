@@ -7,7 +7,7 @@ ghost use Rattle.aml_grammar.specs.Arities.{arity_of, or_path};
 use crate::before::Before;
 use aml_grammar::{ArgumentCounts, Arities, deeper};
 use aml_path::{NameString, Path, Seg};
-use ar_space::Refusal;
+use ar_space::Result;
 use std::alloc::{AllocError, Global};
 use std::marker::{Model, PhantomData};
 
@@ -84,7 +84,7 @@ impl<'a, C: ArgumentCounts, B: Before> Declarations<'a, C, B> {
         name: &NameString,
         scope: &Path,
         path: &Path,
-    ) -> Result<u8, Refusal>
+    ) -> Result<u8>
         ensures { Answers result (Ok (arity_of self.now scope.now name.now path.now)) }
     {
         if !name.is_searched() {
@@ -104,7 +104,7 @@ impl<'a, C: ArgumentCounts, B: Before> Declarations<'a, C, B> {
         name: &NameString,
         scope: &Path,
         path: Path,
-    ) -> Result<Path, Refusal>
+    ) -> Result<Path>
         ensures { Answers result (Ok (or_path path (found self.now scope.now name.now path))) }
     {
         if !name.is_searched() {
@@ -118,7 +118,7 @@ impl<'a, C: ArgumentCounts, B: Before> Declarations<'a, C, B> {
 
     /// The path where some segments are found below the scope, or below the nearest one above it.
     #[tactic(auto, using(ar_space::proofs::Outcomes::answering))]
-    fn search(&self, alloc: Global, scope: &Path, segments: &[Seg]) -> Result<Option<Path>, Refusal>
+    fn search(&self, alloc: Global, scope: &Path, segments: &[Seg]) -> Result<Option<Path>>
         ensures { Answers result (Ok (search_up self.now scope.now segments.now (length scope.now))) }
     {
         match self.deepest(scope, segments) {

@@ -9,7 +9,7 @@ use crate::before::Before;
 use crate::reader::Reader;
 use aml_grammar::{ArgumentCounts, Context, Earlier};
 use aml_path::{NameString, Path, Prefix, Seg};
-use ar_space::{NameFault, Refusal, TermFault};
+use ar_space::{NameFault, Refusal, Result, TermFault};
 use std::alloc::Global;
 
 /// Whether a name begins at the root or above its scope.
@@ -30,7 +30,7 @@ pub(crate) fn declared_path(
     context: Context,
     start: usize,
     name: &NameString,
-) -> Result<Path, Refusal>
+) -> Result<Path>
     ensures { Answers result (declared_path scope.now context start name.now) }
 {
     if name.segments().is_empty() {
@@ -47,7 +47,7 @@ fn allowed_path(
     context: Context,
     start: usize,
     name: &NameString,
-) -> Result<Path, Refusal>
+) -> Result<Path>
     ensures { Answers result (allowed_path scope.now context start name.now) }
 {
     let path = name.resolve_in(alloc, scope)?;
@@ -60,20 +60,19 @@ fn allowed_path(
 /// A declaration adds its arity, but not in a body.
 #[tactic(auto, using(crate::proofs::Steps::reading))]
 pub(crate) fn declare<C: ArgumentCounts, B: Before>(
-    alloc: Global,
     reader: &mut Reader<'_, C, B>,
     context: Context,
     path: &Path,
     count: u8,
     external: bool,
-) -> Result<(), Refusal>
+) -> Result<()>
     ensures reads { Does result reader.new (declare context path.now count external) reader.old }
     ensures kept { OnOk result (length reader.new.rest ≤ length reader.old.rest) }
 {
     if context.body {
         return Ok(());
     }
-    let path = path.copy(alloc)?;
+    let path = path.copy(reader.alloc)?;
     reader.add(path, count, external)?;
     Ok(())
 }
@@ -81,38 +80,36 @@ pub(crate) fn declare<C: ArgumentCounts, B: Before>(
 /// A declaration of the path that an earlier operand of the term named.
 #[tactic(auto, using(crate::proofs::Steps::reading))]
 pub(crate) fn declare_earlier<C: ArgumentCounts, B: Before>(
-    alloc: Global,
     reader: &mut Reader<'_, C, B>,
     context: Context,
     earlier: &Earlier,
     count: u8,
     external: bool,
-) -> Result<(), Refusal>
+) -> Result<()>
     ensures reads { Does result reader.new (declare_earlier context earlier.now.path count external) reader.old }
     ensures kept { OnOk result (length reader.new.rest ≤ length reader.old.rest) }
 {
     match &earlier.path {
         None => Ok(()),
-        Some(path) => declare(alloc, reader, context, path, count, external),
+        Some(path) => declare(reader, context, path, count, external),
     }
 }
 
 /// Declares a segment in the scope where the Field stands, but not in a body.
 #[tactic(auto, using(crate::proofs::Steps::reading))]
 pub(crate) fn declare_field<C: ArgumentCounts, B: Before>(
-    alloc: Global,
     reader: &mut Reader<'_, C, B>,
     scope: &Path,
     context: Context,
     segment: Seg,
-) -> Result<(), Refusal>
+) -> Result<()>
     ensures reads { Does result reader.new (declare context (scope.now ++ segment ∷ []) 0 false) reader.old }
     ensures kept { OnOk result (length reader.new.rest ≤ length reader.old.rest) }
 {
     if context.body {
         return Ok(());
     }
-    let path = scope.child(alloc, segment)?;
+    let path = scope.child(reader.alloc, segment)?;
     reader.add(path, 0, false)?;
     Ok(())
 }

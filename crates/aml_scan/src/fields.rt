@@ -11,14 +11,13 @@ use crate::names::segment;
 use crate::reader::Reader;
 use aml_grammar::{ArgumentCounts, Context};
 use aml_path::Path;
-use ar_space::Refusal;
-use std::alloc::Global;
+use ar_space::Result;
 
 /// Bits that are passed over.
 #[tactic(auto, using(crate::proofs::Scans::scanning), unfolding(aml_grammar::specs::Operands::reserved_field))]
 pub(crate) fn reserved_field<C: ArgumentCounts, B: Before>(
     reader: &mut Reader<'_, C, B>,
-) -> Result<(), Refusal>
+) -> Result<()>
     ensures reads { Does result reader.new (scanned reserved_field) reader.old }
     ensures shorter { OnOk result (length reader.new.rest < length reader.old.rest) }
     ensures memory { NotMemory result }
@@ -32,7 +31,7 @@ pub(crate) fn reserved_field<C: ArgumentCounts, B: Before>(
 #[tactic(auto, using(crate::proofs::Scans::scanning), unfolding(aml_grammar::specs::Operands::access_field))]
 pub(crate) fn access_field<C: ArgumentCounts, B: Before>(
     reader: &mut Reader<'_, C, B>,
-) -> Result<(), Refusal>
+) -> Result<()>
     ensures reads { Does result reader.new (scanned access_field) reader.old }
     ensures shorter { OnOk result (length reader.new.rest < length reader.old.rest) }
     ensures memory { NotMemory result }
@@ -47,7 +46,7 @@ pub(crate) fn access_field<C: ArgumentCounts, B: Before>(
 #[tactic(auto, using(crate::proofs::Scans::scanning), unfolding(aml_grammar::specs::Operands::extended_access_field))]
 pub(crate) fn extended_access_field<C: ArgumentCounts, B: Before>(
     reader: &mut Reader<'_, C, B>,
-) -> Result<(), Refusal>
+) -> Result<()>
     ensures reads { Does result reader.new (scanned extended_access_field) reader.old }
     ensures shorter { OnOk result (length reader.new.rest < length reader.old.rest) }
     ensures memory { NotMemory result }
@@ -62,16 +61,15 @@ pub(crate) fn extended_access_field<C: ArgumentCounts, B: Before>(
 /// A segment and a count of bits.
 #[tactic(auto, using(crate::proofs::Scans::scanning), unfolding(aml_grammar::specs::Operands::named_field))]
 pub(crate) fn named_field<C: ArgumentCounts, B: Before>(
-    alloc: Global,
     reader: &mut Reader<'_, C, B>,
     scope: &Path,
     context: Context,
-) -> Result<(), Refusal>
+) -> Result<()>
     ensures reads { Does result reader.new (scanned (named_field scope.now context)) reader.old }
     ensures shorter { OnOk result (length reader.new.rest < length reader.old.rest) }
 {
     let segment = segment(reader)?;
-    declare_field(alloc, reader, scope, context, segment)?;
+    declare_field(reader, scope, context, segment)?;
     reader.bit_count()?;
     Ok(())
 }

@@ -11,8 +11,7 @@ use crate::reader::Reader;
 use crate::terms::{list_operand, row_operands};
 use aml_grammar::{ArgumentCounts, Context, Position, Row};
 use aml_path::Path;
-use ar_space::Refusal;
-use std::alloc::Global;
+use ar_space::Result;
 
 /// The opcode of an Else.
 pub const ELSE: u8 = 0xA1;
@@ -21,28 +20,26 @@ pub const ELSE: u8 = 0xA1;
 #[cycle(scan)]
 #[tactic(auto, using(crate::proofs::Scans::scanning), unfolding(aml_grammar::specs::Grammar::if_term))]
 pub(crate) fn if_term<C: ArgumentCounts, B: Before>(
-    alloc: Global,
     reader: &mut Reader<'_, C, B>,
     levels: usize,
     start: TermStart<'_>,
     row: Row,
-) -> Result<(), Refusal>
+) -> Result<()>
     ensures reads { Does result reader.new (scanned (if_term (term_at by_arities levels)
         start.entry.scope.now start.entry.context start.entry.at row)) reader.old }
     ensures kept { OnOk result (length reader.new.rest ≤ length reader.old.rest) }
 {
-    row_operands(alloc, reader, levels, start, row)?;
-    else_part(alloc, reader, levels, start)
+    row_operands(reader, levels, start, row)?;
+    else_part(reader, levels, start)
 }
 
 #[cycle(scan)]
 #[tactic(auto, using(crate::proofs::Scans::scanning), unfolding(aml_grammar::specs::Grammar::else_operand))]
 fn else_part<C: ArgumentCounts, B: Before>(
-    alloc: Global,
     reader: &mut Reader<'_, C, B>,
     levels: usize,
     start: TermStart<'_>,
-) -> Result<(), Refusal>
+) -> Result<()>
     ensures reads { Does result reader.new (scanned (else_part (term_at by_arities levels)
         start.entry.scope.now start.entry.context start.entry.at)) reader.old }
     ensures kept { OnOk result (length reader.new.rest ≤ length reader.old.rest) }
@@ -50,7 +47,6 @@ fn else_part<C: ArgumentCounts, B: Before>(
     let here = reader.at();
     if reader.is_next(ELSE) {
         else_term(
-            alloc,
             reader,
             levels,
             start.scope,
@@ -64,37 +60,35 @@ fn else_part<C: ArgumentCounts, B: Before>(
 #[cycle(scan)]
 #[tactic(auto, using(crate::proofs::Scans::scanning), unfolding(aml_grammar::specs::Grammar::else_term))]
 fn else_term<C: ArgumentCounts, B: Before>(
-    alloc: Global,
     reader: &mut Reader<'_, C, B>,
     levels: usize,
     scope: &Path,
     context: Context,
-) -> Result<(), Refusal>
+) -> Result<()>
     ensures reads { Does result reader.new
         (scanned (else_term (term_at by_arities levels) scope.now context)) reader.old }
     ensures kept { OnOk result (length reader.new.rest ≤ length reader.old.rest) }
 {
     reader.byte()?;
-    packed_list(alloc, reader, levels, scope, context)
+    packed_list(reader, levels, scope, context)
 }
 
 /// A list in a package.
 #[cycle(scan)]
 #[tactic(auto, using(crate::proofs::Scans::scanning))]
 fn packed_list<C: ArgumentCounts, B: Before>(
-    alloc: Global,
     reader: &mut Reader<'_, C, B>,
     levels: usize,
     scope: &Path,
     context: Context,
-) -> Result<(), Refusal>
+) -> Result<()>
     ensures reads { Does result reader.new
         (scanned (packed true (list_operand (term_at by_arities levels) positions.ListItem scope.now context)))
         reader.old }
     ensures kept { OnOk result (length reader.new.rest ≤ length reader.old.rest) }
 {
     let outer = reader.enter()?;
-    list_operand(alloc, reader, levels, Position::ListItem, scope, context)?;
+    list_operand(reader, levels, Position::ListItem, scope, context)?;
     reader.leave(outer);
     Ok(())
 }

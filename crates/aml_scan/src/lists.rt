@@ -11,7 +11,7 @@ use crate::reader::Reader;
 use crate::terms::items;
 use aml_grammar::{ArgumentCounts, Arities, Context, Mark, Position};
 use aml_path::Path;
-use ar_space::{EvaluationFault, Refusal, TermFault};
+use ar_space::{EvaluationFault, Refusal, Result, TermFault};
 use std::alloc::Global;
 use std::marker::Brand;
 
@@ -45,7 +45,7 @@ pub fn scan<C: ArgumentCounts>(
     scope: &Path,
     body: bool,
     counts: &C,
-) -> Result<Noted, Refusal>
+) -> Result<Noted>
     ensures { Answers (seen (λ n. (n.marks.items, C.counts counts.now ++ n.added)) result)
         (noted (term_list by_arities bytes.now scope.now body (C.counts counts.now))) }
 {
@@ -64,7 +64,7 @@ pub fn scan_within<C: ArgumentCounts>(
     scope: &Path,
     body: bool,
     counts: &C,
-) -> Result<Noted, Refusal>
+) -> Result<Noted>
     ensures { Answers (seen (λ n. (n.marks.items, C.counts counts.now ++ n.added)) result)
         (within levels (noted (term_list_within levels by_arities bytes.now scope.now body (C.counts counts.now)))) }
 {
@@ -115,7 +115,7 @@ fn scan_behind<C: ArgumentCounts, B: Before>(
     scope: &Path,
     body: bool,
     counts: &C,
-) -> Result<Noted, Refusal>
+) -> Result<Noted>
     requires { C.counts counts.now ≡ B.before }
     ensures { Answers (seen (λ n. (n.marks.items, B.before ++ n.added)) result)
         (noted (items (term_at by_arities levels) positions.ListItem scope.now (outermost body)
@@ -127,14 +127,7 @@ fn scan_behind<C: ArgumentCounts, B: Before>(
         item: None,
     };
     let mut reader = Reader::<C, B>::new(alloc, bytes, counts);
-    items(
-        alloc,
-        &mut reader,
-        levels,
-        Position::ListItem,
-        scope,
-        context,
-    )?;
+    items(&mut reader, levels, Position::ListItem, scope, context)?;
     let (marks, added) = reader.into_noted();
     Ok(Noted { marks, added })
 }

@@ -11,7 +11,7 @@ use crate::before::Before;
 use crate::reader::Reader;
 use aml_grammar::{ArgumentCounts, Arities};
 use aml_path::{NameString, Prefix, Seg, is_lead_name_char, is_name_char};
-use ar_space::{NameFault, Refusal};
+use ar_space::{NameFault, Refusal, Result};
 use std::alloc::Global;
 use std::marker::Brand;
 
@@ -24,9 +24,7 @@ pub fn starts_name(byte: u8) -> bool
 }
 
 #[tactic(auto, using(crate::proofs::Steps::reading), unfolding(aml_grammar::specs::Names::lead_name_char))]
-fn lead_name_char<C: ArgumentCounts, B: Before>(
-    reader: &mut Reader<'_, C, B>,
-) -> Result<u8, Refusal>
+fn lead_name_char<C: ArgumentCounts, B: Before>(reader: &mut Reader<'_, C, B>) -> Result<u8>
     ensures reads { Does result reader.new lead_name_char reader.old }
     ensures shorter { OnOk result (length reader.new.rest < length reader.old.rest) }
     ensures memory { NotMemory result }
@@ -40,7 +38,7 @@ fn lead_name_char<C: ArgumentCounts, B: Before>(
 }
 
 #[tactic(auto, using(crate::proofs::Steps::reading), unfolding(aml_grammar::specs::Names::name_char))]
-fn name_char<C: ArgumentCounts, B: Before>(reader: &mut Reader<'_, C, B>) -> Result<u8, Refusal>
+fn name_char<C: ArgumentCounts, B: Before>(reader: &mut Reader<'_, C, B>) -> Result<u8>
     ensures reads { Does result reader.new name_char reader.old }
     ensures shorter { OnOk result (length reader.new.rest < length reader.old.rest) }
     ensures memory { NotMemory result }
@@ -55,9 +53,7 @@ fn name_char<C: ArgumentCounts, B: Before>(reader: &mut Reader<'_, C, B>) -> Res
 
 /// One segment.
 #[tactic(auto, using(crate::proofs::Steps::reading, crate::proofs::Segments::made_plainly), unfolding(aml_grammar::specs::Names::segment))]
-pub(crate) fn segment<C: ArgumentCounts, B: Before>(
-    reader: &mut Reader<'_, C, B>,
-) -> Result<Seg, Refusal>
+pub(crate) fn segment<C: ArgumentCounts, B: Before>(reader: &mut Reader<'_, C, B>) -> Result<Seg>
     ensures reads { Does result reader.new segment reader.old }
     ensures shorter { OnOk result (length reader.new.rest < length reader.old.rest) }
     ensures memory { NotMemory result }
@@ -70,14 +66,13 @@ pub(crate) fn segment<C: ArgumentCounts, B: Before>(
 }
 
 fn counted_segments<C: ArgumentCounts, B: Before>(
-    alloc: Global,
     reader: &mut Reader<'_, C, B>,
     count: u8,
-) -> Result<Vec<Seg>, Refusal>
+) -> Result<Vec<Seg>>
     ensures reads { Does (seen (λ v. v.items) result) reader.new (times segment count) reader.old }
     ensures shorter { OnOk result (length reader.new.rest + count ≤ length reader.old.rest) }
 {
-    let mut list = Vec::new(alloc);
+    let mut list = Vec::new(reader.alloc);
     'segments: for _ in 0..count {
         let next = segment(reader)?;
         list.push(next)?;
@@ -87,9 +82,8 @@ fn counted_segments<C: ArgumentCounts, B: Before>(
 
 #[tactic(auto, using(crate::proofs::Steps::reading), unfolding(aml_grammar::specs::Names::multiple_segments))]
 fn multiple_segments<C: ArgumentCounts, B: Before>(
-    alloc: Global,
     reader: &mut Reader<'_, C, B>,
-) -> Result<Vec<Seg>, Refusal>
+) -> Result<Vec<Seg>>
     ensures reads { Does (seen (λ v. v.items) result) reader.new multiple_segments reader.old }
     ensures shorter { OnOk result (length reader.new.rest < length reader.old.rest) }
 {
@@ -97,66 +91,56 @@ fn multiple_segments<C: ArgumentCounts, B: Before>(
     if count == 0 {
         return Err(Refusal::Name(NameFault::BadName));
     }
-    counted_segments(alloc, reader, count)
+    counted_segments(reader, count)
 }
 
 /// The segments of a name after its prefix.
 #[tactic(auto, using(crate::proofs::Steps::reading), unfolding(aml_grammar::specs::Names::segments))]
-fn segments<C: ArgumentCounts, B: Before>(
-    alloc: Global,
-    reader: &mut Reader<'_, C, B>,
-) -> Result<Vec<Seg>, Refusal>
+fn segments<C: ArgumentCounts, B: Before>(reader: &mut Reader<'_, C, B>) -> Result<Vec<Seg>>
     ensures reads { Does (seen (λ v. v.items) result) reader.new segments reader.old }
     ensures shorter { OnOk result (length reader.new.rest < length reader.old.rest) }
 {
     let next = reader.peek()?;
     if next == 0 {
         reader.byte()?;
-        return Ok(Vec::new(alloc));
+        return Ok(Vec::new(reader.alloc));
     }
     if next == b'.' {
         reader.byte()?;
-        return counted_segments(alloc, reader, 2);
+        return counted_segments(reader, 2);
     }
     if next == b'/' {
         reader.byte()?;
-        return multiple_segments(alloc, reader);
+        return multiple_segments(reader);
     }
-    counted_segments(alloc, reader, 1)
+    counted_segments(reader, 1)
 }
 
 #[tactic(auto, using(crate::proofs::Steps::reading), unfolding(aml_grammar::specs::Names::rooted_name))]
-fn rooted_name<C: ArgumentCounts, B: Before>(
-    alloc: Global,
-    reader: &mut Reader<'_, C, B>,
-) -> Result<NameString, Refusal>
+fn rooted_name<C: ArgumentCounts, B: Before>(reader: &mut Reader<'_, C, B>) -> Result<NameString>
     ensures reads { Does result reader.new rooted_name reader.old }
     ensures shorter { OnOk result (length reader.new.rest < length reader.old.rest) }
 {
     reader.byte()?;
-    let segments = segments(alloc, reader)?;
+    let segments = segments(reader)?;
     Ok(NameString::new(Prefix::Root, segments))
 }
 
 #[tactic(auto, using(crate::proofs::Steps::reading), unfolding(aml_grammar::specs::Names::relative_name))]
-fn relative_name<C: ArgumentCounts, B: Before>(
-    alloc: Global,
-    reader: &mut Reader<'_, C, B>,
-) -> Result<NameString, Refusal>
+fn relative_name<C: ArgumentCounts, B: Before>(reader: &mut Reader<'_, C, B>) -> Result<NameString>
     ensures reads { Does result reader.new relative_name reader.old }
     ensures shorter { OnOk result (length reader.new.rest < length reader.old.rest) }
 {
     let count = reader.parents();
-    let segments = segments(alloc, reader)?;
+    let segments = segments(reader)?;
     Ok(NameString::new(Prefix::Parents(count), segments))
 }
 
 /// A name, where nothing else may stand: not the null name alone.
 #[tactic(auto, using(crate::proofs::Steps::reading), unfolding(aml_grammar::specs::Names::name_string))]
 pub(crate) fn name_string<C: ArgumentCounts, B: Before>(
-    alloc: Global,
     reader: &mut Reader<'_, C, B>,
-) -> Result<NameString, Refusal>
+) -> Result<NameString>
     ensures reads { Does result reader.new name_string reader.old }
     ensures shorter { OnOk result (length reader.new.rest < length reader.old.rest) }
 {
@@ -164,19 +148,19 @@ pub(crate) fn name_string<C: ArgumentCounts, B: Before>(
     if next == 0 {
         Err(Refusal::Name(NameFault::BadName))
     } else if next == b'\\' {
-        rooted_name(alloc, reader)
+        rooted_name(reader)
     } else {
-        relative_name(alloc, reader)
+        relative_name(reader)
     }
 }
 
 /// The name that bytes begin with, which stand at an offset of their list; refused as the grammar refuses it.
 #[tactic(auto, using(crate::proofs::Steps::outcomes))]
-pub fn read_name(alloc: Global, at: usize, bytes: &[u8]) -> Result<NameString, Refusal>
+pub fn read_name(alloc: Global, at: usize, bytes: &[u8]) -> Result<NameString>
     requires { at + length bytes.now < 2 ^ 64 }
     ensures { Answers result (name_string (record { at = at; rest = bytes.now; arities = []; marks = [] })).0 }
 {
     let none = Arities::new(alloc);
     let mut reader = Reader::<Arities, Brand>::standing(alloc, at, bytes, &none);
-    name_string(alloc, &mut reader)
+    name_string(&mut reader)
 }

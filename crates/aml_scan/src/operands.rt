@@ -16,8 +16,7 @@ use crate::reader::Reader;
 use crate::skip_names::skip_name;
 use aml_grammar::{ArgumentCounts, Context, Earlier, OperandKind};
 use aml_path::Path;
-use ar_space::Refusal;
-use std::alloc::Global;
+use ar_space::Result;
 
 // ---- names
 
@@ -25,7 +24,7 @@ use std::alloc::Global;
 #[tactic(auto, using(crate::proofs::Scans::scanning), unfolding(aml_grammar::specs::Operands::name_operand))]
 pub(crate) fn name_operand<C: ArgumentCounts, B: Before>(
     reader: &mut Reader<'_, C, B>,
-) -> Result<(), Refusal>
+) -> Result<()>
     ensures reads { Does result reader.new (scanned name_operand) reader.old }
     ensures kept { OnOk result (length reader.new.rest ≤ length reader.old.rest) }
     ensures memory { NotMemory result }
@@ -36,53 +35,50 @@ pub(crate) fn name_operand<C: ArgumentCounts, B: Before>(
 /// The name of a Scope: its list stands where the name is found, or else at the path that it stands for.
 #[tactic(auto, using(crate::proofs::Scans::scanning), unfolding(aml_grammar::specs::Operands::scope_name))]
 fn scope_name<C: ArgumentCounts, B: Before>(
-    alloc: Global,
     reader: &mut Reader<'_, C, B>,
     scope: &Path,
     earlier: &mut Earlier,
-) -> Result<(), Refusal>
+) -> Result<()>
     ensures reads { Does (seen (λ _. earlier.new) result) reader.new
         (kept (λ x. x.1) (scope_name scope.now earlier.old)) reader.old }
     ensures kept { OnOk result (length reader.new.rest ≤ length reader.old.rest) }
 {
-    let name = name_string(alloc, reader)?;
-    let path = name.resolve_in(alloc, scope)?;
-    let place = reader.found_or(alloc, &name, scope, path)?;
+    let name = name_string(reader)?;
+    let path = name.resolve_in(reader.alloc, scope)?;
+    let place = reader.found_or(&name, scope, path)?;
     earlier.path = Some(place);
     Ok(())
 }
 
 #[tactic(auto, using(crate::proofs::Scans::scanning), unfolding(aml_grammar::specs::Operands::alias_source))]
 fn alias_source<C: ArgumentCounts, B: Before>(
-    alloc: Global,
     reader: &mut Reader<'_, C, B>,
     scope: &Path,
     earlier: &mut Earlier,
-) -> Result<(), Refusal>
+) -> Result<()>
     ensures reads { Does (seen (λ _. earlier.new) result) reader.new
         (kept (λ x. x.1) (alias_source scope.now earlier.old)) reader.old }
     ensures kept { OnOk result (length reader.new.rest ≤ length reader.old.rest) }
 {
-    let name = name_string(alloc, reader)?;
-    let path = name.resolve_in(alloc, scope)?;
-    let count = reader.arity_of(alloc, &name, scope, &path)?;
+    let name = name_string(reader)?;
+    let path = name.resolve_in(reader.alloc, scope)?;
+    let count = reader.arity_of(&name, scope, &path)?;
     earlier.count = count;
     Ok(())
 }
 
 #[tactic(auto, using(crate::proofs::Scans::scanning), unfolding(aml_grammar::specs::Operands::external_name))]
 fn external_name<C: ArgumentCounts, B: Before>(
-    alloc: Global,
     reader: &mut Reader<'_, C, B>,
     scope: &Path,
     earlier: &mut Earlier,
-) -> Result<(), Refusal>
+) -> Result<()>
     ensures reads { Does (seen (λ _. earlier.new) result) reader.new
         (kept (λ x. x.1) (external_name scope.now earlier.old)) reader.old }
     ensures kept { OnOk result (length reader.new.rest ≤ length reader.old.rest) }
 {
-    let name = name_string(alloc, reader)?;
-    let path = name.resolve_in(alloc, scope)?;
+    let name = name_string(reader)?;
+    let path = name.resolve_in(reader.alloc, scope)?;
     earlier.path = Some(path);
     Ok(())
 }
@@ -90,20 +86,19 @@ fn external_name<C: ArgumentCounts, B: Before>(
 /// A name that the term declares.
 #[tactic(auto, using(crate::proofs::Scans::scanning), unfolding(aml_grammar::specs::Operands::declared_name))]
 fn declared_name<C: ArgumentCounts, B: Before>(
-    alloc: Global,
     reader: &mut Reader<'_, C, B>,
     start: TermStart<'_>,
     count: u8,
     earlier: &mut Earlier,
-) -> Result<(), Refusal>
+) -> Result<()>
     ensures reads { Does (seen (λ _. earlier.new) result) reader.new
         (kept (λ x. x.1) (declared_name start.entry.scope.now start.entry.context start.entry.at count
         earlier.old)) reader.old }
     ensures kept { OnOk result (length reader.new.rest ≤ length reader.old.rest) }
 {
-    let name = name_string(alloc, reader)?;
-    let path = declared_path(alloc, start.scope, start.context, start.at, &name)?;
-    declare(alloc, reader, start.context, &path, count, false)?;
+    let name = name_string(reader)?;
+    let path = declared_path(reader.alloc, start.scope, start.context, start.at, &name)?;
+    declare(reader, start.context, &path, count, false)?;
     earlier.path = Some(path);
     Ok(())
 }
@@ -114,7 +109,7 @@ fn declared_name<C: ArgumentCounts, B: Before>(
 fn integer_operand<C: ArgumentCounts, B: Before>(
     reader: &mut Reader<'_, C, B>,
     width: usize,
-) -> Result<(), Refusal>
+) -> Result<()>
     requires { width ≤ 8 }
     ensures reads { Does result reader.new (scanned (integer_operand width)) reader.old }
     ensures kept { OnOk result (length reader.new.rest ≤ length reader.old.rest) }
@@ -127,17 +122,16 @@ fn integer_operand<C: ArgumentCounts, B: Before>(
 /// The flags of a Method: bits 2 to 0 are its number of arguments.
 #[tactic(auto, using(crate::proofs::Scans::scanning), unfolding(aml_grammar::specs::Operands::method_flags))]
 fn method_flags<C: ArgumentCounts, B: Before>(
-    alloc: Global,
     reader: &mut Reader<'_, C, B>,
     context: Context,
     earlier: &Earlier,
-) -> Result<(), Refusal>
+) -> Result<()>
     ensures reads { Does (seen (λ _. earlier.now) result) reader.new
         (kept (λ x. x.1) (method_flags context earlier.now)) reader.old }
     ensures kept { OnOk result (length reader.new.rest ≤ length reader.old.rest) }
 {
     let flags = reader.byte()?;
-    declare_earlier(alloc, reader, context, earlier, flags % 8, false)?;
+    declare_earlier(reader, context, earlier, flags % 8, false)?;
     Ok(())
 }
 
@@ -146,7 +140,7 @@ fn method_flags<C: ArgumentCounts, B: Before>(
 fn object_type<C: ArgumentCounts, B: Before>(
     reader: &mut Reader<'_, C, B>,
     earlier: &mut Earlier,
-) -> Result<(), Refusal>
+) -> Result<()>
     ensures reads { Does (seen (λ _. earlier.new) result) reader.new
         (kept (λ x. x.1) (object_type earlier.old)) reader.old }
     ensures kept { OnOk result (length reader.new.rest ≤ length reader.old.rest) }
@@ -163,11 +157,10 @@ const METHOD_TYPE: u8 = 8;
 /// The argument count of an External: it counts where the object type is that of a method.
 #[tactic(auto, using(crate::proofs::Scans::scanning), unfolding(aml_grammar::specs::Operands::argument_count))]
 fn argument_count<C: ArgumentCounts, B: Before>(
-    alloc: Global,
     reader: &mut Reader<'_, C, B>,
     context: Context,
     earlier: &Earlier,
-) -> Result<(), Refusal>
+) -> Result<()>
     ensures reads { Does (seen (λ _. earlier.now) result) reader.new
         (kept (λ x. x.1) (argument_count context earlier.now)) reader.old }
     ensures kept { OnOk result (length reader.new.rest ≤ length reader.old.rest) }
@@ -178,13 +171,13 @@ fn argument_count<C: ArgumentCounts, B: Before>(
     } else {
         0
     };
-    declare_earlier(alloc, reader, context, earlier, count, true)?;
+    declare_earlier(reader, context, earlier, count, true)?;
     Ok(())
 }
 
 /// The text of a String.
 #[tactic(auto, using(crate::proofs::Scans::scanning), unfolding(aml_grammar::specs::Operands::text_operand))]
-fn text_operand<C: ArgumentCounts, B: Before>(reader: &mut Reader<'_, C, B>) -> Result<(), Refusal>
+fn text_operand<C: ArgumentCounts, B: Before>(reader: &mut Reader<'_, C, B>) -> Result<()>
     ensures reads { Does result reader.new (scanned text_operand) reader.old }
     ensures kept { OnOk result (length reader.new.rest ≤ length reader.old.rest) }
     ensures memory { NotMemory result }
@@ -194,7 +187,7 @@ fn text_operand<C: ArgumentCounts, B: Before>(reader: &mut Reader<'_, C, B>) -> 
 
 /// The rest of a package as bytes.
 #[tactic(auto, using(crate::proofs::Scans::scanning), unfolding(aml_grammar::specs::Operands::bytes_operand))]
-fn bytes_operand<C: ArgumentCounts, B: Before>(reader: &mut Reader<'_, C, B>) -> Result<(), Refusal>
+fn bytes_operand<C: ArgumentCounts, B: Before>(reader: &mut Reader<'_, C, B>) -> Result<()>
     ensures reads { Does result reader.new (scanned bytes_operand) reader.old }
     ensures kept { OnOk result (length reader.new.rest ≤ length reader.old.rest) }
     ensures memory { NotMemory result }
@@ -212,12 +205,11 @@ fn bytes_operand<C: ArgumentCounts, B: Before>(reader: &mut Reader<'_, C, B>) ->
 #[inline(never)]
 #[tactic(auto, using(crate::proofs::Scans::scanning), unfolding(aml_grammar::specs::Grammar::operand))]
 pub(crate) fn operand<C: ArgumentCounts, B: Before>(
-    alloc: Global,
     reader: &mut Reader<'_, C, B>,
     start: TermStart<'_>,
     kind: OperandKind,
     earlier: &mut Earlier,
-) -> Result<(), Refusal>
+) -> Result<()>
     requires { holds_terms kind ≡ false }
     ensures reads { (inner_term : Inner) → Does (seen (λ _. earlier.new) result) reader.new
         (kept (λ x. x.1) (operand inner_term start.entry.scope.now start.entry.context start.entry.at kind
@@ -226,17 +218,17 @@ pub(crate) fn operand<C: ArgumentCounts, B: Before>(
 {
     match kind {
         OperandKind::NameString => name_operand(reader),
-        OperandKind::ScopeName => scope_name(alloc, reader, start.scope, earlier),
-        OperandKind::AliasSource => alias_source(alloc, reader, start.scope, earlier),
+        OperandKind::ScopeName => scope_name(reader, start.scope, earlier),
+        OperandKind::AliasSource => alias_source(reader, start.scope, earlier),
         OperandKind::AliasName => {
             let count = earlier.count;
-            declared_name(alloc, reader, start, count, earlier)
+            declared_name(reader, start, count, earlier)
         }
-        OperandKind::DeclaredName => declared_name(alloc, reader, start, 0, earlier),
-        OperandKind::MethodFlags => method_flags(alloc, reader, start.context, earlier),
-        OperandKind::ExternalName => external_name(alloc, reader, start.scope, earlier),
+        OperandKind::DeclaredName => declared_name(reader, start, 0, earlier),
+        OperandKind::MethodFlags => method_flags(reader, start.context, earlier),
+        OperandKind::ExternalName => external_name(reader, start.scope, earlier),
         OperandKind::ObjectType => object_type(reader, earlier),
-        OperandKind::ArgumentCount => argument_count(alloc, reader, start.context, earlier),
+        OperandKind::ArgumentCount => argument_count(reader, start.context, earlier),
         OperandKind::ByteData => integer_operand(reader, 1),
         OperandKind::WordData => integer_operand(reader, 2),
         OperandKind::DWordData => integer_operand(reader, 4),

@@ -13,8 +13,7 @@ use crate::reader::Reader;
 use crate::terms::term;
 use aml_grammar::{ArgumentCounts, Context, Position};
 use aml_path::Path;
-use ar_space::{NameFault, Refusal, TermFault};
-use std::alloc::Global;
+use ar_space::{NameFault, Refusal, Result, TermFault};
 
 /// The opcode of a Buffer.
 const BUFFER: u8 = 0x11;
@@ -31,12 +30,11 @@ fn is_slot(byte: u8) -> bool
 #[cycle(scan)]
 #[tactic(auto, using(crate::proofs::Scans::scanning), unfolding(aml_grammar::specs::Grammar::super_name))]
 pub(crate) fn super_name<C: ArgumentCounts, B: Before>(
-    alloc: Global,
     reader: &mut Reader<'_, C, B>,
     levels: usize,
     scope: &Path,
     context: Context,
-) -> Result<(), Refusal>
+) -> Result<()>
     ensures reads { Does result reader.new
         (scanned (super_name (term_at by_arities levels) scope.now context)) reader.old }
     ensures kept { OnOk result (length reader.new.rest ≤ length reader.old.rest) }
@@ -47,7 +45,7 @@ pub(crate) fn super_name<C: ArgumentCounts, B: Before>(
     } else if starts_name(next) {
         name_operand(reader)
     } else {
-        term(alloc, reader, levels, Position::SuperName, scope, context)
+        term(reader, levels, Position::SuperName, scope, context)
     }
 }
 
@@ -55,12 +53,11 @@ pub(crate) fn super_name<C: ArgumentCounts, B: Before>(
 #[cycle(scan)]
 #[tactic(auto, using(crate::proofs::Scans::scanning), unfolding(aml_grammar::specs::Grammar::target))]
 pub(crate) fn target<C: ArgumentCounts, B: Before>(
-    alloc: Global,
     reader: &mut Reader<'_, C, B>,
     levels: usize,
     scope: &Path,
     context: Context,
-) -> Result<(), Refusal>
+) -> Result<()>
     ensures reads { Does result reader.new (scanned (target (term_at by_arities levels) scope.now context)) reader.old }
     ensures kept { OnOk result (length reader.new.rest ≤ length reader.old.rest) }
 {
@@ -69,7 +66,7 @@ pub(crate) fn target<C: ArgumentCounts, B: Before>(
         reader.byte()?;
         Ok(())
     } else {
-        super_name(alloc, reader, levels, scope, context)
+        super_name(reader, levels, scope, context)
     }
 }
 
@@ -77,12 +74,11 @@ pub(crate) fn target<C: ArgumentCounts, B: Before>(
 #[cycle(scan)]
 #[tactic(auto, using(crate::proofs::Scans::scanning), unfolding(aml_grammar::specs::Grammar::simple_name))]
 pub(crate) fn simple_name<C: ArgumentCounts, B: Before>(
-    alloc: Global,
     reader: &mut Reader<'_, C, B>,
     levels: usize,
     scope: &Path,
     context: Context,
-) -> Result<(), Refusal>
+) -> Result<()>
     ensures reads { Does result reader.new
         (scanned (simple_name (term_at by_arities levels) scope.now context)) reader.old }
     ensures kept { OnOk result (length reader.new.rest ≤ length reader.old.rest) }
@@ -90,7 +86,7 @@ pub(crate) fn simple_name<C: ArgumentCounts, B: Before>(
     let here = reader.at();
     let next = reader.peek()?;
     if next == 0 || starts_name(next) || is_slot(next) {
-        super_name(alloc, reader, levels, scope, context)
+        super_name(reader, levels, scope, context)
     } else {
         Err(Refusal::Term(TermFault::BadOpcode, here))
     }
@@ -100,12 +96,11 @@ pub(crate) fn simple_name<C: ArgumentCounts, B: Before>(
 #[cycle(scan)]
 #[tactic(auto, using(crate::proofs::Scans::scanning), unfolding(aml_grammar::specs::Grammar::connection))]
 fn connection<C: ArgumentCounts, B: Before>(
-    alloc: Global,
     reader: &mut Reader<'_, C, B>,
     levels: usize,
     scope: &Path,
     context: Context,
-) -> Result<(), Refusal>
+) -> Result<()>
     ensures reads { Does result reader.new
         (scanned (connection (term_at by_arities levels) scope.now context)) reader.old }
     ensures kept { OnOk result (length reader.new.rest ≤ length reader.old.rest) }
@@ -114,7 +109,7 @@ fn connection<C: ArgumentCounts, B: Before>(
     if starts_name(next) {
         name_operand(reader)
     } else if next == BUFFER {
-        term(alloc, reader, levels, Position::DataObject, scope, context)
+        term(reader, levels, Position::DataObject, scope, context)
     } else {
         Err(Refusal::Name(NameFault::BadName))
     }
@@ -123,29 +118,27 @@ fn connection<C: ArgumentCounts, B: Before>(
 #[cycle(scan)]
 #[tactic(auto, using(crate::proofs::Scans::scanning), unfolding(aml_grammar::specs::Grammar::connect_field))]
 fn connect_field<C: ArgumentCounts, B: Before>(
-    alloc: Global,
     reader: &mut Reader<'_, C, B>,
     levels: usize,
     scope: &Path,
     context: Context,
-) -> Result<(), Refusal>
+) -> Result<()>
     ensures reads { Does result reader.new
         (scanned (connect_field (term_at by_arities levels) scope.now context)) reader.old }
     ensures shorter { OnOk result (length reader.new.rest < length reader.old.rest) }
 {
     reader.byte()?;
-    connection(alloc, reader, levels, scope, context)
+    connection(reader, levels, scope, context)
 }
 
 #[cycle(scan)]
 #[tactic(auto, using(crate::proofs::Scans::scanning), unfolding(aml_grammar::specs::Grammar::field))]
 fn field<C: ArgumentCounts, B: Before>(
-    alloc: Global,
     reader: &mut Reader<'_, C, B>,
     levels: usize,
     scope: &Path,
     context: Context,
-) -> Result<(), Refusal>
+) -> Result<()>
     ensures reads { Does result reader.new (scanned (field (term_at by_arities levels) scope.now context)) reader.old }
     ensures shorter { OnOk result (length reader.new.rest < length reader.old.rest) }
 {
@@ -155,28 +148,27 @@ fn field<C: ArgumentCounts, B: Before>(
     } else if next == 1 {
         access_field(reader)
     } else if next == 2 {
-        connect_field(alloc, reader, levels, scope, context)
+        connect_field(reader, levels, scope, context)
     } else if next == 3 {
         extended_access_field(reader)
     } else {
-        named_field(alloc, reader, scope, context)
+        named_field(reader, scope, context)
     }
 }
 
 /// Field elements until nothing is left.
 #[cycle(scan)]
 fn fields<C: ArgumentCounts, B: Before>(
-    alloc: Global,
     reader: &mut Reader<'_, C, B>,
     levels: usize,
     scope: &Path,
     context: Context,
-) -> Result<(), Refusal>
+) -> Result<()>
     ensures reads { Does result reader.new (scanned (fields (term_at by_arities levels) scope.now context)) reader.old }
     ensures kept { OnOk result (length reader.new.rest ≤ length reader.old.rest) }
 {
     'fields: while !reader.is_empty() {
-        field(alloc, reader, levels, scope, context)?;
+        field(reader, levels, scope, context)?;
     }
     Ok(())
 }
@@ -185,15 +177,14 @@ fn fields<C: ArgumentCounts, B: Before>(
 #[cycle(scan)]
 #[tactic(auto, using(crate::proofs::Scans::scanning), unfolding(aml_grammar::specs::Grammar::fields_operand))]
 pub(crate) fn fields_operand<C: ArgumentCounts, B: Before>(
-    alloc: Global,
     reader: &mut Reader<'_, C, B>,
     levels: usize,
     scope: &Path,
     context: Context,
-) -> Result<(), Refusal>
+) -> Result<()>
     ensures reads { Does result reader.new
         (scanned (fields_operand (term_at by_arities levels) scope.now context)) reader.old }
     ensures kept { OnOk result (length reader.new.rest ≤ length reader.old.rest) }
 {
-    fields(alloc, reader, levels, scope, context)
+    fields(reader, levels, scope, context)
 }

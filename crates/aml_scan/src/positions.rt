@@ -11,8 +11,7 @@ use crate::reader::Reader;
 use crate::table::row_of;
 use aml_grammar::{ArgumentCounts, Class, Context, Opcode, OperandKind, Position, Row};
 use aml_path::{NameString, Path};
-use ar_space::{Refusal, TermFault};
-use std::alloc::Global;
+use ar_space::{Refusal, Result, TermFault};
 
 /// Where a term begins that is gone over.
 #[derive(Clone, Copy)]
@@ -133,7 +132,7 @@ pub const EXT_OP_PREFIX: u8 = 0x5B;
 
 /// The number of an opcode: one byte, or two after ExtOpPrefix.
 #[tactic(auto, using(crate::proofs::Steps::reading), unfolding(aml_grammar::specs::Grammar::opcode))]
-fn opcode<C: ArgumentCounts, B: Before>(reader: &mut Reader<'_, C, B>) -> Result<u16, Refusal>
+fn opcode<C: ArgumentCounts, B: Before>(reader: &mut Reader<'_, C, B>) -> Result<u16>
     ensures reads { Does result reader.new opcode reader.old }
     ensures shorter { OnOk result (length reader.new.rest < length reader.old.rest) }
     ensures memory { NotMemory result }
@@ -154,7 +153,7 @@ pub(crate) fn row_at<C: ArgumentCounts, B: Before>(
     position: Position,
     context: Context,
     start: usize,
-) -> Result<Row, Refusal>
+) -> Result<Row>
     ensures reads { Does result reader.new (row_at position context start) reader.old }
     ensures shorter { OnOk result (length reader.new.rest < length reader.old.rest) }
     ensures memory { NotMemory result }
@@ -177,17 +176,16 @@ pub(crate) fn row_at<C: ArgumentCounts, B: Before>(
 /// How many arguments a name takes; a call with arguments is marked.
 #[tactic(auto, using(crate::proofs::Steps::reading), unfolding(aml_grammar::specs::Grammar::argument_number, aml_grammar::specs::Grammar::by_arities))]
 pub(crate) fn argument_number<C: ArgumentCounts, B: Before>(
-    alloc: Global,
     reader: &mut Reader<'_, C, B>,
     start: usize,
     scope: &Path,
     name: &NameString,
     path: &Path,
-) -> Result<u8, Refusal>
+) -> Result<u8>
     ensures reads { Does result reader.new (argument_number by_arities start scope.now name.now path.now) reader.old }
     ensures kept { OnOk result (length reader.new.rest ≤ length reader.old.rest) }
 {
-    let count = reader.arity_of(alloc, name, scope, path)?;
+    let count = reader.arity_of(name, scope, path)?;
     reader.mark(start, count)?;
     Ok(count)
 }

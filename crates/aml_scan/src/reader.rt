@@ -14,13 +14,15 @@ use crate::before::Before;
 use crate::declarations::Declarations;
 use aml_grammar::{ArgumentCounts, Arities, Mark};
 use aml_path::{NameString, Path};
-use ar_space::{Refusal, TermFault};
+use ar_space::{Refusal, Result, TermFault};
 use std::alloc::{AllocError, Global};
 use std::marker::Model;
 
 /// What is left of a list or a package and where it begins, the arities so far, and the marks of the calls so far.
 #[derive(Drop)]
 pub(crate) struct Reader<'a, C: ArgumentCounts, B: Before> {
+    /// Where the scan takes its memory.
+    pub(crate) alloc: Global,
     at: usize,
     rest: &'a [u8],
     arities: Declarations<'a, C, B>,
@@ -52,6 +54,7 @@ impl<'a, C: ArgumentCounts, B: Before> Reader<'a, C, B> {
         ensures { result ≡ record { at = 0; rest = bytes.now; arities = B.before; marks = [] } }
     {
         Reader {
+            alloc,
             at: 0,
             rest: bytes,
             arities: Declarations::new(alloc, counts),
@@ -71,6 +74,7 @@ impl<'a, C: ArgumentCounts, B: Before> Reader<'a, C, B> {
         ensures { result ≡ record { at = at; rest = bytes.now; arities = B.before; marks = [] } }
     {
         Reader {
+            alloc,
             at,
             rest: bytes,
             arities: Declarations::new(alloc, counts),
@@ -93,7 +97,7 @@ impl<'a, C: ArgumentCounts, B: Before> Reader<'a, C, B> {
 
     /// The next byte, which stays.
     #[tactic(auto, unfolding(aml_grammar::specs::State::peek))]
-    pub(crate) fn peek(&self) -> Result<u8, Refusal>
+    pub(crate) fn peek(&self) -> Result<u8>
         ensures reads { Does result self.now peek self.now }
         ensures memory { NotMemory result }
     {
@@ -114,7 +118,7 @@ impl<'a, C: ArgumentCounts, B: Before> Reader<'a, C, B> {
     }
 
     #[tactic(auto, unfolding(aml_grammar::specs::State::byte))]
-    pub(crate) fn byte(&mut self) -> Result<u8, Refusal>
+    pub(crate) fn byte(&mut self) -> Result<u8>
         ensures reads { Does result self.new byte self.old }
         ensures shorter { OnOk result (length self.new.rest < length self.old.rest) }
         ensures memory { NotMemory result }
@@ -130,7 +134,7 @@ impl<'a, C: ArgumentCounts, B: Before> Reader<'a, C, B> {
     }
 
     #[tactic(auto, unfolding(aml_grammar::specs::State::next_bytes))]
-    fn next_bytes(&mut self, count: usize) -> Result<&'a [u8], Refusal>
+    fn next_bytes(&mut self, count: usize) -> Result<&'a [u8]>
         ensures reads { Does (seen (λ x. x.now) result) self.new (next_bytes count) self.old }
         ensures kept { OnOk result (length self.new.rest ≤ length self.old.rest) }
         ensures count { IfOk result (λ x. length x.now ≡ count) }
@@ -165,7 +169,7 @@ impl<'a, C: ArgumentCounts, B: Before> Reader<'a, C, B> {
 
     /// Goes past bytes up to a zero, and past it.
     #[tactic(auto, using(crate::proofs::Scans::scanning), unfolding(aml_grammar::specs::State::text))]
-    pub(crate) fn skip_text(&mut self) -> Result<(), Refusal>
+    pub(crate) fn skip_text(&mut self) -> Result<()>
         ensures reads { Does result self.new (scanned text) self.old }
         ensures kept { OnOk result (length self.new.rest ≤ length self.old.rest) }
         ensures memory { NotMemory result }
@@ -177,7 +181,7 @@ impl<'a, C: ArgumentCounts, B: Before> Reader<'a, C, B> {
 
     /// The integer of the next bytes, the lowest first.
     #[tactic(auto, using(crate::proofs::Steps::reading), unfolding(aml_grammar::specs::State::integer))]
-    pub(crate) fn integer(&mut self, count: usize) -> Result<u64, Refusal>
+    pub(crate) fn integer(&mut self, count: usize) -> Result<u64>
         requires { count ≤ 8 }
         ensures reads { Does result self.new (integer count) self.old }
         ensures kept { OnOk result (length self.new.rest ≤ length self.old.rest) }
@@ -190,7 +194,7 @@ impl<'a, C: ArgumentCounts, B: Before> Reader<'a, C, B> {
 
     /// A count of bits, which is spelled as the length of a package.
     #[tactic(auto, using(crate::proofs::Steps::reading), unfolding(aml_grammar::specs::State::bit_count))]
-    pub(crate) fn bit_count(&mut self) -> Result<u64, Refusal>
+    pub(crate) fn bit_count(&mut self) -> Result<u64>
         ensures reads { Does result self.new bit_count self.old }
         ensures kept { OnOk result (length self.new.rest ≤ length self.old.rest) }
         ensures memory { NotMemory result }
@@ -201,7 +205,7 @@ impl<'a, C: ArgumentCounts, B: Before> Reader<'a, C, B> {
     }
 
     #[tactic(auto, using(crate::proofs::Steps::reading), unfolding(aml_grammar::specs::State::package_size))]
-    fn package_size(&mut self) -> Result<usize, Refusal>
+    fn package_size(&mut self) -> Result<usize>
         ensures reads { Does result self.new package_size self.old }
         ensures kept { OnOk result (length self.new.rest ≤ length self.old.rest) }
         ensures room { IfOk result (λ n. n ≤ length self.new.rest) }
@@ -215,7 +219,7 @@ impl<'a, C: ArgumentCounts, B: Before> Reader<'a, C, B> {
     }
 
     #[tactic(auto, unfolding(aml_grammar::specs::State::size_after))]
-    fn size_after(&self, start: usize, spent: u64, total: u64) -> Result<usize, Refusal>
+    fn size_after(&self, start: usize, spent: u64, total: u64) -> Result<usize>
         ensures reads { Does result self.now (size_after start spent total) self.now }
         ensures room { IfOk result (λ n. n ≤ length self.now.rest) }
         ensures memory { NotMemory result }
@@ -228,7 +232,7 @@ impl<'a, C: ArgumentCounts, B: Before> Reader<'a, C, B> {
 
     /// Reads the length of a package, and leaves its bytes alone.
     #[tactic(auto, using(crate::proofs::Steps::reading), unfolding(aml_grammar::specs::State::enter))]
-    pub(crate) fn enter(&mut self) -> Result<Outer<'a>, Refusal>
+    pub(crate) fn enter(&mut self) -> Result<Outer<'a>>
         ensures reads { Does (seen (λ o. (o.at, o.rest.now)) result) self.new enter self.old }
         ensures kept { OnOk result (length self.new.rest ≤ length self.old.rest) }
         ensures outer { IfOk result (λ o. length o.rest.now ≤ length self.old.rest) }
@@ -289,30 +293,18 @@ impl<'a, C: ArgumentCounts, B: Before> Reader<'a, C, B> {
 
     /// How many arguments a name takes that stands, without a search, for a path.
     #[tactic(auto, using(crate::proofs::Steps::reading))]
-    pub(crate) fn arity_of(
-        &self,
-        alloc: Global,
-        name: &NameString,
-        scope: &Path,
-        path: &Path,
-    ) -> Result<u8, Refusal>
+    pub(crate) fn arity_of(&self, name: &NameString, scope: &Path, path: &Path) -> Result<u8>
         ensures { Answers result (Ok (arity_of self.now.arities scope.now name.now path.now)) }
     {
-        self.arities.arity_of(alloc, name, scope, path)
+        self.arities.arity_of(self.alloc, name, scope, path)
     }
 
     /// The path where a name is found, or else the one that it stands for.
     #[tactic(auto, using(crate::proofs::Steps::reading))]
-    pub(crate) fn found_or(
-        &self,
-        alloc: Global,
-        name: &NameString,
-        scope: &Path,
-        path: Path,
-    ) -> Result<Path, Refusal>
+    pub(crate) fn found_or(&self, name: &NameString, scope: &Path, path: Path) -> Result<Path>
         ensures { Answers result (Ok (or_path path (found self.now.arities scope.now name.now path))) }
     {
-        self.arities.found_or(alloc, name, scope, path)
+        self.arities.found_or(self.alloc, name, scope, path)
     }
 }
 

@@ -11,13 +11,13 @@ use crate::before::Before;
 use crate::names::segment;
 use crate::reader::Reader;
 use aml_grammar::ArgumentCounts;
-use ar_space::{NameFault, Refusal};
+use ar_space::{NameFault, Refusal, Result};
 
 /// As many segments as are asked for.
 fn counted_segments<C: ArgumentCounts, B: Before>(
     reader: &mut Reader<'_, C, B>,
     count: u8,
-) -> Result<(), Refusal>
+) -> Result<()>
     ensures reads { Does result reader.new (scanned (times segment count)) reader.old }
     ensures shorter { OnOk result (length reader.new.rest + count ≤ length reader.old.rest) }
     ensures memory { NotMemory result }
@@ -29,9 +29,7 @@ fn counted_segments<C: ArgumentCounts, B: Before>(
 }
 
 #[tactic(auto, using(crate::proofs::Scans::scanning), unfolding(aml_grammar::specs::Names::multiple_segments))]
-fn multiple_segments<C: ArgumentCounts, B: Before>(
-    reader: &mut Reader<'_, C, B>,
-) -> Result<(), Refusal>
+fn multiple_segments<C: ArgumentCounts, B: Before>(reader: &mut Reader<'_, C, B>) -> Result<()>
     ensures reads { Does result reader.new (scanned multiple_segments) reader.old }
     ensures shorter { OnOk result (length reader.new.rest < length reader.old.rest) }
     ensures memory { NotMemory result }
@@ -45,7 +43,7 @@ fn multiple_segments<C: ArgumentCounts, B: Before>(
 
 /// The segments of a name after its prefix.
 #[tactic(auto, using(crate::proofs::Scans::scanning), unfolding(aml_grammar::specs::Names::segments))]
-fn segments<C: ArgumentCounts, B: Before>(reader: &mut Reader<'_, C, B>) -> Result<(), Refusal>
+fn segments<C: ArgumentCounts, B: Before>(reader: &mut Reader<'_, C, B>) -> Result<()>
     ensures reads { Does result reader.new (scanned segments) reader.old }
     ensures shorter { OnOk result (length reader.new.rest < length reader.old.rest) }
     ensures memory { NotMemory result }
@@ -67,7 +65,7 @@ fn segments<C: ArgumentCounts, B: Before>(reader: &mut Reader<'_, C, B>) -> Resu
 }
 
 #[tactic(auto, using(crate::proofs::Scans::scanning), unfolding(aml_grammar::specs::Names::rooted_name))]
-fn rooted_name<C: ArgumentCounts, B: Before>(reader: &mut Reader<'_, C, B>) -> Result<(), Refusal>
+fn rooted_name<C: ArgumentCounts, B: Before>(reader: &mut Reader<'_, C, B>) -> Result<()>
     ensures reads { Does result reader.new (scanned rooted_name) reader.old }
     ensures shorter { OnOk result (length reader.new.rest < length reader.old.rest) }
     ensures memory { NotMemory result }
@@ -77,7 +75,7 @@ fn rooted_name<C: ArgumentCounts, B: Before>(reader: &mut Reader<'_, C, B>) -> R
 }
 
 #[tactic(auto, using(crate::proofs::Scans::scanning), unfolding(aml_grammar::specs::Names::relative_name))]
-fn relative_name<C: ArgumentCounts, B: Before>(reader: &mut Reader<'_, C, B>) -> Result<(), Refusal>
+fn relative_name<C: ArgumentCounts, B: Before>(reader: &mut Reader<'_, C, B>) -> Result<()>
     ensures reads { Does result reader.new (scanned relative_name) reader.old }
     ensures shorter { OnOk result (length reader.new.rest < length reader.old.rest) }
     ensures memory { NotMemory result }
@@ -88,9 +86,7 @@ fn relative_name<C: ArgumentCounts, B: Before>(reader: &mut Reader<'_, C, B>) ->
 
 /// A name of which no path is asked. It takes no memory.
 #[tactic(auto, using(crate::proofs::Scans::scanning), unfolding(aml_grammar::specs::Names::name_string))]
-pub(crate) fn skip_name<C: ArgumentCounts, B: Before>(
-    reader: &mut Reader<'_, C, B>,
-) -> Result<(), Refusal>
+pub(crate) fn skip_name<C: ArgumentCounts, B: Before>(reader: &mut Reader<'_, C, B>) -> Result<()>
     ensures reads { Does result reader.new (scanned name_string) reader.old }
     ensures shorter { OnOk result (length reader.new.rest < length reader.old.rest) }
     ensures memory { NotMemory result }

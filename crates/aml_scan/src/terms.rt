@@ -22,20 +22,18 @@ use crate::reader::Reader;
 use crate::skip_names::skip_name;
 use aml_grammar::{ArgumentCounts, Context, Earlier, OperandKind, Position, Row};
 use aml_path::Path;
-use ar_space::{Refusal, TermFault};
-use std::alloc::Global;
+use ar_space::{Refusal, Result, TermFault};
 
 /// A term, with at most this many levels below it.
 #[cycle(scan)]
 #[tactic(auto, using(crate::proofs::Scans::scanning), unfolding(aml_grammar::specs::Grammar::term_at, aml_grammar::specs::Grammar::term_in))]
 pub(crate) fn term<C: ArgumentCounts, B: Before>(
-    alloc: Global,
     reader: &mut Reader<'_, C, B>,
     levels: usize,
     position: Position,
     scope: &Path,
     context: Context,
-) -> Result<(), Refusal>
+) -> Result<()>
     ensures reads { Does result reader.new (scanned (term_at by_arities levels position scope.now context)) reader.old }
     ensures shorter { OnOk result (length reader.new.rest < length reader.old.rest) }
 {
@@ -47,9 +45,9 @@ pub(crate) fn term<C: ArgumentCounts, B: Before>(
         at,
     };
     if starts_name(next) {
-        named(alloc, reader, levels, position, start)
+        named(reader, levels, position, start)
     } else {
-        coded_term(alloc, reader, levels, position, start)
+        coded_term(reader, levels, position, start)
     }
 }
 
@@ -57,12 +55,11 @@ pub(crate) fn term<C: ArgumentCounts, B: Before>(
 #[cycle(scan)]
 #[tactic(auto, using(crate::proofs::Scans::scanning), unfolding(aml_grammar::specs::Grammar::named))]
 fn named<C: ArgumentCounts, B: Before>(
-    alloc: Global,
     reader: &mut Reader<'_, C, B>,
     levels: usize,
     position: Position,
     start: TermStart<'_>,
-) -> Result<(), Refusal>
+) -> Result<()>
     ensures reads { Does result reader.new (scanned (named by_arities (below by_arities levels) position
         start.entry.scope.now start.entry.context start.entry.at)) reader.old }
     ensures shorter { OnOk result (length reader.new.rest < length reader.old.rest) }
@@ -73,31 +70,30 @@ fn named<C: ArgumentCounts, B: Before>(
     if levels == 0 {
         return Err(Refusal::Term(TermFault::TooDeep, item_of(start.context.item, start.at)));
     }
-    named_term(alloc, reader, levels - 1, position, start)
+    named_term(reader, levels - 1, position, start)
 }
 
 #[cycle(scan)]
 #[tactic(auto, using(crate::proofs::Scans::scanning))]
 fn named_term<C: ArgumentCounts, B: Before>(
-    alloc: Global,
     reader: &mut Reader<'_, C, B>,
     levels: usize,
     position: Position,
     start: TermStart<'_>,
-) -> Result<(), Refusal>
+) -> Result<()>
     ensures reads { Does result reader.new (scanned (named_term by_arities (term_at by_arities levels) position
         start.entry.scope.now start.entry.context start.entry.at)) reader.old }
     ensures shorter { OnOk result (length reader.new.rest < length reader.old.rest) }
 {
     match position {
         Position::PackageElement => element_name(reader),
-        _ => invocation(alloc, reader, levels, start),
+        _ => invocation(reader, levels, start),
     }
 }
 
 /// An element of a package that is a name.
 #[tactic(auto, using(crate::proofs::Scans::scanning), unfolding(aml_grammar::specs::Grammar::element_name))]
-fn element_name<C: ArgumentCounts, B: Before>(reader: &mut Reader<'_, C, B>) -> Result<(), Refusal>
+fn element_name<C: ArgumentCounts, B: Before>(reader: &mut Reader<'_, C, B>) -> Result<()>
     ensures reads { Does result reader.new (scanned element_name) reader.old }
     ensures shorter { OnOk result (length reader.new.rest < length reader.old.rest) }
     ensures memory { NotMemory result }
@@ -111,36 +107,34 @@ fn element_name<C: ArgumentCounts, B: Before>(reader: &mut Reader<'_, C, B>) -> 
 #[cycle(scan)]
 #[tactic(auto, using(crate::proofs::Scans::scanning), unfolding(aml_grammar::specs::Grammar::invocation))]
 fn invocation<C: ArgumentCounts, B: Before>(
-    alloc: Global,
     reader: &mut Reader<'_, C, B>,
     levels: usize,
     start: TermStart<'_>,
-) -> Result<(), Refusal>
+) -> Result<()>
     ensures reads { Does result reader.new (scanned (invocation by_arities (term_at by_arities levels)
         start.entry.scope.now start.entry.context start.entry.at)) reader.old }
     ensures shorter { OnOk result (length reader.new.rest < length reader.old.rest) }
 {
-    let name = name_string(alloc, reader)?;
-    let path = name.resolve_in(alloc, start.scope)?;
-    let count = argument_number(alloc, reader, start.at, start.scope, &name, &path)?;
-    arguments(alloc, reader, levels, start.scope, start.context, count)
+    let name = name_string(reader)?;
+    let path = name.resolve_in(reader.alloc, start.scope)?;
+    let count = argument_number(reader, start.at, start.scope, &name, &path)?;
+    arguments(reader, levels, start.scope, start.context, count)
 }
 
 #[cycle(scan)]
 fn arguments<C: ArgumentCounts, B: Before>(
-    alloc: Global,
     reader: &mut Reader<'_, C, B>,
     levels: usize,
     scope: &Path,
     context: Context,
     count: u8,
-) -> Result<(), Refusal>
+) -> Result<()>
     ensures reads { Does result reader.new
         (scanned (times (term_at by_arities levels positions.TermArg scope.now context) count)) reader.old }
     ensures kept { OnOk result (length reader.new.rest ≤ length reader.old.rest) }
 {
     'arguments: for _ in 0..count {
-        term(alloc, reader, levels, Position::TermArg, scope, context)?;
+        term(reader, levels, Position::TermArg, scope, context)?;
     }
     Ok(())
 }
@@ -149,12 +143,11 @@ fn arguments<C: ArgumentCounts, B: Before>(
 #[cycle(scan)]
 #[tactic(auto, using(crate::proofs::Scans::scanning), unfolding(aml_grammar::specs::Grammar::coded_term))]
 fn coded_term<C: ArgumentCounts, B: Before>(
-    alloc: Global,
     reader: &mut Reader<'_, C, B>,
     levels: usize,
     position: Position,
     start: TermStart<'_>,
-) -> Result<(), Refusal>
+) -> Result<()>
     ensures reads { Does result reader.new (scanned (coded_term (below by_arities levels) position
         start.entry.scope.now start.entry.context start.entry.at)) reader.old }
     ensures shorter { OnOk result (length reader.new.rest < length reader.old.rest) }
@@ -166,26 +159,25 @@ fn coded_term<C: ArgumentCounts, B: Before>(
     if levels == 0 {
         return Err(Refusal::Term(TermFault::TooDeep, item_of(start.context.item, start.at)));
     }
-    row_term(alloc, reader, levels - 1, start, row)
+    row_term(reader, levels - 1, start, row)
 }
 
 #[cycle(scan)]
 #[tactic(auto, using(crate::proofs::Scans::scanning), unfolding(aml_grammar::specs::Grammar::row_term, aml_grammar::specs::Grammar::plain_term))]
 fn row_term<C: ArgumentCounts, B: Before>(
-    alloc: Global,
     reader: &mut Reader<'_, C, B>,
     levels: usize,
     start: TermStart<'_>,
     row: Row,
-) -> Result<(), Refusal>
+) -> Result<()>
     ensures reads { Does result reader.new (scanned (row_term (term_at by_arities levels)
         start.entry.scope.now start.entry.context start.entry.at row)) reader.old }
     ensures kept { OnOk result (length reader.new.rest ≤ length reader.old.rest) }
 {
     if is_if(row.0) {
-        if_term(alloc, reader, levels, start, row)
+        if_term(reader, levels, start, row)
     } else {
-        row_operands(alloc, reader, levels, start, row)
+        row_operands(reader, levels, start, row)
     }
 }
 
@@ -201,12 +193,11 @@ fn has_no_operands(row: &Row) -> bool
 #[cycle(scan)]
 #[tactic(auto, using(crate::proofs::Scans::scanning, crate::proofs::Rows::kept_none))]
 pub(crate) fn row_operands<C: ArgumentCounts, B: Before>(
-    alloc: Global,
     reader: &mut Reader<'_, C, B>,
     levels: usize,
     start: TermStart<'_>,
     row: Row,
-) -> Result<(), Refusal>
+) -> Result<()>
     ensures reads { Does result reader.new (scanned (row_operands (term_at by_arities levels)
         start.entry.scope.now start.entry.context start.entry.at row)) reader.old }
     ensures kept { OnOk result (length reader.new.rest ≤ length reader.old.rest) }
@@ -216,9 +207,9 @@ pub(crate) fn row_operands<C: ArgumentCounts, B: Before>(
     }
     let kinds = [row.3.0, row.3.1, row.3.2, row.3.3, row.3.4, row.3.5];
     if row.2 {
-        packed_operands(alloc, reader, levels, start, &kinds)
+        packed_operands(reader, levels, start, &kinds)
     } else {
-        operands(alloc, reader, levels, start, &kinds)
+        operands(reader, levels, start, &kinds)
     }
 }
 
@@ -226,31 +217,29 @@ pub(crate) fn row_operands<C: ArgumentCounts, B: Before>(
 #[cycle(scan)]
 #[tactic(auto, using(crate::proofs::Scans::scanning))]
 fn packed_operands<C: ArgumentCounts, B: Before>(
-    alloc: Global,
     reader: &mut Reader<'_, C, B>,
     levels: usize,
     start: TermStart<'_>,
     kinds: &[OperandKind],
-) -> Result<(), Refusal>
+) -> Result<()>
     ensures reads { Does result reader.new (scanned (packed true (operands (term_at by_arities levels)
         start.entry.scope.now start.entry.context start.entry.at kinds.now
         nothing_earlier))) reader.old }
     ensures kept { OnOk result (length reader.new.rest ≤ length reader.old.rest) }
 {
     let outer = reader.enter()?;
-    operands(alloc, reader, levels, start, kinds)?;
+    operands(reader, levels, start, kinds)?;
     reader.leave(outer);
     Ok(())
 }
 
 #[cycle(scan)]
 fn operands<C: ArgumentCounts, B: Before>(
-    alloc: Global,
     reader: &mut Reader<'_, C, B>,
     levels: usize,
     start: TermStart<'_>,
     kinds: &[OperandKind],
-) -> Result<(), Refusal>
+) -> Result<()>
     ensures reads { Does result reader.new (scanned (operands (term_at by_arities levels)
         start.entry.scope.now start.entry.context start.entry.at kinds.now nothing_earlier)) reader.old }
     ensures kept { OnOk result (length reader.new.rest ≤ length reader.old.rest) }
@@ -263,7 +252,7 @@ fn operands<C: ArgumentCounts, B: Before>(
         if is_nothing(*kind) {
             return Ok(());
         }
-        operand(alloc, reader, levels, start, *kind, &mut earlier)?;
+        operand(reader, levels, start, *kind, &mut earlier)?;
     }
     Ok(())
 }
@@ -272,13 +261,12 @@ fn operands<C: ArgumentCounts, B: Before>(
 #[cycle(scan)]
 #[tactic(auto, using(crate::proofs::Scans::scanning), unfolding(aml_grammar::specs::Grammar::operand))]
 fn operand<C: ArgumentCounts, B: Before>(
-    alloc: Global,
     reader: &mut Reader<'_, C, B>,
     levels: usize,
     start: TermStart<'_>,
     kind: OperandKind,
     earlier: &mut Earlier,
-) -> Result<(), Refusal>
+) -> Result<()>
     ensures reads { Does (seen (λ _. earlier.new) result) reader.new
         (kept (λ x. x.1) (operand (term_at by_arities levels) start.entry.scope.now start.entry.context
         start.entry.at kind earlier.old)) reader.old }
@@ -287,27 +275,16 @@ fn operand<C: ArgumentCounts, B: Before>(
     let scope = start.scope;
     let context = start.context;
     match kind {
-        OperandKind::TermArg => term(alloc, reader, levels, Position::TermArg, scope, context),
-        OperandKind::DataObject => term(
-            alloc,
-            reader,
-            levels,
-            Position::DataObject,
-            scope,
-            context,
-        ),
-        OperandKind::SuperName => super_name(alloc, reader, levels, scope, context),
-        OperandKind::Target => target(alloc, reader, levels, scope, context),
-        OperandKind::SimpleName => simple_name(alloc, reader, levels, scope, context),
-        OperandKind::TermList => term_list(alloc, reader, levels, scope, earlier, context),
-        OperandKind::LoopTermList => {
-            term_list(alloc, reader, levels, scope, earlier, in_loop(context))
-        }
-        OperandKind::PackageElementList => {
-            element_list(alloc, reader, levels, scope, earlier, context)
-        }
-        OperandKind::FieldList => fields_operand(alloc, reader, levels, scope, context),
-        _ => leaf::operand(alloc, reader, start, kind, earlier),
+        OperandKind::TermArg => term(reader, levels, Position::TermArg, scope, context),
+        OperandKind::DataObject => term(reader, levels, Position::DataObject, scope, context),
+        OperandKind::SuperName => super_name(reader, levels, scope, context),
+        OperandKind::Target => target(reader, levels, scope, context),
+        OperandKind::SimpleName => simple_name(reader, levels, scope, context),
+        OperandKind::TermList => term_list(reader, levels, scope, earlier, context),
+        OperandKind::LoopTermList => { term_list(reader, levels, scope, earlier, in_loop(context)) }
+        OperandKind::PackageElementList => { element_list(reader, levels, scope, earlier, context) }
+        OperandKind::FieldList => fields_operand(reader, levels, scope, context),
+        _ => leaf::operand(reader, start, kind, earlier),
     }
 }
 
@@ -315,21 +292,20 @@ fn operand<C: ArgumentCounts, B: Before>(
 #[cycle(scan)]
 #[tactic(auto, using(crate::proofs::Scans::scanning))]
 fn term_list<C: ArgumentCounts, B: Before>(
-    alloc: Global,
     reader: &mut Reader<'_, C, B>,
     levels: usize,
     scope: &Path,
     earlier: &Earlier,
     context: Context,
-) -> Result<(), Refusal>
+) -> Result<()>
     ensures reads { Does result reader.new
         (scanned (list_operand (term_at by_arities levels) positions.ListItem (scope_of scope.now earlier.now.path)
         context)) reader.old }
     ensures kept { OnOk result (length reader.new.rest ≤ length reader.old.rest) }
 {
     match &earlier.path {
-        None => list_operand(alloc, reader, levels, Position::ListItem, scope, context),
-        Some(path) => list_operand(alloc, reader, levels, Position::ListItem, path, context),
+        None => list_operand(reader, levels, Position::ListItem, scope, context),
+        Some(path) => list_operand(reader, levels, Position::ListItem, path, context),
     }
 }
 
@@ -337,71 +313,54 @@ fn term_list<C: ArgumentCounts, B: Before>(
 #[cycle(scan)]
 #[tactic(auto, using(crate::proofs::Scans::scanning))]
 fn element_list<C: ArgumentCounts, B: Before>(
-    alloc: Global,
     reader: &mut Reader<'_, C, B>,
     levels: usize,
     scope: &Path,
     earlier: &Earlier,
     context: Context,
-) -> Result<(), Refusal>
+) -> Result<()>
     ensures reads { Does result reader.new
         (scanned (list_operand (term_at by_arities levels) positions.PackageElement
         (scope_of scope.now earlier.now.path) context)) reader.old }
     ensures kept { OnOk result (length reader.new.rest ≤ length reader.old.rest) }
 {
     match &earlier.path {
-        None => list_operand(
-            alloc,
-            reader,
-            levels,
-            Position::PackageElement,
-            scope,
-            context,
-        ),
-        Some(path) => list_operand(
-            alloc,
-            reader,
-            levels,
-            Position::PackageElement,
-            path,
-            context,
-        ),
+        None => list_operand(reader, levels, Position::PackageElement, scope, context),
+        Some(path) => list_operand(reader, levels, Position::PackageElement, path, context),
     }
 }
 
 #[cycle(scan)]
 #[tactic(auto, using(crate::proofs::Scans::scanning), unfolding(aml_grammar::specs::Grammar::list_operand))]
 pub(crate) fn list_operand<C: ArgumentCounts, B: Before>(
-    alloc: Global,
     reader: &mut Reader<'_, C, B>,
     levels: usize,
     position: Position,
     scope: &Path,
     context: Context,
-) -> Result<(), Refusal>
+) -> Result<()>
     ensures reads { Does result reader.new
         (scanned (list_operand (term_at by_arities levels) position scope.now context)) reader.old }
     ensures kept { OnOk result (length reader.new.rest ≤ length reader.old.rest) }
 {
-    items(alloc, reader, levels, position, scope, context)
+    items(reader, levels, position, scope, context)
 }
 
 /// Terms until nothing is left.
 #[cycle(scan)]
 pub(crate) fn items<C: ArgumentCounts, B: Before>(
-    alloc: Global,
     reader: &mut Reader<'_, C, B>,
     levels: usize,
     position: Position,
     scope: &Path,
     context: Context,
-) -> Result<(), Refusal>
+) -> Result<()>
     ensures reads { Does result reader.new
         (scanned (items (term_at by_arities levels) position scope.now context)) reader.old }
     ensures kept { OnOk result (length reader.new.rest ≤ length reader.old.rest) }
 {
     'items: while !reader.is_empty() {
-        term(alloc, reader, levels, position, scope, context)?;
+        term(reader, levels, position, scope, context)?;
     }
     Ok(())
 }

@@ -13,7 +13,7 @@ use crate::skip::opcode;
 use aml_grammar::{Item, Opcode, OperandView, Row, TermCode, TermReader};
 use aml_path::NameString;
 use aml_scan::{row_of, starts_name};
-use ar_space::{NameFault, Refusal};
+use ar_space::{NameFault, Refusal, Result};
 use std::alloc::Global;
 
 /// The code of a term.
@@ -143,7 +143,7 @@ impl<'a> TermReader for At<'a> {
         }
     }
 
-    fn name(self, alloc: Global, index: usize) -> Result<NameString, Refusal> {
+    fn name(self, alloc: Global, index: usize) -> Result<NameString> {
         let mut cursor = cursor_of(&self);
         match to_part(&self, &mut cursor, index) {
             Some(spot) => name_here(alloc, &cursor, spot),
@@ -151,7 +151,7 @@ impl<'a> TermReader for At<'a> {
         }
     }
 
-    fn bytes(self, alloc: Global, index: usize) -> Result<Vec<u8>, Refusal> {
+    fn bytes(self, alloc: Global, index: usize) -> Result<Vec<u8>> {
         match lent_bytes(self, index) {
             Some(bytes) => Ok(Vec::from_slice(alloc, bytes)?),
             None => Err(Refusal::Name(NameFault::BadName)),

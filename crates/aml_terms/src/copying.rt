@@ -6,13 +6,13 @@ ghost use Rattle.aml_grammar.specs.View.{part_view, tree_view};
 ghost use Rattle.aml_terms.specs.Copying.{operands_of, trees_list};
 
 use aml_grammar::{Operand, OperandView, Term, TermReader};
-use ar_space::Refusal;
+use ar_space::Result;
 use std::alloc::Global;
 
 /// A copy of the terms of a list.
 #[cycle(copy)]
 #[tactic(auto, using(crate::proofs::Copied::copying))]
-pub(crate) fn copied_list<R: TermReader>(alloc: Global, list: R) -> Result<Vec<Term>, Refusal>
+pub(crate) fn copied_list<R: TermReader>(alloc: Global, list: R) -> Result<Vec<Term>>
     ensures { Answers (seen (λ v. map tree_view v.items) result) (Ok (trees_list (R.list list))) }
 {
     let mut terms = Vec::new(alloc);
@@ -32,7 +32,7 @@ pub(crate) fn copied_list<R: TermReader>(alloc: Global, list: R) -> Result<Vec<T
 /// A copy of a term.
 #[cycle(copy)]
 #[tactic(auto, using(crate::proofs::Copied::copying))]
-fn copied_term<R: TermReader>(alloc: Global, part: R) -> Result<Term, Refusal>
+fn copied_term<R: TermReader>(alloc: Global, part: R) -> Result<Term>
     ensures { Answers (seen tree_view result) (Ok (R.tree part)) }
 {
     let operands = copied_operands(alloc, part)?;
@@ -45,7 +45,7 @@ fn copied_term<R: TermReader>(alloc: Global, part: R) -> Result<Term, Refusal>
 /// Copies of the operands of a term.
 #[cycle(copy)]
 #[tactic(auto, using(crate::proofs::Copied::copying))]
-fn copied_operands<R: TermReader>(alloc: Global, part: R) -> Result<Vec<Operand>, Refusal>
+fn copied_operands<R: TermReader>(alloc: Global, part: R) -> Result<Vec<Operand>>
     ensures { Answers (seen (λ v. map part_view v.items) result) (Ok (operands_of (R.tree part))) }
 {
     let mut operands = Vec::new(alloc);
@@ -60,11 +60,7 @@ fn copied_operands<R: TermReader>(alloc: Global, part: R) -> Result<Vec<Operand>
 /// A copy of an operand, where there is one.
 #[cycle(copy)]
 #[tactic(auto, using(crate::proofs::Copied::copying))]
-fn copied_operand<R: TermReader>(
-    alloc: Global,
-    part: R,
-    index: usize,
-) -> Result<Option<Operand>, Refusal>
+fn copied_operand<R: TermReader>(alloc: Global, part: R, index: usize) -> Result<Option<Operand>>
     ensures { Answers (seen (option_map part_view) result) (Ok (operand_of (R.tree part) index)) }
 {
     match part.operand(index) {

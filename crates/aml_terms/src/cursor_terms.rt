@@ -23,7 +23,7 @@ use crate::skip::{opcode, skip_arguments, skip_else, skip_row_term, skip_target,
 use aml_marks::Marks;
 use aml_path::NameString;
 use aml_scan::{ELSE, RowPlace, row_place, starts_name};
-use ar_space::Refusal;
+use ar_space::Result;
 use std::alloc::Global;
 
 /// A term whose opcode was read: its operands begin at the cursor.
@@ -122,7 +122,7 @@ impl<'a> Cursor<'a> {
     }
 
     /// The name that begins here; the root where none does. Refused: `OutOfMemory`.
-    pub fn name(&self, alloc: Global) -> Result<NameString, Refusal>
+    pub fn name(&self, alloc: Global) -> Result<NameString>
         ensures { Answers result (Ok (a_name self.now).0) }
     {
         name_at(alloc, self)

@@ -16,7 +16,7 @@ use aml_grammar::{OperandKind, OperandView};
 use aml_marks::Marks;
 use aml_path::{NameString, Prefix};
 use aml_scan::{ELSE, read_name, starts_name, text_length};
-use ar_space::{NameFault, Refusal};
+use ar_space::{NameFault, Refusal, Result};
 use std::alloc::Global;
 
 /// What an operand is.
@@ -135,7 +135,7 @@ fn view_target<'a>(cursor: &Cursor<'a>, marks: &'a Marks, levels: u8) -> Operand
 
 /// The name that begins there; the root where none does.
 #[tactic(auto, using(crate::proofs::Named::naming), unfolding(aml_marked::specs::Marked::a_name))]
-pub(crate) fn name_at(alloc: Global, cursor: &Cursor<'_>) -> Result<NameString, Refusal>
+pub(crate) fn name_at(alloc: Global, cursor: &Cursor<'_>) -> Result<NameString>
     ensures { Answers result (Ok (a_name cursor.now).0) }
 {
     match read_name(alloc, cursor.at(), cursor.rest()) {
@@ -147,11 +147,7 @@ pub(crate) fn name_at(alloc: Global, cursor: &Cursor<'_>) -> Result<NameString, 
 
 /// The name at a spot.
 #[tactic(auto, using(crate::proofs::Named::naming), unfolding(aml_marked::specs::Marked::an_operand, aml_marked::specs::Marked::a_target, aml_marked::specs::Marked::a_super_name, aml_marked::specs::Marked::gives, aml_marked::specs::Marked::maybe_else))]
-pub(crate) fn name_here(
-    alloc: Global,
-    cursor: &Cursor<'_>,
-    spot: Spot,
-) -> Result<NameString, Refusal>
+pub(crate) fn name_here(alloc: Global, cursor: &Cursor<'_>, spot: Spot) -> Result<NameString>
     ensures { (count : ℕ → ℕ) → Answers result (name_of (Some (spot_part count spot cursor.now))) }
 {
     match spot {

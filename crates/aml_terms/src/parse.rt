@@ -9,7 +9,7 @@ use crate::places::list_at;
 use aml_grammar::{ArgumentCounts, Arities, Term};
 use aml_marks::{scan_list, scan_table_apart};
 use aml_path::Path;
-use ar_space::Refusal;
+use ar_space::Result;
 use std::alloc::Global;
 
 /// The terms of a list: of a table after its header, or, where `body` is true, of the body of a control method
@@ -24,7 +24,7 @@ pub fn parse_list<C: ArgumentCounts>(
     scope: &Path,
     body: bool,
     counts: &C,
-) -> Result<Vec<Term>, Refusal>
+) -> Result<Vec<Term>>
     ensures { Answers (seen (λ v. map tree_view v.items) result) (reading bytes.now scope.now body
         (C.counts counts.now)) }
 {
@@ -36,7 +36,7 @@ pub fn parse_list<C: ArgumentCounts>(
 /// declares are appended to `arities`. The faults are those of `parse_list`. Where it is refused, no name takes other
 /// arguments.
 #[tactic(auto, using(crate::proofs::Parsed::parsing))]
-pub fn parse_table(alloc: Global, bytes: &[u8], arities: &mut Arities) -> Result<Vec<Term>, Refusal>
+pub fn parse_table(alloc: Global, bytes: &[u8], arities: &mut Arities) -> Result<Vec<Term>>
     ensures table { Answers (seen (λ v. (map tree_view v.items, arities.new)) result)
         (table_reading bytes.now arities.old) }
     ensures refused { OnErr result (arities.new ≡ arities.old) }

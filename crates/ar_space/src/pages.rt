@@ -11,7 +11,7 @@ ghost use Rattle.ar_space.specs.PagePlaces.{place_of};
 ghost use Rattle.ar_space.specs.Runs.{with_bytes, number_from};
 
 use crate::page::Page;
-use crate::refusal::Refusal;
+use crate::refusal::{Refusal, Result};
 use std::alloc::Global;
 use std::collections::BTreeMap;
 
@@ -85,7 +85,7 @@ impl Pages {
 
     /// Where the page with a number stands, which is made without bytes if there is none: the last one from then on.
     /// Only want of memory for a new page refuses it, and then nothing changes.
-    fn find_or_make(&mut self, number: u64) -> Result<usize, Refusal>
+    fn find_or_make(&mut self, number: u64) -> Result<usize>
         ensures place { IfOk result (λ place. place_of (all_pages self.new) number ≡ Some place) }
         ensures made { OnOk result (StoodOrNew number (all_pages self.old) (all_pages self.new)) }
         ensures err { OnErr result (all_pages self.new ≡ all_pages self.old) }
@@ -115,7 +115,7 @@ impl Pages {
     }
 
     /// As `find_or_make`, with no search where it is the last one already.
-    fn place_to_put(&mut self, number: u64) -> Result<usize, Refusal>
+    fn place_to_put(&mut self, number: u64) -> Result<usize>
         ensures place { IfOk result (λ place. place_of (all_pages self.new) number ≡ Some place) }
         ensures made { OnOk result (StoodOrNew number (all_pages self.old) (all_pages self.new)) }
         ensures err { OnErr result (all_pages self.new ≡ all_pages self.old) }
@@ -129,7 +129,7 @@ impl Pages {
 
     /// Puts bytes from a place of a page on. Only want of memory for a new page refuses it, and then nothing changes.
     #[tactic(auto, using(crate::proofs::PagePlaces::within))]
-    pub(crate) fn put_all(&mut self, number: u64, at: usize, bytes: &[u8]) -> Result<(), Refusal>
+    pub(crate) fn put_all(&mut self, number: u64, at: usize, bytes: &[u8]) -> Result<()>
         requires { (at < 64) × (at + length bytes.now ≤ 64) }
         ensures ok { OnOk result (map_of_pages (all_pages self.new) ≡
             with_bytes (map_of_pages (all_pages self.old)) (64 * number + at) bytes.now) }

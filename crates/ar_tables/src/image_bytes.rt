@@ -4,7 +4,7 @@ ghost use Rattle.ar_space.specs.Outcome.{Answers, seen};
 ghost use Rattle.ar_tables.specs.Headers.{summed};
 ghost use Rattle.ar_tables.specs.ImageBytes.{bytes_at};
 
-use ar_space::{ByteMap, Refusal, TableFault};
+use ar_space::{ByteMap, Refusal, Result, TableFault};
 use std::alloc::Global;
 use std::marker::Model;
 
@@ -31,7 +31,7 @@ impl ImageBytes {
         image: &ByteMap,
         address: u64,
         count: usize,
-    ) -> Result<ImageBytes, Refusal>
+    ) -> Result<ImageBytes>
         ensures value { Answers result (bytes_at image.now address count) }
         ensures len { IfOk result (λ bytes. length bytes ≡ count) }
     {
@@ -59,14 +59,14 @@ impl ImageBytes {
 
     /// Whether the bytes add up to zero, modulo 256: `BadChecksum` where they don't.
     #[tactic(auto, using(ar_space::proofs::Outcomes::answering), unfolding(crate::specs::Headers::summed))]
-    pub(crate) fn summed(&self) -> Result<(), Refusal>
+    pub(crate) fn summed(&self) -> Result<()>
         ensures { Answers result (summed self.now) }
     {
         summed(self.as_slice())
     }
 }
 
-fn bytes_at(alloc: Global, image: &ByteMap, address: u64, count: usize) -> Result<Vec<u8>, Refusal>
+fn bytes_at(alloc: Global, image: &ByteMap, address: u64, count: usize) -> Result<Vec<u8>>
     ensures value { Answers (seen (λ v. v.items) result) (bytes_at image.now address count) }
     ensures len { IfOk result (λ v. length v.items ≡ count) }
 {
@@ -79,7 +79,7 @@ fn bytes_at(alloc: Global, image: &ByteMap, address: u64, count: usize) -> Resul
 
 /// Whether bytes add up to zero, modulo 256.
 #[tactic(auto, using(ar_space::proofs::Outcomes::answering), unfolding(crate::specs::Headers::summed))]
-pub(crate) fn summed(bytes: &[u8]) -> Result<(), Refusal>
+pub(crate) fn summed(bytes: &[u8]) -> Result<()>
     ensures { Answers result (summed bytes.now) }
 {
     let mut sum = 0u8;

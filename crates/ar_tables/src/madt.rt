@@ -6,7 +6,7 @@ ghost use Rattle.ar_tables.specs.Structures.{begins_well, least_length, entry_in
 ghost use Rattle.ar_tables.specs.Structures.{entries_in, structures_of, well_structured};
 
 use crate::table::Table;
-use ar_space::{Refusal, TableFault};
+use ar_space::{Refusal, Result, TableFault};
 use byteorder::{ByteOrder, LittleEndian};
 use std::marker::Model;
 
@@ -190,7 +190,7 @@ fn entry_in(bytes: &[u8]) -> Option<MadtEntry>
 
 /// Whether each structure of a MADT is as long as its type needs and the last ends with the table: else `BadLength`.
 #[tactic(auto, using(ar_space::proofs::Outcomes::answering), unfolding(crate::specs::Structures::well_structured))]
-pub(crate) fn well_structured(table: &Table) -> Result<(), Refusal>
+pub(crate) fn well_structured(table: &Table) -> Result<()>
     requires { 44 ≤ length table.now }
     ensures value { Answers result (well_structured table.now) }
     ensures structured { IfOk result (λ _. are_structures (structures_of table.now) ≡ true) }

@@ -5,7 +5,7 @@ ghost use Rattle.ar_tables.specs.RootPointers.{is_extended, rsdp_signed, rsdp_le
 ghost use Rattle.ar_tables.specs.RootPointers.{first_root, extended_root, root_by, root_pointer};
 
 use crate::image_bytes::{ImageBytes, summed};
-use ar_space::{ByteMap, Refusal, TableFault};
+use ar_space::{ByteMap, Refusal, Result, TableFault};
 use byteorder::{ByteOrder, LittleEndian};
 use std::alloc::Global;
 
@@ -48,11 +48,7 @@ pub(crate) struct RootPointer {
 /// It is tested in this order: `NotInImage` where a byte of the first 20 (from revision 2 on: 36) is not in the image,
 /// `BadSignature`, `BadLength`, `NotInImage` where another byte isn't, `BadChecksum` of the first 20 bytes or of all.
 #[tactic(auto, using(ar_space::proofs::Outcomes::answering), unfolding(crate::specs::RootPointers::root_pointer))]
-pub(crate) fn root_pointer(
-    alloc: Global,
-    image: &ByteMap,
-    address: u64,
-) -> Result<RootPointer, Refusal>
+pub(crate) fn root_pointer(alloc: Global, image: &ByteMap, address: u64) -> Result<RootPointer>
     ensures { Answers result (root_pointer image.now address) }
 {
     let first = ImageBytes::read(alloc, image, address, FIRST_BYTES)?;
@@ -60,12 +56,7 @@ pub(crate) fn root_pointer(
 }
 
 #[tactic(auto, using(ar_space::proofs::Outcomes::answering))]
-fn root_by(
-    alloc: Global,
-    image: &ByteMap,
-    address: u64,
-    first: &ImageBytes,
-) -> Result<RootPointer, Refusal>
+fn root_by(alloc: Global, image: &ByteMap, address: u64, first: &ImageBytes) -> Result<RootPointer>
     requires { length first.now ≡ FIRST_BYTES }
     ensures { Answers result (root_by image.now address first.now) }
 {
@@ -78,7 +69,7 @@ fn root_by(
 
 /// The RSDT of an RSDP of revision 0 or 1.
 #[tactic(auto, using(ar_space::proofs::Outcomes::answering), unfolding(crate::specs::RootPointers::first_root))]
-fn first_root(rsdp: &ImageBytes) -> Result<RootPointer, Refusal>
+fn first_root(rsdp: &ImageBytes) -> Result<RootPointer>
     requires { FIRST_BYTES ≤ length rsdp.now }
     ensures { Answers result (first_root rsdp.now) }
 {
@@ -89,7 +80,7 @@ fn first_root(rsdp: &ImageBytes) -> Result<RootPointer, Refusal>
 
 /// The table that an RSDP of revision 2 or later leads to.
 #[tactic(auto, using(ar_space::proofs::Outcomes::answering), unfolding(crate::specs::RootPointers::extended_root))]
-fn extended_root(alloc: Global, image: &ByteMap, address: u64) -> Result<RootPointer, Refusal>
+fn extended_root(alloc: Global, image: &ByteMap, address: u64) -> Result<RootPointer>
     ensures { Answers result (extended_root image.now address) }
 {
     let header = ImageBytes::read(alloc, image, address, EXTENDED_BYTES)?;
@@ -102,7 +93,7 @@ fn extended_root(alloc: Global, image: &ByteMap, address: u64) -> Result<RootPoi
 }
 
 #[tactic(auto, using(ar_space::proofs::Outcomes::answering), unfolding(crate::specs::RootPointers::rsdp_signed))]
-fn rsdp_signed(rsdp: &ImageBytes) -> Result<(), Refusal>
+fn rsdp_signed(rsdp: &ImageBytes) -> Result<()>
     requires { FIRST_BYTES ≤ length rsdp.now }
     ensures { Answers result (rsdp_signed rsdp.now) }
 {
@@ -114,7 +105,7 @@ fn rsdp_signed(rsdp: &ImageBytes) -> Result<(), Refusal>
 }
 
 #[tactic(auto, using(ar_space::proofs::Outcomes::answering), unfolding(crate::specs::RootPointers::rsdp_length))]
-fn rsdp_length(rsdp: &ImageBytes) -> Result<usize, Refusal>
+fn rsdp_length(rsdp: &ImageBytes) -> Result<usize>
     requires { EXTENDED_BYTES ≤ length rsdp.now }
     ensures value { Answers result (rsdp_length rsdp.now) }
     ensures least { IfOk result (λ count. EXTENDED_BYTES ≤ count) }
@@ -128,7 +119,7 @@ fn rsdp_length(rsdp: &ImageBytes) -> Result<usize, Refusal>
 }
 
 #[tactic(auto, using(ar_space::proofs::Outcomes::answering), unfolding(crate::specs::RootPointers::first_summed))]
-fn first_summed(rsdp: &ImageBytes) -> Result<(), Refusal>
+fn first_summed(rsdp: &ImageBytes) -> Result<()>
     requires { FIRST_BYTES ≤ length rsdp.now }
     ensures { Answers result (first_summed rsdp.now) }
 {

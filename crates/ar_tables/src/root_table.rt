@@ -9,7 +9,7 @@ ghost use Rattle.ar_tables.specs.Lists.{listed, is_kind, addresses_of, few};
 use crate::image_bytes::ImageBytes;
 use crate::root_pointer::RootKind;
 use crate::table::{RSDT_ADDRESS_BYTES, Table, TableKind, XSDT_ADDRESS_BYTES};
-use ar_space::{ByteMap, Refusal, TableFault};
+use ar_space::{ByteMap, Refusal, Result, TableFault};
 use byteorder::{ByteOrder, LittleEndian};
 use std::alloc::{AllocError, Global};
 use std::marker::Model;
@@ -70,7 +70,7 @@ impl Model for Addresses {
 
 impl Addresses {
     /// The addresses that a root table lists, those that are zero left out.
-    fn read(alloc: Global, root: RootKind, table: &Table) -> Result<Addresses, Refusal>
+    fn read(alloc: Global, root: RootKind, table: &Table) -> Result<Addresses>
         ensures { Answers result (Ok (addresses_in root (drop 36 table.now))) }
     {
         let items = addresses_in(alloc, root, table.body())?;
@@ -144,7 +144,7 @@ pub(crate) struct Entry {
 }
 
 #[tactic(auto, using(ar_space::proofs::Outcomes::answering), unfolding(crate::specs::Lists::entry_at))]
-fn entry_at(alloc: Global, image: &ByteMap, address: u64) -> Result<Entry, Refusal>
+fn entry_at(alloc: Global, image: &ByteMap, address: u64) -> Result<Entry>
     ensures { Answers result (entry_at image.now address) }
 {
     let signature = ImageBytes::read(alloc, image, address, SIGNATURE_BYTES)?;
@@ -177,7 +177,7 @@ impl Entries {
         image: &ByteMap,
         root: RootKind,
         table: &Table,
-    ) -> Result<Entries, Refusal>
+    ) -> Result<Entries>
         ensures { Answers result (listed image.now root table.now) }
     {
         let addresses = Addresses::read(alloc, root, table)?;
@@ -185,7 +185,7 @@ impl Entries {
     }
 
     /// The addresses of the tables of one kind.
-    pub(crate) fn addresses(&self, alloc: Global, kind: EntryKind) -> Result<Addresses, Refusal>
+    pub(crate) fn addresses(&self, alloc: Global, kind: EntryKind) -> Result<Addresses>
         ensures { Answers result (Ok (addresses_of kind self.now)) }
     {
         let items = addresses_of(alloc, self.items.as_slice(), kind)?;
@@ -194,14 +194,14 @@ impl Entries {
 }
 
 #[tactic(auto, using(ar_space::proofs::Outcomes::answering))]
-fn entries_at(alloc: Global, image: &ByteMap, addresses: &Addresses) -> Result<Entries, Refusal>
+fn entries_at(alloc: Global, image: &ByteMap, addresses: &Addresses) -> Result<Entries>
     ensures { Answers result (entries_at image.now addresses.now) }
 {
     let items = each_entry(alloc, image, addresses.as_slice())?;
     Ok(Entries { items })
 }
 
-fn each_entry(alloc: Global, image: &ByteMap, addresses: &[u64]) -> Result<Vec<Entry>, Refusal>
+fn each_entry(alloc: Global, image: &ByteMap, addresses: &[u64]) -> Result<Vec<Entry>>
     ensures { Answers (seen (λ v. v.items) result) (entries_at image.now addresses.now) }
 {
     let mut entries = Vec::new(alloc);
@@ -223,7 +223,7 @@ fn addresses_of(alloc: Global, entries: &[Entry], kind: EntryKind) -> Result<Vec
 
 /// Whether the SSDTs are no more than there may be.
 #[tactic(auto, using(ar_space::proofs::Outcomes::answering), unfolding(crate::specs::Lists::few))]
-pub(crate) fn few(addresses: &Addresses) -> Result<(), Refusal>
+pub(crate) fn few(addresses: &Addresses) -> Result<()>
     ensures { Answers result (few addresses.now) }
 {
     if addresses.as_slice().len() <= MAX_SSDTS {

@@ -4,7 +4,7 @@ ghost use Rattle.ar_space.specs.Outcome.{Answers};
 ghost use Rattle.ar_tables.specs.Headers.{signature_of, is_length, signed, length_in, summed, table_at};
 
 use crate::image_bytes::ImageBytes;
-use ar_space::{ByteMap, Refusal, TableFault};
+use ar_space::{ByteMap, Refusal, Result, TableFault};
 use byteorder::{ByteOrder, LittleEndian};
 use std::alloc::Global;
 use std::marker::Model;
@@ -140,7 +140,7 @@ pub(crate) fn table_at(
     image: &ByteMap,
     kind: TableKind,
     address: u64,
-) -> Result<Table, Refusal>
+) -> Result<Table>
     ensures value { Answers result (table_at image.now kind address) }
     ensures len { IfOk result (λ t. is_length kind (length t) ≡ true) }
 {
@@ -154,7 +154,7 @@ pub(crate) fn table_at(
 
 /// Whether a header has the signature of the table.
 #[tactic(auto, using(ar_space::proofs::Outcomes::answering), unfolding(crate::specs::Headers::signed))]
-fn signed(kind: TableKind, header: &ImageBytes) -> Result<(), Refusal>
+fn signed(kind: TableKind, header: &ImageBytes) -> Result<()>
     requires { 36 ≤ length header.now }
     ensures { Answers result (signed kind header.now) }
 {
@@ -167,7 +167,7 @@ fn signed(kind: TableKind, header: &ImageBytes) -> Result<(), Refusal>
 
 /// The length of the table, by its header.
 #[tactic(auto, using(ar_space::proofs::Outcomes::answering), unfolding(crate::specs::Headers::length_in))]
-fn length_in(kind: TableKind, header: &ImageBytes) -> Result<usize, Refusal>
+fn length_in(kind: TableKind, header: &ImageBytes) -> Result<usize>
     requires { 36 ≤ length header.now }
     ensures value { Answers result (length_in kind header.now) }
     ensures len { IfOk result (λ count. is_length kind count ≡ true) }

@@ -9,7 +9,7 @@ use crate::madt::{Madt, well_structured};
 use crate::root_pointer::{RootKind, RootPointer, root_pointer};
 use crate::root_table::{Addresses, Entries, EntryKind, few};
 use crate::table::{Table, TableKind, table_at};
-use ar_space::{ByteMap, IntegerWidth, Refusal, TableFault};
+use ar_space::{ByteMap, IntegerWidth, Refusal, Result, TableFault};
 use std::alloc::Global;
 use std::marker::Model;
 
@@ -77,7 +77,7 @@ pub struct Tables {
 /// image, `BadSignature`, `BadLength`, `NotInImage` where another byte isn't, `BadChecksum`. A byte past the last
 /// address, 2^64 - 1, is in no image. `OutOfMemory` where memory runs out.
 #[tactic(auto, using(ar_space::proofs::Outcomes::answering), unfolding(crate::specs::FindTables::tables_of))]
-pub fn find_tables(alloc: Global, image: &ByteMap, rsdp: u64) -> Result<Tables, Refusal>
+pub fn find_tables(alloc: Global, image: &ByteMap, rsdp: u64) -> Result<Tables>
     ensures { Answers result (tables_of image.now rsdp) }
 {
     let root = root_pointer(alloc, image, rsdp)?;
@@ -88,7 +88,7 @@ pub fn find_tables(alloc: Global, image: &ByteMap, rsdp: u64) -> Result<Tables, 
 
 /// The RSDT or XSDT.
 #[tactic(auto, using(ar_space::proofs::Outcomes::answering), unfolding(crate::specs::FindTables::root_table))]
-fn root_table(alloc: Global, image: &ByteMap, root: &RootPointer) -> Result<Table, Refusal>
+fn root_table(alloc: Global, image: &ByteMap, root: &RootPointer) -> Result<Table>
     ensures { Answers result (root_table image.now root.now) }
 {
     match root.kind {
@@ -99,7 +99,7 @@ fn root_table(alloc: Global, image: &ByteMap, root: &RootPointer) -> Result<Tabl
 
 /// The tables by the list of them.
 #[tactic(auto, using(ar_space::proofs::Outcomes::answering), unfolding(crate::specs::FindTables::tables_in))]
-fn tables_in(alloc: Global, image: &ByteMap, entries: &Entries) -> Result<Tables, Refusal>
+fn tables_in(alloc: Global, image: &ByteMap, entries: &Entries) -> Result<Tables>
     ensures { Answers result (tables_in image.now entries.now) }
 {
     let ssdt_addresses = entries.addresses(alloc, EntryKind::Ssdt)?;
@@ -122,7 +122,7 @@ fn tables_in(alloc: Global, image: &ByteMap, entries: &Entries) -> Result<Tables
 
 /// The first FADT of the list.
 #[tactic(auto, using(ar_space::proofs::Outcomes::answering), unfolding(crate::specs::FindTables::fadt_at))]
-fn fadt_at(alloc: Global, image: &ByteMap, addresses: &Addresses) -> Result<Fadt, Refusal>
+fn fadt_at(alloc: Global, image: &ByteMap, addresses: &Addresses) -> Result<Fadt>
     ensures { Answers result (fadt_at image.now addresses.now) }
 {
     match addresses.as_slice() {
@@ -133,7 +133,7 @@ fn fadt_at(alloc: Global, image: &ByteMap, addresses: &Addresses) -> Result<Fadt
 
 /// The DSDT that the FADT names.
 #[tactic(auto, using(ar_space::proofs::Outcomes::answering), unfolding(crate::specs::FindTables::dsdt_at))]
-fn dsdt_at(alloc: Global, image: &ByteMap, fadt: &Fadt) -> Result<Table, Refusal>
+fn dsdt_at(alloc: Global, image: &ByteMap, fadt: &Fadt) -> Result<Table>
     ensures { Answers result (dsdt_at image.now fadt.now) }
 {
     let address = fadt.dsdt_address();
@@ -145,14 +145,14 @@ fn dsdt_at(alloc: Global, image: &ByteMap, fadt: &Fadt) -> Result<Table, Refusal
 
 /// Every SSDT of the list.
 #[tactic(auto, using(ar_space::proofs::Outcomes::answering))]
-fn ssdts_at(alloc: Global, image: &ByteMap, addresses: &Addresses) -> Result<Ssdts, Refusal>
+fn ssdts_at(alloc: Global, image: &ByteMap, addresses: &Addresses) -> Result<Ssdts>
     ensures { Answers result (ssdts_at image.now addresses.now) }
 {
     let tables = each_ssdt(alloc, image, addresses.as_slice())?;
     Ok(Ssdts { tables })
 }
 
-fn each_ssdt(alloc: Global, image: &ByteMap, addresses: &[u64]) -> Result<Vec<Table>, Refusal>
+fn each_ssdt(alloc: Global, image: &ByteMap, addresses: &[u64]) -> Result<Vec<Table>>
     ensures { Answers (seen (λ v. v.items) result) (ssdts_at image.now addresses.now) }
 {
     let mut tables = Vec::new(alloc);
@@ -164,7 +164,7 @@ fn each_ssdt(alloc: Global, image: &ByteMap, addresses: &[u64]) -> Result<Vec<Ta
 
 /// The first MADT of the list, if there is one.
 #[tactic(auto, using(ar_space::proofs::Outcomes::answering), unfolding(crate::specs::FindTables::madt_at))]
-fn madt_at(alloc: Global, image: &ByteMap, addresses: &Addresses) -> Result<Option<Madt>, Refusal>
+fn madt_at(alloc: Global, image: &ByteMap, addresses: &Addresses) -> Result<Option<Madt>>
     ensures { Answers result (madt_at image.now addresses.now) }
 {
     match addresses.as_slice() {
@@ -175,7 +175,7 @@ fn madt_at(alloc: Global, image: &ByteMap, addresses: &Addresses) -> Result<Opti
 
 /// The MADT at an address, with the test of its structures.
 #[tactic(auto, using(ar_space::proofs::Outcomes::answering), unfolding(crate::specs::FindTables::structured_madt))]
-fn structured_madt(alloc: Global, image: &ByteMap, address: u64) -> Result<Option<Madt>, Refusal>
+fn structured_madt(alloc: Global, image: &ByteMap, address: u64) -> Result<Option<Madt>>
     ensures { Answers result (structured_madt image.now address) }
 {
     let table = table_at(alloc, image, TableKind::Madt, address)?;

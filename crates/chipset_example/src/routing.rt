@@ -2,7 +2,7 @@
 use crate::chipset::Chipset;
 use acpi_configure::{Options, configure_with};
 use acpi_machine::{EvaluationSettings, Machine, Mode, Nesting, Profile, load_tables_as};
-use ar_space::{Refusal, Space, SpaceFault};
+use ar_space::{Refusal, Result, Space, SpaceFault};
 use machine_description::read_description;
 use recorded_route::{Access, Ending, Exchange, Settings, configure_recorded};
 use route_report::{Report, print};
@@ -23,7 +23,7 @@ const SETTINGS: Settings = Settings {
 };
 
 /// The tables in the memory of a machine text, over the registers of a chipset.
-fn machine(alloc: Global, text: &[u8]) -> Result<Machine<Chipset>, Refusal> {
+fn machine(alloc: Global, text: &[u8]) -> Result<Machine<Chipset>> {
     let machine = read_description(alloc, text)?;
     match load_tables_as(
         alloc,

@@ -6,7 +6,7 @@ use crate::telling::{push_datum, say_value};
 use aml_meaning::{Datum, World};
 use aml_objects::Value;
 use aml_path::Path;
-use ar_space::{Refusal, Sparse};
+use ar_space::{Result, Sparse};
 use row_words::{extend, path, path_of, refuse, say_accesses, say_done};
 use space_trace::Traced;
 use std::alloc::Global;
@@ -21,7 +21,7 @@ fn loaded(
     world: &mut World<Traced<Sparse>>,
     table: &[u8],
     steps: u64,
-) -> Result<(), Refusal> {
+) -> Result<()> {
     aml_interp::load(alloc, world, table, steps)
 }
 
@@ -81,12 +81,12 @@ fn answered(
     path: &Path,
     arguments: Vec<Datum>,
     steps: u64,
-) -> Result<Datum, Refusal> {
+) -> Result<Datum> {
     aml_interp::answer(alloc, world, path, arguments, steps)
 }
 
 /// Answers a datum, or the refusal.
-pub fn say_answered(asked: &mut Exchange, outcome: Result<Datum, Refusal>) {
+pub fn say_answered(asked: &mut Exchange, outcome: Result<Datum>) {
     match outcome {
         Ok(datum) => push_datum(asked, &datum),
         Err(refusal) => refuse(asked, refusal),
@@ -119,7 +119,7 @@ pub fn valued(
     path: &Path,
     arguments: Vec<Value>,
     steps: u64,
-) -> Result<(Value, u64), Refusal> {
+) -> Result<(Value, u64)> {
     aml_interp::eval(alloc, world, path, arguments, steps)
 }
 

@@ -9,7 +9,7 @@ use acpi_prt::{Pin, Route, get_irq_routing_table};
 use aml_meaning::Datum;
 use aml_objects::Octets;
 use aml_path::Path;
-use ar_space::{Refusal, Sparse};
+use ar_space::{Result, Sparse};
 use row_words::{count, path, push_path, refuse, say_done};
 use std::alloc::Global;
 use test_rows::Exchange;
@@ -27,7 +27,7 @@ fn say_nodes(asked: &mut Exchange, nodes: &[(Path, Kind<'_>)]) {
 }
 
 /// All names but the root, in the order of their paths, and what stands there.
-fn walked(alloc: Global, machine: &Machine<Sparse>) -> Result<Vec<(Path, Kind<'_>)>, Refusal> {
+fn walked(alloc: Global, machine: &Machine<Sparse>) -> Result<Vec<(Path, Kind<'_>)>> {
     machine.walk_namespace(alloc)
 }
 
@@ -86,7 +86,7 @@ fn mode(asked: &mut Exchange, mode: Mode) {
 const MODES: [(&str, Mode); 2] = [("pic", Mode::Pic), ("apic", Mode::Apic)];
 
 /// Tells the firmware the mode.
-fn initialized(alloc: Global, machine: &mut Machine<Sparse>, mode: Mode) -> Result<(), Refusal> {
+fn initialized(alloc: Global, machine: &mut Machine<Sparse>, mode: Mode) -> Result<()> {
     machine.initialize(alloc, mode)
 }
 
@@ -104,7 +104,7 @@ fn evaluated(
     machine: &mut Machine<Sparse>,
     path: &Path,
     arguments: Vec<Datum>,
-) -> Result<Datum, Refusal> {
+) -> Result<Datum> {
     machine.evaluate_object(alloc, path, arguments)
 }
 
@@ -117,7 +117,7 @@ fn evaluate(asked: &mut Exchange, machine: &mut Machine<Sparse>) {
 }
 
 /// Has `_OSI` know these texts, and no other.
-fn known(machine: &mut Machine<Sparse>, texts: Vec<Octets>) -> Result<(), Refusal> {
+fn known(machine: &mut Machine<Sparse>, texts: Vec<Octets>) -> Result<()> {
     machine.set_osi(texts)
 }
 
@@ -164,11 +164,7 @@ fn say_pins(asked: &mut Exchange, pins: &[Pin]) {
 }
 
 /// The pins of the routing table below a device.
-fn routed(
-    alloc: Global,
-    machine: &mut Machine<Sparse>,
-    device: &Path,
-) -> Result<Vec<Pin>, Refusal> {
+fn routed(alloc: Global, machine: &mut Machine<Sparse>, device: &Path) -> Result<Vec<Pin>> {
     get_irq_routing_table(alloc, machine, device)
 }
 

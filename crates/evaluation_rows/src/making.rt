@@ -3,7 +3,7 @@ use crate::evaluation::Evaluation;
 use acpi_machine::{Machine, load_tables};
 use aml_meaning::World;
 use aml_objects::Octets;
-use ar_space::{IntegerWidth, Refusal, Sparse};
+use ar_space::{IntegerWidth, Refusal, Result, Sparse};
 use ar_tables::{Image, Tables, find_tables};
 use row_words::{refuse, say_done};
 use space_trace::Traced;
@@ -100,7 +100,7 @@ fn put_image(asked: &mut Exchange, image: &mut Image) {
 }
 
 /// The tables that are found from the address of the RSDP on.
-fn found(alloc: Global, image: &Image, rsdp: u64) -> Result<Tables, Refusal> {
+fn found(alloc: Global, image: &Image, rsdp: u64) -> Result<Tables> {
     find_tables(alloc, image, rsdp)
 }
 

@@ -5,7 +5,7 @@ use aml_meaning::World;
 use aml_namespace::Names;
 use aml_objects::NamedObject;
 use aml_path::{NameString, Path, Prefix};
-use ar_space::{IntegerWidth, Refusal, Sparse};
+use ar_space::{IntegerWidth, Result, Sparse};
 use row_words::{path, refuse, say_word_and_number};
 use space_trace::Traced;
 use test_rows::Exchange;
@@ -38,11 +38,7 @@ fn lookup(asked: &mut Exchange, names: &Names) {
 }
 
 /// Declares a name.
-fn declared(
-    world: &mut World<Traced<Sparse>>,
-    path: Path,
-    object: NamedObject,
-) -> Result<u64, Refusal> {
+fn declared(world: &mut World<Traced<Sparse>>, path: Path, object: NamedObject) -> Result<u64> {
     world.running.world.declare(path, object)
 }
 

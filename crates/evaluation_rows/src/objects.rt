@@ -3,10 +3,9 @@ use crate::reading::{number, octets, slot, value};
 use crate::telling::{say_content, say_outcome};
 use aml_meaning::World;
 use aml_objects::{Element, Elements, Value};
-use ar_space::{Refusal, Sparse};
+use ar_space::{Result, Sparse};
 use row_words::{object_number, refuse, say_done, say_word_and_number};
 use space_trace::Traced;
-use std::alloc::Global;
 use test_rows::Exchange;
 
 /// `string BYTES`: a new string.
@@ -38,7 +37,7 @@ fn new_package(asked: &mut Exchange, world: &mut World<Traced<Sparse>>) {
 /// `copy VALUE`: a deep copy of a value.
 fn copy(asked: &mut Exchange, world: &mut World<Traced<Sparse>>) {
     let value = value(asked);
-    let outcome = world.running.world.copy(asked.alloc(), value);
+    let outcome = world.running.world.copy(value);
     say_outcome(asked, outcome);
 }
 
@@ -49,18 +48,14 @@ fn contents(asked: &mut Exchange, world: &World<Traced<Sparse>>) {
 }
 
 /// The elements of the package with a number.
-fn elements(
-    alloc: Global,
-    world: &World<Traced<Sparse>>,
-    object: u32,
-) -> Result<Elements, Refusal> {
-    world.running.world.elements(alloc, object)
+fn elements(world: &World<Traced<Sparse>>, object: u32) -> Result<Elements> {
+    world.running.world.elements(object)
 }
 
 /// `count OBJECT`: how many elements the package with this number has.
 fn count(asked: &mut Exchange, world: &World<Traced<Sparse>>) {
     let object = object_number(asked);
-    match elements(asked.alloc(), world, object) {
+    match elements(world, object) {
         Ok(elements) => asked.say_number(elements.as_slice().len() as u64),
         Err(refusal) => refuse(asked, refusal),
     }

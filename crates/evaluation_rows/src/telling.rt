@@ -1,7 +1,7 @@
 //! Answers in words: what evaluation hands out, and values of a world.
 use aml_meaning::Datum;
 use aml_objects::{Content, Reference, Slot, Value};
-use ar_space::Refusal;
+use ar_space::Result;
 use row_words::{push_path, refuse, say_word_and_number};
 use test_rows::Exchange;
 
@@ -112,7 +112,7 @@ pub fn say_value(asked: &mut Exchange, value: Value) {
 }
 
 /// Answers a value of a world, or the refusal.
-pub fn say_outcome(asked: &mut Exchange, outcome: Result<Value, Refusal>) {
+pub fn say_outcome(asked: &mut Exchange, outcome: Result<Value>) {
     match outcome {
         Ok(value) => say_value(asked, value),
         Err(refusal) => refuse(asked, refusal),

@@ -2,7 +2,7 @@
 use crate::promise::{Ended, answered, is_spent};
 use acpi_machine::{Machine, Mode};
 use aml_path::Path;
-use ar_space::{Refusal, Sparse};
+use ar_space::{Result, Sparse};
 use std::alloc::Global;
 
 /// An object that every machine of these calls has.
@@ -41,7 +41,7 @@ pub(crate) fn of_machine<T: Drop>(
     alloc: Global,
     machine: &mut Machine<Sparse>,
     call: &'static str,
-    came: Result<T, Refusal>,
+    came: Result<T>,
 ) -> Result<T, Ended> {
     match answered(call, came) {
         Err(Ended::OutOfMemory) => Err(after_want(alloc, machine, true, call)),
@@ -55,7 +55,7 @@ pub(crate) fn over_machine<T: Drop>(
     alloc: Global,
     machine: &mut Machine<Sparse>,
     call: &'static str,
-    came: Result<T, Refusal>,
+    came: Result<T>,
 ) -> Result<T, Ended> {
     match answered(call, came) {
         Err(Ended::OutOfMemory) => Err(after_want(alloc, machine, false, call)),

@@ -1,5 +1,5 @@
 //! What is promised where memory runs out.
-use ar_space::{MachineFault, Refusal};
+use ar_space::{MachineFault, Refusal, Result};
 
 /// Why the calls end before the last one.
 pub(crate) enum Ended {
@@ -10,7 +10,7 @@ pub(crate) enum Ended {
 }
 
 /// The value of a call that ample memory lets answer: any refusal but want of memory breaks the promise.
-pub(crate) fn answered<T: Drop>(call: &'static str, came: Result<T, Refusal>) -> Result<T, Ended> {
+pub(crate) fn answered<T: Drop>(call: &'static str, came: Result<T>) -> Result<T, Ended> {
     match came {
         Ok(value) => Ok(value),
         Err(Refusal::OutOfMemory) => Err(Ended::OutOfMemory),
@@ -19,6 +19,6 @@ pub(crate) fn answered<T: Drop>(call: &'static str, came: Result<T, Refusal>) ->
 }
 
 /// Whether a call was refused because an earlier one ran out of memory.
-pub(crate) fn is_spent<T>(came: &Result<T, Refusal>) -> bool {
+pub(crate) fn is_spent<T>(came: &Result<T>) -> bool {
     matches!(came, Err(Refusal::Machine(MachineFault::Spent)))
 }

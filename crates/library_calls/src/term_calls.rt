@@ -7,7 +7,7 @@ use aml_terms::{
     Arities, Mark, Marks, OperandView, TermReader, first_term, lent_bytes, list_at, parse_list,
     parse_table, read_name, scan_list, scan_table,
 };
-use ar_space::Refusal;
+use ar_space::Result;
 use std::alloc::Global;
 
 /// Method (EFGH, 1) {Return (Arg0)}, and a call of it.
@@ -20,11 +20,7 @@ const CALL: usize = 4;
 const RETURN: u16 = 0xA4;
 
 /// What a call comes to that reads a table: where it is refused, no name takes arguments.
-fn of_table<T: Drop>(
-    call: &'static str,
-    came: Result<T, Refusal>,
-    known: &Arities,
-) -> Result<T, Ended> {
+fn of_table<T: Drop>(call: &'static str, came: Result<T>, known: &Arities) -> Result<T, Ended> {
     if came.is_ok() == known.is_empty() {
         return Err(Ended::Broken(call));
     }

@@ -5,7 +5,7 @@ ghost use Rattle.ar_tables.specs.FindTables.{tables_of};
 ghost use Rattle.machine_description.specs.Descriptions.{described};
 
 use aml_objects::Octets;
-use ar_space::{Refusal, Sparse};
+use ar_space::{Result, Sparse};
 use ar_tables::{Tables, find_tables};
 use machine_text::{MachineText, read_machine};
 use std::alloc::{AllocError, Global};
@@ -33,7 +33,7 @@ fn octets(alloc: Global, texts: Vec<Vec<u8>>) -> Result<Vec<Octets>, AllocError>
 }
 
 /// What a machine is loaded from, of a text that was read. It is refused as `find_tables` refuses its memory.
-pub fn describe(alloc: Global, said: MachineText) -> Result<MachineDescription, Refusal>
+pub fn describe(alloc: Global, said: MachineText) -> Result<MachineDescription>
     ensures tables { Answers (seen (λ d. d.tables) result) (tables_of said.space.memory said.rsdp) }
     ensures osi { IfOk result (λ d. d.osi.items ≡ said.osi) }
     ensures registers { IfOk result (λ d. d.registers ≡ said.space) }
@@ -55,7 +55,7 @@ pub fn describe(alloc: Global, said: MachineText) -> Result<MachineDescription, 
 /// let loaded = load_tables(alloc, machine.tables, machine.registers, 1_000_000, machine.osi);
 /// ```
 #[tactic(auto, using(ar_space::proofs::Outcomes::answering), unfolding(crate::specs::Descriptions::described))]
-pub fn read_description(alloc: Global, text: &[u8]) -> Result<MachineDescription, Refusal>
+pub fn read_description(alloc: Global, text: &[u8]) -> Result<MachineDescription>
     ensures { Answers (seen (λ d. (d.tables, (d.osi.items, d.registers))) result) (described text.now) }
 {
     let said = read_machine(alloc, text)?;

@@ -108,6 +108,13 @@ numbers_told x d items behind (irq low high flags) so = rw so (ap (λ (m : ℕ).
 numbers_told x d items behind (extended flags count numbers is) so = rw (exact count numbers is, all_taken (4 * count) numbers is, so) refl
 numbers_told x d items behind (sourced flags count first numbers source is) so = rw (enough count numbers is first source, front_taken (4 * count) numbers (first ∷ source) is, so) refl
 
+pub refused_numbers_told : (item : ResourceItem) (d : InterruptDescriptor) (e : Refusal) (items : List ResourceItem) → IsInterrupts item d → all_numbers items ≡ Err e → all_numbers (item ∷ items) ≡ Err e
+unfolding all_numbers numbers_from descriptor_of extended_interrupt_descriptor outcomes.◌>>=◌
+refused_numbers_told x d e items (irq_without_flags low high) so = rw so refl
+refused_numbers_told x d e items (irq low high flags) so = rw so refl
+refused_numbers_told x d e items (extended flags count numbers is) so = rw (exact count numbers is, so) refl
+refused_numbers_told x d e items (sourced flags count first numbers source is) so = rw (enough count numbers is first source, so) refl
+
 -- ---- other items
 
 pub short_told : (exclusives : Exclusives) (item : ResourceItem) (found : Option InterruptOffer) (items : List ResourceItem) → IsShort item → offered exclusives found (item ∷ items) ≡ Err (Resource (fault.Descriptor 0x89))
@@ -133,6 +140,14 @@ end_of_none_told exclusives body items = refl
 pub end_of_numbers_told : (body : List ℕ) (items : List ResourceItem) → all_numbers (item_of 0x79 body ∷ items) ≡ Ok []
 unfolding all_numbers numbers_from descriptor_of outcomes.◌>>=◌
 end_of_numbers_told body items = refl
+
+pub no_end_told : (exclusives : Exclusives) (found : Option InterruptOffer) → offered exclusives found [] ≡ Err (Resource fault.NoEnd)
+unfolding offered
+no_end_told exclusives found = refl
+
+pub no_end_of_numbers_told : all_numbers [] ≡ Err (Resource fault.NoEnd)
+unfolding all_numbers
+no_end_of_numbers_told = refl
 
 pub dependent_told : (exclusives : Exclusives) (tag : ℕ) (body : List ℕ) (found : Option InterruptOffer) (items : List ResourceItem) → IsDependent tag → offered exclusives found (item_of tag body ∷ items) ≡ Err (Resource fault.Dependent)
 unfolding offered offered_from descriptor_of outcomes.◌>>=◌

@@ -32,6 +32,7 @@ pub mod MachinesTogether
 pub mod BusesTogether
 pub mod MachinesWidened
 pub mod NumbersTold
+pub mod OffersTold
 pub mod OneOfList
 pub mod OthersTogether
 pub mod FoundTogether

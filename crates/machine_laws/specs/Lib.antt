@@ -4,6 +4,7 @@ pub mod Evaluated
 pub mod Initializing
 pub mod InterruptFlags
 pub mod InterruptItems
+pub mod InterruptOffers
 pub mod KernelLines
 pub mod LinkObjects
 pub mod LoadedInTurn

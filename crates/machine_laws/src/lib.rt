@@ -23,7 +23,10 @@ pub use depths::{
     a_machine_that_allows_more_depth_calls_as_one_that_allows_less,
     a_machine_that_allows_more_depth_gathers_as_one_that_allows_less,
 };
-pub use descriptors::{an_item_means_what_its_first_byte_says, the_flags_of_an_interrupt_are_bits};
+pub use descriptors::{
+    an_item_means_what_its_first_byte_says, interrupts_are_offered_as_their_descriptor_says,
+    the_flags_of_an_interrupt_are_bits,
+};
 pub use entries::{
     an_entry_of_a_routing_table_tells_of_a_pin, an_entry_that_tells_of_no_pin_is_refused,
 };

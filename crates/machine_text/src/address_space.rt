@@ -3,7 +3,7 @@ ghost use Rattle.std.specs.Prelude.{◌≡◌, ◌≤◌, ◌<◌, ◌+◌, leng
 ghost use Rattle.ar_space.specs.declared.refusal.Refusal.TheVariants.{OutOfMemory};
 ghost use Rattle.machine_text.specs.MachineText.{last_of, place_in, put_all};
 
-use ar_space::{Place, Refusal, Sparse};
+use ar_space::{Place, Result, Sparse};
 
 /// An address space; the configuration space of a PCI function is one of its own.
 #[derive(Clone, Copy)]
@@ -53,7 +53,7 @@ impl AddressSpace {
     }
 
     /// Puts bytes from a place on, over earlier ones.
-    pub(crate) fn put_all(self, space: &mut Sparse, first: u64, bytes: &[u8]) -> Result<(), Refusal>
+    pub(crate) fn put_all(self, space: &mut Sparse, first: u64, bytes: &[u8]) -> Result<()>
         requires { first + length bytes.now ≤ last_of self + 1 }
         ensures value { OnOk result (space.new ≡ put_all self space.old first bytes.now) }
         ensures memory { IsOkUnless result OutOfMemory }

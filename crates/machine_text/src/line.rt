@@ -11,7 +11,7 @@ use crate::address_space::AddressSpace;
 use crate::draft::Draft;
 use crate::osi_texts::OsiTexts;
 use crate::words::{bad_line, bytes, ended, number};
-use ar_space::{MAX_TEXTS, Refusal, Sparse};
+use ar_space::{MAX_TEXTS, Result, Sparse};
 use std::alloc::Global;
 use std::slice;
 use text_words::{Words, cut};
@@ -27,7 +27,7 @@ fn placed(
     space: &mut Sparse,
     words: &mut Words<'_>,
     buffer: &mut Vec<u8>,
-) -> Result<(), Refusal>
+) -> Result<()>
     ensures { Answers (seen (λ _. space.new) result) (placed n in_space space.old words.old) }
 {
     let last = in_space.last();
@@ -47,13 +47,7 @@ fn given<'b>(only: &'b Option<u8>, buffer: &'b Vec<u8>) -> &'b [u8]
 }
 
 /// Puts bytes from a place on, none of them past the last place.
-fn put(
-    n: usize,
-    in_space: AddressSpace,
-    space: &mut Sparse,
-    first: u64,
-    bytes: &[u8],
-) -> Result<(), Refusal>
+fn put(n: usize, in_space: AddressSpace, space: &mut Sparse, first: u64, bytes: &[u8]) -> Result<()>
     requires { first ≤ last_of in_space }
     ensures { Answers (seen (λ _. space.new) result) (if nat_le (first + length bytes.now) (last_of in_space + 1)
         then Ok (put_all in_space space.old first bytes.now) else bad_line n) }
@@ -79,7 +73,7 @@ fn configured(
     space: &mut Sparse,
     words: &mut Words<'_>,
     buffer: &mut Vec<u8>,
-) -> Result<(), Refusal>
+) -> Result<()>
     ensures { Answers (seen (λ _. space.new) result) (configured n space.old words.old) }
 {
     let seg = number(n, 0xFFFF, words)? as u16;
@@ -97,7 +91,7 @@ fn configured(
 
 /// `A`, once.
 #[tactic(auto, using(ar_space::proofs::Outcomes::answering), unfolding(crate::specs::MachineText::root))]
-fn root(n: usize, rsdp: Option<u64>, words: &mut Words<'_>) -> Result<Option<u64>, Refusal>
+fn root(n: usize, rsdp: Option<u64>, words: &mut Words<'_>) -> Result<Option<u64>>
     ensures { Answers result (root n rsdp words.old) }
 {
     let address = number(n, u64::MAX, words)?;
@@ -110,7 +104,7 @@ fn root(n: usize, rsdp: Option<u64>, words: &mut Words<'_>) -> Result<Option<u64
 
 /// The rest of the line, as a text that `_OSI` knows.
 #[tactic(auto, using(ar_space::proofs::Outcomes::answering), unfolding(crate::specs::MachineText::text))]
-fn text(alloc: Global, n: usize, osi: &mut OsiTexts, tail: Option<&[u8]>) -> Result<(), Refusal>
+fn text(alloc: Global, n: usize, osi: &mut OsiTexts, tail: Option<&[u8]>) -> Result<()>
     ensures { Answers (seen (λ _. osi.new) result) (text n osi.old (option_map (λ s. s.now) tail.entry)) }
 {
     match tail {
@@ -148,7 +142,7 @@ fn keyed(
     tail: Option<&[u8]>,
     draft: &mut Draft,
     buffer: &mut Vec<u8>,
-) -> Result<(), Refusal>
+) -> Result<()>
     ensures { Answers (seen (λ _. draft.new) result) (keyed n key.now (option_map (λ s. s.now) tail.entry) draft.old) }
 {
     if key == b"mem".as_slice() {
@@ -181,7 +175,7 @@ fn keyed(
 
 /// `mem A bytes..`, behind the first word.
 #[tactic(auto, using(ar_space::proofs::Outcomes::answering), unfolding(crate::specs::MachineText::keyed))]
-fn memory(n: usize, tail: &[u8], draft: &mut Draft, buffer: &mut Vec<u8>) -> Result<(), Refusal>
+fn memory(n: usize, tail: &[u8], draft: &mut Draft, buffer: &mut Vec<u8>) -> Result<()>
     ensures { Answers (seen (λ _. draft.new) result) (keyed n (codes "mem") (Some tail.now) draft.old) }
 {
     placed(
@@ -212,7 +206,7 @@ pub(crate) fn line(
     text: &[u8],
     draft: &mut Draft,
     buffer: &mut Vec<u8>,
-) -> Result<(), Refusal>
+) -> Result<()>
     ensures { Answers (seen (λ _. draft.new) result) (line n text.now draft.old) }
 {
     // Most lines of a text are of memory.

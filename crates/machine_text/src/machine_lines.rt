@@ -8,7 +8,7 @@ use crate::draft::Draft;
 use crate::line::line;
 use crate::osi_texts::OsiTexts;
 use crate::words::bad_line;
-use ar_space::{Refusal, Sparse};
+use ar_space::{Result, Sparse};
 use std::alloc::Global;
 use text_words::cut_at;
 
@@ -48,7 +48,7 @@ fn without_return(line: &[u8]) -> &[u8]
 }
 
 /// All lines of a text, into the draft.
-fn lines_read(alloc: Global, text: &[u8], draft: &mut Draft) -> Result<(), Refusal>
+fn lines_read(alloc: Global, text: &[u8], draft: &mut Draft) -> Result<()>
     ensures { Answers (seen (λ _. draft.new) result) (lines_read 1 (lines text.now) draft.old) }
 {
     let mut buffer = Vec::new(alloc);
@@ -65,7 +65,7 @@ fn lines_read(alloc: Global, text: &[u8], draft: &mut Draft) -> Result<(), Refus
 
 /// What all lines said.
 #[tactic(auto, using(ar_space::proofs::Outcomes::answering))]
-fn finished(draft: Draft) -> Result<MachineText, Refusal>
+fn finished(draft: Draft) -> Result<MachineText>
     ensures { Answers result (finished draft) }
 {
     match draft.rsdp {
@@ -94,7 +94,7 @@ fn finished(draft: Draft) -> Result<MachineText, Refusal>
 /// first line that is none of these or whose bytes run past the last place; with 0 where all lines are good and none is
 /// `rsdp`. `OutOfMemory` where memory runs out.
 #[tactic(auto, using(ar_space::proofs::Outcomes::answering), unfolding(crate::specs::MachineText::machine_text))]
-pub fn read_machine(alloc: Global, text: &[u8]) -> Result<MachineText, Refusal>
+pub fn read_machine(alloc: Global, text: &[u8]) -> Result<MachineText>
     ensures { Answers result (machine_text text.now) }
 {
     let mut draft = Draft::new(alloc);

@@ -3,7 +3,7 @@
 use aml_namespace::{Located, Names, Scope};
 use aml_objects::{Entry, NamedObject, NodeId};
 use aml_path::{NameString, Path, Prefix, Seg};
-use ar_space::Refusal;
+use ar_space::Result;
 use std::alloc::Global;
 use std::collections::BTreeMap;
 
@@ -36,7 +36,7 @@ fn random_segment(state: &mut u64) -> Seg {
 }
 
 /// A path of one to three segments.
-fn random_path(alloc: Global, state: &mut u64) -> Result<Path, Refusal> {
+fn random_path(alloc: Global, state: &mut u64) -> Result<Path> {
     let mut path = Path::root(alloc);
     for _ in 0..next(state, 3).saturating_add(1) {
         path = path.child(alloc, random_segment(state))?;
@@ -50,7 +50,7 @@ fn searched(
     map: &BTreeMap<Path, u64>,
     scope: &Path,
     segment: Seg,
-) -> Result<Option<u64>, Refusal> {
+) -> Result<Option<u64>> {
     for above in (0..scope.depth()).rev() {
         let key = scope.below_prefix(alloc, above + 1, &[segment])?;
         if let Some(number) = map.get(&key) {
@@ -61,7 +61,7 @@ fn searched(
 }
 
 /// The name that is one segment.
-fn single(alloc: Global, segment: Seg) -> Result<NameString, Refusal> {
+fn single(alloc: Global, segment: Seg) -> Result<NameString> {
     let mut segments = Vec::new(alloc);
     segments.push(segment)?;
     Ok(NameString::new(Prefix::Parents(0), segments))
@@ -105,7 +105,7 @@ impl Pair {
     }
 
     /// Whether both find the same by a random segment.
-    fn find_alike(&mut self, alloc: Global, scope: &Path) -> Result<bool, Refusal> {
+    fn find_alike(&mut self, alloc: Global, scope: &Path) -> Result<bool> {
         let other = random_path(alloc, &mut self.state)?;
         match other.segments().first() {
             Some(segment) => {
@@ -134,7 +134,7 @@ impl Pair {
     }
 
     /// Whether a random node, one that stands or is gone, is the one that the map has for its number.
-    fn know_alike(&mut self, alloc: Global) -> Result<bool, Refusal> {
+    fn know_alike(&mut self, alloc: Global) -> Result<bool> {
         match self.random_id() {
             Some(id) => self.knows(alloc, id),
             None => Ok(true),
@@ -142,7 +142,7 @@ impl Pair {
     }
 
     /// Whether a node has the path that the map has for its number.
-    fn knows(&self, alloc: Global, id: NodeId) -> Result<bool, Refusal> {
+    fn knows(&self, alloc: Global, id: NodeId) -> Result<bool> {
         let place = self.place_of(id.number);
         if self.names.node(id).is_some() != place.is_some() {
             return Ok(false);
@@ -176,7 +176,7 @@ impl Pair {
     }
 
     /// Whether a random segment finds the same from the node at a path and from the path.
-    fn search_alike(&mut self, alloc: Global, scope: &Path) -> Result<bool, Refusal> {
+    fn search_alike(&mut self, alloc: Global, scope: &Path) -> Result<bool> {
         let name = single(alloc, random_segment(&mut self.state))?;
         if !self.hinted_alike(scope, &name) {
             return Ok(false);
@@ -195,7 +195,7 @@ impl Pair {
     }
 
     /// Whether the map has the path one level up.
-    fn has_parent(&self, alloc: Global, path: &Path) -> Result<bool, Refusal> {
+    fn has_parent(&self, alloc: Global, path: &Path) -> Result<bool> {
         match path.parent(alloc)? {
             Some(parent) => Ok(parent.depth() == 0 || self.map.contains_key(&parent)),
             None => Ok(false),
@@ -203,7 +203,7 @@ impl Pair {
     }
 
     /// Declares a path in both, and gives whether it was refused exactly as the map says.
-    fn declare_alike(&mut self, alloc: Global, path: Path) -> Result<bool, Refusal> {
+    fn declare_alike(&mut self, alloc: Global, path: Path) -> Result<bool> {
         let has_parent = self.has_parent(alloc, &path)?;
         let stands = self.map.contains_key(&path);
         match self.names.insert(path.copy(alloc)?, NamedObject::Device) {
@@ -223,7 +223,7 @@ impl Pair {
     }
 
     /// Makes a random call of both, and gives whether they answer alike.
-    fn call_alike(&mut self, alloc: Global) -> Result<bool, Refusal> {
+    fn call_alike(&mut self, alloc: Global) -> Result<bool> {
         let path = random_path(alloc, &mut self.state)?;
         match next(&mut self.state, 13) {
             0 => {
@@ -239,7 +239,7 @@ impl Pair {
     }
 
     /// Whether the names are walked in the order of the map.
-    fn walk_alike(&self, alloc: Global) -> Result<bool, Refusal> {
+    fn walk_alike(&self, alloc: Global) -> Result<bool> {
         let walked = self.names.walk(alloc)?;
         Ok(
             walked.len() == self.map.len()
@@ -252,7 +252,7 @@ impl Pair {
 }
 
 /// Whether a namespace and an ordered map of paths answer so many random calls alike, and are walked alike after them.
-pub fn agreed(alloc: Global, count: u32, seed: u64) -> Result<bool, Refusal> {
+pub fn agreed(alloc: Global, count: u32, seed: u64) -> Result<bool> {
     let mut pair = Pair {
         names: Names::new(alloc)?,
         map: BTreeMap::new(alloc),

@@ -16,7 +16,7 @@ mod words;
 use crate::lists::Lists;
 use crate::namespace::Namespace;
 use crate::objects::Objects;
-use ar_space::Refusal;
+use ar_space::Result;
 use std::alloc::{AllocError, Global};
 use std::io;
 use std::process::ExitCode;
@@ -33,7 +33,7 @@ struct Names {
 
 impl Names {
     /// No names, no terms, no objects, and a namespace of the root alone.
-    fn of(alloc: Global) -> Result<Names, Refusal> {
+    fn of(alloc: Global) -> Result<Names> {
         Ok(Names {
             lists: Lists::new(alloc),
             objects: Objects::new(alloc),

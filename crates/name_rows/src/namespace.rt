@@ -7,7 +7,7 @@ use crate::words::{name, number, scope};
 use aml_namespace::{Call, Names, Reply};
 use aml_objects::{Entry, NodeId};
 use aml_path::{Path, Seg};
-use ar_space::Refusal;
+use ar_space::{Refusal, Result};
 use row_words::{path, refuse, say_done, say_path};
 use std::alloc::Global;
 use std::collections::VecDeque;
@@ -45,7 +45,7 @@ fn show_segments(asked: &mut Exchange, segments: &[Seg]) {
 }
 
 /// The number of a declaration, or the refusal.
-fn show_outcome(asked: &mut Exchange, outcome: &Result<u64, Refusal>) {
+fn show_outcome(asked: &mut Exchange, outcome: &Result<u64>) {
     match outcome {
         Ok(number) => asked.say_number(*number),
         Err(refusal) => show_refusal(asked, refusal),
@@ -138,7 +138,7 @@ fn agreement(asked: &mut Exchange) {
 
 impl Namespace {
     /// The root alone.
-    pub fn new(alloc: Global) -> Result<Namespace, Refusal> {
+    pub fn new(alloc: Global) -> Result<Namespace> {
         Ok(Namespace {
             names: Names::new(alloc)?,
             calls: VecDeque::new(alloc),

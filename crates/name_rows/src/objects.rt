@@ -4,7 +4,7 @@ use crate::shown::show_characters;
 use crate::values::{element, say_value, show_element, value};
 use crate::words::byte;
 use aml_objects::{Element, Elements, Heap, Octets, Value};
-use ar_space::Refusal;
+use ar_space::Result;
 use row_words::{count, object_number, refuse, say_done};
 use std::alloc::Global;
 use std::mem;
@@ -74,7 +74,7 @@ impl Objects {
     }
 
     /// Makes so many packages, each of the one before, the first of an integer: the outermost.
-    fn nest(&mut self, alloc: Global, levels: usize) -> Result<Value, Refusal> {
+    fn nest(&mut self, alloc: Global, levels: usize) -> Result<Value> {
         let mut value = Value::Integer(7);
         for _ in 0..levels {
             let mut elements = Elements::new(alloc);

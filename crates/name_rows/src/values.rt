@@ -3,7 +3,7 @@
 use crate::shown::show_name;
 use crate::words::{name, number, scope};
 use aml_objects::{Element, NamedObject, Reference, Slot, Value};
-use ar_space::Refusal;
+use ar_space::Result;
 use row_words::{object_number, path, refuse, say_path, say_word_and_number};
 use test_rows::Exchange;
 
@@ -99,7 +99,7 @@ fn show_value(asked: &mut Exchange, value: Value) {
 }
 
 /// Answers a value, or the refusal.
-pub fn say_value(asked: &mut Exchange, outcome: Result<Value, Refusal>) {
+pub fn say_value(asked: &mut Exchange, outcome: Result<Value>) {
     match outcome {
         Ok(value) => show_value(asked, value),
         Err(refusal) => refuse(asked, refusal),

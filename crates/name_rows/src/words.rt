@@ -1,13 +1,13 @@
 //! The words of questions about names, and what calls give as answers.
 
 use aml_path::{NameString, Path, Prefix, Seg};
-use ar_space::Refusal;
+use ar_space::Result;
 use row_words::{path_of, path_or_root, refuse, say_path};
 use std::alloc::Global;
 use test_rows::Exchange;
 
 /// Answers a path, or the refusal.
-pub fn say_outcome(asked: &mut Exchange, outcome: Result<Path, Refusal>) {
+pub fn say_outcome(asked: &mut Exchange, outcome: Result<Path>) {
     match outcome {
         Ok(path) => say_path(asked, &path),
         Err(refusal) => refuse(asked, refusal),
@@ -37,7 +37,7 @@ fn carets(text: &str) -> usize {
 }
 
 /// The segments of a name, as the path that they make below the root.
-fn below_root(alloc: Global, text: &str) -> Result<Path, Refusal> {
+fn below_root(alloc: Global, text: &str) -> Result<Path> {
     let mut below = Vec::from_slice(alloc, b"\\")?;
     for byte in text.bytes() {
         if !matches!(&byte, b'\\' | b'^' | b'-') {

@@ -8,7 +8,7 @@ ghost use Rattle.std.specs.List.{slice_split};
 ghost use Rattle.recorded_route.specs.Runs.{described, described_tables, texts_in, with_part, with_parts};
 
 use aml_objects::Octets;
-use ar_space::{ByteMap, Refusal, TableFault};
+use ar_space::{ByteMap, Refusal, Result, TableFault};
 use ar_tables::{Tables, find_tables};
 use machine_description::describe;
 use machine_text::read_machine;
@@ -19,7 +19,7 @@ pub(crate) type Description = (Tables, Vec<Octets>);
 
 /// The tables in the memory of a machine text, and the texts that `_OSI` knows. Its registers are passed over.
 #[tactic(auto, using(ar_space::proofs::Outcomes::answering), unfolding(crate::specs::Runs::described))]
-pub(crate) fn described(alloc: Global, text: &[u8]) -> Result<Description, Refusal>
+pub(crate) fn described(alloc: Global, text: &[u8]) -> Result<Description>
     ensures { Answers (seen (λ d. (d.0, d.1.items)) result) (described text.now) }
 {
     let said = read_machine(alloc, text)?;
@@ -96,7 +96,7 @@ fn is_in_memory(part: &TablePart<'_>) -> bool
 
 /// An image of memory with a part of it.
 #[tactic(auto, using(ar_space::proofs::Outcomes::answering), unfolding(crate::specs::Runs::with_part))]
-fn with_part(image: ByteMap, part: &TablePart<'_>) -> Result<ByteMap, Refusal>
+fn with_part(image: ByteMap, part: &TablePart<'_>) -> Result<ByteMap>
     ensures { Answers result (with_part image part.now) }
 {
     if !is_in_memory(part) {
@@ -108,7 +108,7 @@ fn with_part(image: ByteMap, part: &TablePart<'_>) -> Result<ByteMap, Refusal>
 }
 
 /// An image of memory with these parts of it, a later one over an earlier one.
-fn with_parts(image: ByteMap, parts: &[TablePart<'_>]) -> Result<ByteMap, Refusal>
+fn with_parts(image: ByteMap, parts: &[TablePart<'_>]) -> Result<ByteMap>
     ensures { Answers result (with_parts image parts.now) }
 {
     let mut image = image;
@@ -121,10 +121,7 @@ fn with_parts(image: ByteMap, parts: &[TablePart<'_>]) -> Result<ByteMap, Refusa
 /// The tables by their Root System Description Pointer in parts of memory. A part that doesn't lie below 2^64 is
 /// refused as `NotInImage`. Of a table that isn't needed only the signature has to be among the parts.
 #[tactic(auto, using(ar_space::proofs::Outcomes::answering), unfolding(crate::specs::Runs::described_tables))]
-pub(crate) fn described_tables(
-    alloc: Global,
-    tables: &TablesInMemory<'_>,
-) -> Result<Description, Refusal>
+pub(crate) fn described_tables(alloc: Global, tables: &TablesInMemory<'_>) -> Result<Description>
     ensures { Answers (seen (λ d. (d.0, d.1.items)) result) (described_tables tables.now.rsdp tables.now.parts.now
         tables.now.osi.now) }
 {

@@ -3,7 +3,7 @@ ghost use Rattle.std.specs.Prelude.{◌≡◌, Ok, Err};
 ghost use Rattle.ar_space.specs.Outcome.{NotMemory};
 ghost use Rattle.recorded_route.specs.Endings.{ending_of, wanted_of, NotOutOfMemory};
 
-use ar_space::Refusal;
+use ar_space::{Refusal, Result};
 use recorded_space::{Access, Recorded};
 
 /// The access that a record lacks, and where.
@@ -40,10 +40,7 @@ pub enum Ending<A> {
 }
 
 /// How a run ends that came out like this, where this access was missing. Want of memory ends it whatever was missing.
-pub(crate) fn ending_of<A: Drop>(
-    outcome: Result<A, Refusal>,
-    missing: Option<WantedAccess>,
-) -> Ending<A>
+pub(crate) fn ending_of<A: Drop>(outcome: Result<A>, missing: Option<WantedAccess>) -> Ending<A>
     ensures told { NotOutOfMemory result → NotMemory outcome × (result ≡ ending_of outcome missing) }
     ensures memory { NotMemory outcome → NotOutOfMemory result }
 {

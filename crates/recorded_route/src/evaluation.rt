@@ -14,12 +14,12 @@ use crate::settings::Settings;
 use acpi_machine::{Machine, load_tables_as};
 use aml_meaning::Datum;
 use aml_path::Path;
-use ar_space::{Refusal, Space};
+use ar_space::{Refusal, Result, Space};
 use recorded_space::{Exchange, Recorded};
 use std::alloc::Global;
 
 /// How an evaluation came out, and which access was missing.
-type Outcome = (Result<Datum, Refusal>, Option<WantedAccess>);
+type Outcome = (Result<Datum>, Option<WantedAccess>);
 
 /// An object that is evaluated: the text of its path, and what it is called with.
 #[derive(Drop)]
@@ -37,7 +37,7 @@ fn object_of<S: Space>(
     machine: &mut Machine<S>,
     settings: &Settings,
     question: Question<'_>,
-) -> Result<Datum, Refusal>
+) -> Result<Datum>
     ensures { Does (seen given_of result) machine.new (object_of S.accesses settings.now question.entry.path.now
         (map given_of question.entry.arguments.items)) machine.old }
 {
@@ -95,7 +95,7 @@ fn answer_over(
 /// Evaluates an object of what is described. Where nothing is, the refusal of the text or of its tables ends it.
 fn evaluation(
     alloc: Global,
-    described: Result<Description, Refusal>,
+    described: Result<Description>,
     settings: &Settings,
     question: Question<'_>,
     space: Recorded,
@@ -114,7 +114,7 @@ fn evaluation(
 /// An evaluation over a record, from its first entry on.
 fn ending(
     alloc: Global,
-    described: Result<Description, Refusal>,
+    described: Result<Description>,
     settings: &Settings,
     question: Question<'_>,
     entries: &[Exchange],

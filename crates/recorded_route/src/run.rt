@@ -9,13 +9,13 @@ use crate::ending::{Ending, WantedAccess, ending_of, wanted_of};
 use crate::settings::Settings;
 use acpi_configure::{Options, configure_with};
 use acpi_machine::{Machine, load_tables_as};
-use ar_space::{Refusal, Space};
+use ar_space::{Refusal, Result, Space};
 use recorded_space::{Exchange, Recorded};
 use route_report::Report;
 use std::alloc::Global;
 
 /// How a run came out, and which access was missing.
-type Outcome = (Result<Report, Refusal>, Option<WantedAccess>);
+type Outcome = (Result<Report>, Option<WantedAccess>);
 
 /// Initializes a machine, and configures its links.
 #[tactic(auto, using(crate::proofs::Starting::starting))]
@@ -24,7 +24,7 @@ fn start<S: Space>(
     machine: &mut Machine<S>,
     settings: &Settings,
     avoid: &[u32],
-) -> Result<Report, Refusal>
+) -> Result<Report>
     ensures { NotMemory result → IsStarted S.accesses settings.now avoid.now machine.old result machine.new }
 {
     machine.initialize(alloc, settings.mode)?;
@@ -81,7 +81,7 @@ fn run_over(
 /// Runs what is described over a record. Where nothing is, the refusal of the text or of its tables ends the run.
 fn run(
     alloc: Global,
-    described: Result<Description, Refusal>,
+    described: Result<Description>,
     settings: &Settings,
     avoid: &[u32],
     space: Recorded,
@@ -99,7 +99,7 @@ fn run(
 /// A run over a record, from its first entry on.
 fn ending(
     alloc: Global,
-    described: Result<Description, Refusal>,
+    described: Result<Description>,
     settings: &Settings,
     avoid: &[u32],
     entries: &[Exchange],

@@ -7,7 +7,7 @@ ghost use Rattle.route_report.specs.Reading.{unread_line, trigger_line, bus_line
 
 use crate::draft::Draft;
 use crate::words::{bad_line, ended, number, number_here, one_of, path, word};
-use ar_space::Refusal;
+use ar_space::Result;
 use std::alloc::Global;
 use text_words::Words;
 
@@ -25,7 +25,7 @@ fn is_passed_over(key: &[u8]) -> bool
 
 /// `D R`
 #[tactic(auto, using(ar_space::proofs::Outcomes::answering), unfolding(crate::specs::Reading::unread))]
-fn unread(alloc: Global, n: usize, words: &mut Words<'_>) -> Result<(), Refusal>
+fn unread(alloc: Global, n: usize, words: &mut Words<'_>) -> Result<()>
     ensures { Answers result (unread n words.old) }
 {
     path(alloc, n, words)?;
@@ -35,7 +35,7 @@ fn unread(alloc: Global, n: usize, words: &mut Words<'_>) -> Result<(), Refusal>
 
 /// `level` or `edge`, and `low` or `high`
 #[tactic(auto, using(ar_space::proofs::Outcomes::answering), unfolding(crate::specs::Reading::triggered))]
-fn triggered(n: usize, words: &mut Words<'_>) -> Result<(), Refusal>
+fn triggered(n: usize, words: &mut Words<'_>) -> Result<()>
     ensures answer { Answers result (triggered n words.old) }
     ensures memory { NotMemory result }
 {
@@ -46,7 +46,7 @@ fn triggered(n: usize, words: &mut Words<'_>) -> Result<(), Refusal>
 
 /// `P`, and how it is triggered
 #[tactic(auto, using(ar_space::proofs::Outcomes::answering), unfolding(crate::specs::Reading::link_triggered))]
-fn link_triggered(alloc: Global, n: usize, words: &mut Words<'_>) -> Result<(), Refusal>
+fn link_triggered(alloc: Global, n: usize, words: &mut Words<'_>) -> Result<()>
     ensures { Answers result (link_triggered n words.old) }
 {
     path(alloc, n, words)?;
@@ -55,7 +55,7 @@ fn link_triggered(alloc: Global, n: usize, words: &mut Words<'_>) -> Result<(), 
 
 /// `N`, and how it is triggered
 #[tactic(auto, using(ar_space::proofs::Outcomes::answering), unfolding(crate::specs::Reading::number_triggered))]
-fn number_triggered(n: usize, words: &mut Words<'_>) -> Result<(), Refusal>
+fn number_triggered(n: usize, words: &mut Words<'_>) -> Result<()>
     ensures answer { Answers result (number_triggered n words.old) }
     ensures memory { NotMemory result }
 {
@@ -65,12 +65,7 @@ fn number_triggered(n: usize, words: &mut Words<'_>) -> Result<(), Refusal>
 
 /// What has the interrupt, by the first of the words, and how it is triggered.
 #[tactic(auto, using(ar_space::proofs::Outcomes::answering), unfolding(crate::specs::Reading::source_triggered))]
-fn source_triggered(
-    alloc: Global,
-    n: usize,
-    key: &[u8],
-    words: &mut Words<'_>,
-) -> Result<(), Refusal>
+fn source_triggered(alloc: Global, n: usize, key: &[u8], words: &mut Words<'_>) -> Result<()>
     ensures { Answers result (source_triggered n key.now words.old) }
 {
     if key == b"link".as_slice() {
@@ -84,7 +79,7 @@ fn source_triggered(
 
 /// `link P`, `wired N` or `sci N`, and how that is triggered
 #[tactic(auto, using(ar_space::proofs::Outcomes::answering), unfolding(crate::specs::Reading::trigger))]
-fn trigger(alloc: Global, n: usize, words: &mut Words<'_>) -> Result<(), Refusal>
+fn trigger(alloc: Global, n: usize, words: &mut Words<'_>) -> Result<()>
     ensures { Answers result (trigger n words.old) }
 {
     let key = word(n, words)?;
@@ -93,7 +88,7 @@ fn trigger(alloc: Global, n: usize, words: &mut Words<'_>) -> Result<(), Refusal
 
 /// `R`
 #[tactic(auto, using(ar_space::proofs::Outcomes::answering), unfolding(crate::specs::Reading::bus_refused))]
-fn bus_refused(n: usize, words: &mut Words<'_>) -> Result<(), Refusal>
+fn bus_refused(n: usize, words: &mut Words<'_>) -> Result<()>
     ensures answer { Answers result (bus_refused n words.old) }
     ensures memory { NotMemory result }
 {
@@ -103,7 +98,7 @@ fn bus_refused(n: usize, words: &mut Words<'_>) -> Result<(), Refusal>
 
 /// `S B`
 #[tactic(auto, using(ar_space::proofs::Outcomes::answering), unfolding(crate::specs::Reading::bus_known))]
-fn bus_known(n: usize, segment: &[u8], words: &mut Words<'_>) -> Result<(), Refusal>
+fn bus_known(n: usize, segment: &[u8], words: &mut Words<'_>) -> Result<()>
     ensures answer { Answers result (bus_known n segment.now words.old) }
     ensures memory { NotMemory result }
 {
@@ -114,7 +109,7 @@ fn bus_known(n: usize, segment: &[u8], words: &mut Words<'_>) -> Result<(), Refu
 
 /// `S B`, or `refused R`
 #[tactic(auto, using(ar_space::proofs::Outcomes::answering), unfolding(crate::specs::Reading::bus_state))]
-fn bus_state(n: usize, words: &mut Words<'_>) -> Result<(), Refusal>
+fn bus_state(n: usize, words: &mut Words<'_>) -> Result<()>
     ensures answer { Answers result (bus_state n words.old) }
     ensures memory { NotMemory result }
 {
@@ -128,7 +123,7 @@ fn bus_state(n: usize, words: &mut Words<'_>) -> Result<(), Refusal>
 
 /// `D`, and its bus
 #[tactic(auto, using(ar_space::proofs::Outcomes::answering), unfolding(crate::specs::Reading::bus))]
-fn bus(alloc: Global, n: usize, words: &mut Words<'_>) -> Result<(), Refusal>
+fn bus(alloc: Global, n: usize, words: &mut Words<'_>) -> Result<()>
     ensures { Answers result (bus n words.old) }
 {
     path(alloc, n, words)?;
@@ -137,7 +132,7 @@ fn bus(alloc: Global, n: usize, words: &mut Words<'_>) -> Result<(), Refusal>
 
 /// Reads over a device whose interrupts couldn't be read.
 #[tactic(auto, using(ar_space::proofs::Outcomes::answering), unfolding(crate::specs::Reading::unread_line))]
-fn unread_line(alloc: Global, n: usize, words: &mut Words<'_>, draft: &Draft) -> Result<(), Refusal>
+fn unread_line(alloc: Global, n: usize, words: &mut Words<'_>, draft: &Draft) -> Result<()>
     ensures { Answers (seen (λ _. draft.now) result) (unread_line n words.old draft.now) }
 {
     unread(alloc, n, words)?;
@@ -146,12 +141,7 @@ fn unread_line(alloc: Global, n: usize, words: &mut Words<'_>, draft: &Draft) ->
 
 /// Reads over how an interrupt is triggered.
 #[tactic(auto, using(ar_space::proofs::Outcomes::answering), unfolding(crate::specs::Reading::trigger_line))]
-fn trigger_line(
-    alloc: Global,
-    n: usize,
-    words: &mut Words<'_>,
-    draft: &Draft,
-) -> Result<(), Refusal>
+fn trigger_line(alloc: Global, n: usize, words: &mut Words<'_>, draft: &Draft) -> Result<()>
     ensures { Answers (seen (λ _. draft.now) result) (trigger_line n words.old draft.now) }
 {
     trigger(alloc, n, words)?;
@@ -160,7 +150,7 @@ fn trigger_line(
 
 /// Reads over the bus of a routing table.
 #[tactic(auto, using(ar_space::proofs::Outcomes::answering), unfolding(crate::specs::Reading::bus_line))]
-fn bus_line(alloc: Global, n: usize, words: &mut Words<'_>, draft: &Draft) -> Result<(), Refusal>
+fn bus_line(alloc: Global, n: usize, words: &mut Words<'_>, draft: &Draft) -> Result<()>
     ensures { Answers (seen (λ _. draft.now) result) (bus_line n words.old draft.now) }
 {
     bus(alloc, n, words)?;
@@ -175,7 +165,7 @@ pub(crate) fn claimless(
     key: &[u8],
     words: &mut Words<'_>,
     draft: &Draft,
-) -> Result<(), Refusal>
+) -> Result<()>
     ensures { Answers (seen (λ _. draft.now) result) (claimless n key.now words.old draft.now) }
 {
     if key == b"unread".as_slice() {

@@ -11,7 +11,7 @@ use crate::report::Rule;
 use crate::version::Version;
 use crate::words::bad_line;
 use aml_path::Path;
-use ar_space::{MAX_LINKS, MAX_PINS, Refusal};
+use ar_space::{MAX_LINKS, MAX_PINS, Result};
 use route_check::{Bound, Claim};
 use route_model::Link;
 use std::alloc::Global;
@@ -62,7 +62,7 @@ impl Draft {
 
     /// A link more.
     #[tactic(auto, using(ar_space::proofs::Outcomes::answering), unfolding(crate::specs::Reading::with_link))]
-    pub(crate) fn add_link(&mut self, n: usize, link: Link) -> Result<(), Refusal>
+    pub(crate) fn add_link(&mut self, n: usize, link: Link) -> Result<()>
         ensures { Answers (seen (λ _. self.new) result) (with_link n link self.old) }
     {
         if self.links.len() < MAX_LINKS {
@@ -75,7 +75,7 @@ impl Draft {
 
     /// A wired interrupt more.
     #[tactic(auto, using(ar_space::proofs::Outcomes::answering), unfolding(crate::specs::Reading::with_wired))]
-    pub(crate) fn add_wired(&mut self, n: usize, wired: (u32, u32)) -> Result<(), Refusal>
+    pub(crate) fn add_wired(&mut self, n: usize, wired: (u32, u32)) -> Result<()>
         ensures { Answers (seen (λ _. self.new) result) (with_wired n wired self.old) }
     {
         if self.wired.len() < MAX_PINS {
@@ -88,7 +88,7 @@ impl Draft {
 
     /// The interrupt that the System Control Interrupt is wired to, once.
     #[tactic(auto, using(ar_space::proofs::Outcomes::answering), unfolding(crate::specs::Reading::with_sci))]
-    pub(crate) fn set_sci(&mut self, n: usize, sci: Option<u32>) -> Result<(), Refusal>
+    pub(crate) fn set_sci(&mut self, n: usize, sci: Option<u32>) -> Result<()>
         ensures answer { Answers (seen (λ _. self.new) result) (with_sci n sci self.old) }
         ensures memory { NotMemory result }
     {
@@ -101,7 +101,7 @@ impl Draft {
 
     /// The interrupts that are avoided, once.
     #[tactic(auto, using(ar_space::proofs::Outcomes::answering), unfolding(crate::specs::Reading::with_avoid))]
-    pub(crate) fn set_avoid(&mut self, n: usize, avoid: Vec<u32>) -> Result<(), Refusal>
+    pub(crate) fn set_avoid(&mut self, n: usize, avoid: Vec<u32>) -> Result<()>
         ensures answer { Answers (seen (λ _. self.new) result) (with_avoid n avoid.items self.old) }
         ensures memory { NotMemory result }
     {
@@ -114,7 +114,7 @@ impl Draft {
 
     /// The interrupts of one device more, where lines may tell of these.
     #[tactic(auto, using(ar_space::proofs::Outcomes::answering), unfolding(crate::specs::Reading::with_spared))]
-    pub(crate) fn add_spared(&mut self, n: usize, mut interrupts: Vec<u32>) -> Result<(), Refusal>
+    pub(crate) fn add_spared(&mut self, n: usize, mut interrupts: Vec<u32>) -> Result<()>
         ensures { Answers (seen (λ _. self.new) result) (with_spared n interrupts.items self.old) }
     {
         let mut spared = numbers_here(n, self.spared.take())?;
@@ -125,7 +125,7 @@ impl Draft {
 
     /// A line of options that claims nothing, where lines may tell of options.
     #[tactic(auto, using(ar_space::proofs::Outcomes::answering), unfolding(crate::specs::Reading::with_option))]
-    pub(crate) fn add_option(&self, n: usize) -> Result<(), Refusal>
+    pub(crate) fn add_option(&self, n: usize) -> Result<()>
         ensures answer { Answers (seen (λ _. self.now) result) (with_option n self.now) }
         ensures memory { NotMemory result }
     {
@@ -138,7 +138,7 @@ impl Draft {
 
     /// The rule of the choice, once.
     #[tactic(auto, using(ar_space::proofs::Outcomes::answering), unfolding(crate::specs::Reading::with_rule))]
-    pub(crate) fn set_rule(&mut self, n: usize, rule: Rule) -> Result<(), Refusal>
+    pub(crate) fn set_rule(&mut self, n: usize, rule: Rule) -> Result<()>
         ensures answer { Answers (seen (λ _. self.new) result) (with_rule n rule self.old) }
         ensures memory { NotMemory result }
     {
@@ -151,7 +151,7 @@ impl Draft {
 
     /// What one link more is given.
     #[tactic(auto, using(ar_space::proofs::Outcomes::answering), unfolding(crate::specs::Reading::with_give))]
-    pub(crate) fn add_give(&mut self, n: usize, give: (Path, u32)) -> Result<(), Refusal>
+    pub(crate) fn add_give(&mut self, n: usize, give: (Path, u32)) -> Result<()>
         ensures { Answers (seen (λ _. self.new) result) (with_give n give self.old) }
     {
         self.gives.push(give)?;
@@ -160,7 +160,7 @@ impl Draft {
 
     /// How many sources the busiest interrupt serves, once.
     #[tactic(auto, using(ar_space::proofs::Outcomes::answering), unfolding(crate::specs::Reading::with_busiest))]
-    pub(crate) fn set_busiest(&mut self, n: usize, busiest: u32) -> Result<(), Refusal>
+    pub(crate) fn set_busiest(&mut self, n: usize, busiest: u32) -> Result<()>
         ensures answer { Answers (seen (λ _. self.new) result) (with_busiest n busiest self.old) }
         ensures memory { NotMemory result }
     {
@@ -173,7 +173,7 @@ impl Draft {
 
     /// Why no assignment has a less busy one, once.
     #[tactic(auto, using(ar_space::proofs::Outcomes::answering), unfolding(crate::specs::Reading::with_bound))]
-    pub(crate) fn set_bound(&mut self, n: usize, bound: Option<Bound>) -> Result<(), Refusal>
+    pub(crate) fn set_bound(&mut self, n: usize, bound: Option<Bound>) -> Result<()>
         ensures answer { Answers (seen (λ _. self.new) result) (with_bound n bound self.old) }
         ensures memory { NotMemory result }
     {
@@ -186,7 +186,7 @@ impl Draft {
 
     /// The claim, each of its lists in order, of a report that has n - 1 lines.
     #[tactic(auto, using(ar_space::proofs::Outcomes::answering), unfolding(crate::specs::Reading::claimed))]
-    pub(crate) fn claim(self, n: usize) -> Result<Claim, Refusal>
+    pub(crate) fn claim(self, n: usize) -> Result<Claim>
         ensures { Answers result (claimed n self) }
     {
         let sci = sci_here(n, self.sci)?;
@@ -240,7 +240,7 @@ fn rule_first(version: Version) -> Option<Rule>
 }
 
 /// The interrupts that no link may be given.
-fn barred_by(avoid: Vec<u32>, spared: Option<Vec<u32>>) -> Result<Vec<u32>, Refusal>
+fn barred_by(avoid: Vec<u32>, spared: Option<Vec<u32>>) -> Result<Vec<u32>>
     ensures { Answers (seen (λ v. v.items) result) (Ok (barred_by avoid.items (option_map (λ v. v.items) spared))) }
 {
     match spared {
@@ -251,7 +251,7 @@ fn barred_by(avoid: Vec<u32>, spared: Option<Vec<u32>>) -> Result<Vec<u32>, Refu
 
 /// What was said of the rule of the choice.
 #[tactic(auto, using(ar_space::proofs::Outcomes::answering))]
-fn rule_here(n: usize, rule: Option<Rule>) -> Result<Rule, Refusal>
+fn rule_here(n: usize, rule: Option<Rule>) -> Result<Rule>
     ensures answer { Answers result (here n rule) }
     ensures memory { NotMemory result }
 {
@@ -263,7 +263,7 @@ fn rule_here(n: usize, rule: Option<Rule>) -> Result<Rule, Refusal>
 
 /// What was said of the System Control Interrupt.
 #[tactic(auto, using(ar_space::proofs::Outcomes::answering))]
-fn sci_here(n: usize, sci: Option<Option<u32>>) -> Result<Option<u32>, Refusal>
+fn sci_here(n: usize, sci: Option<Option<u32>>) -> Result<Option<u32>>
     ensures answer { Answers result (here n sci) }
     ensures memory { NotMemory result }
 {
@@ -275,7 +275,7 @@ fn sci_here(n: usize, sci: Option<Option<u32>>) -> Result<Option<u32>, Refusal>
 
 /// Interrupts that were said.
 #[tactic(auto, using(ar_space::proofs::Outcomes::answering))]
-fn numbers_here(n: usize, numbers: Option<Vec<u32>>) -> Result<Vec<u32>, Refusal>
+fn numbers_here(n: usize, numbers: Option<Vec<u32>>) -> Result<Vec<u32>>
     ensures answer { Answers (seen (λ v. v.items) result) (here n (option_map (λ v. v.items) numbers)) }
     ensures memory { NotMemory result }
 {
@@ -287,7 +287,7 @@ fn numbers_here(n: usize, numbers: Option<Vec<u32>>) -> Result<Vec<u32>, Refusal
 
 /// What was said of the busiest interrupt.
 #[tactic(auto, using(ar_space::proofs::Outcomes::answering))]
-fn busiest_here(n: usize, busiest: Option<u32>) -> Result<u32, Refusal>
+fn busiest_here(n: usize, busiest: Option<u32>) -> Result<u32>
     ensures answer { Answers result (here n busiest) }
     ensures memory { NotMemory result }
 {
@@ -299,7 +299,7 @@ fn busiest_here(n: usize, busiest: Option<u32>) -> Result<u32, Refusal>
 
 /// What was said of the bound.
 #[tactic(auto, using(ar_space::proofs::Outcomes::answering))]
-fn bound_here(n: usize, bound: Option<Option<Bound>>) -> Result<Option<Bound>, Refusal>
+fn bound_here(n: usize, bound: Option<Option<Bound>>) -> Result<Option<Bound>>
     ensures answer { Answers result (here n bound) }
     ensures memory { NotMemory result }
 {

@@ -5,12 +5,12 @@ ghost use Rattle.route_report.specs.Reading.{heading, version_here};
 
 use crate::version::Version;
 use crate::words::{bad_line, ended, expected, word};
-use ar_space::Refusal;
+use ar_space::Result;
 use text_words::Words;
 
 /// The version that a word is.
 #[tactic(auto, using(ar_space::proofs::Outcomes::answering))]
-fn version_here(n: usize, word: &[u8]) -> Result<Version, Refusal>
+fn version_here(n: usize, word: &[u8]) -> Result<Version>
     ensures answer { Answers result (version_here n word.now) }
     ensures memory { NotMemory result }
 {
@@ -27,7 +27,7 @@ fn version_here(n: usize, word: &[u8]) -> Result<Version, Refusal>
 
 /// The first line: a report of version 1, 2 or 3.
 #[tactic(auto, using(ar_space::proofs::Outcomes::answering), unfolding(crate::specs::Reading::heading))]
-pub(crate) fn heading(n: usize, text: &[u8]) -> Result<Version, Refusal>
+pub(crate) fn heading(n: usize, text: &[u8]) -> Result<Version>
     ensures answer { Answers result (heading n (words text.now)) }
     ensures memory { NotMemory result }
 {

@@ -13,7 +13,7 @@ use crate::draft::Draft;
 use crate::report::Rule;
 use crate::words::{bad_line, ended, expected, number, number_here, one_of, path, path_here, word};
 use aml_path::Path;
-use ar_space::Refusal;
+use ar_space::Result;
 use route_check::Bound;
 use route_model::Link;
 use std::alloc::Global;
@@ -30,7 +30,7 @@ fn ascends(numbers: &[u32], number: u32) -> bool
 
 /// A number more, in ascending order.
 #[tactic(auto, using(ar_space::proofs::Outcomes::answering), unfolding(crate::specs::Reading::with_next))]
-fn add_next(n: usize, numbers: &mut Vec<u32>, word: &[u8]) -> Result<(), Refusal>
+fn add_next(n: usize, numbers: &mut Vec<u32>, word: &[u8]) -> Result<()>
     ensures { Answers (seen (λ _. numbers.new.items) result) (with_next n numbers.old.items word.now) }
 {
     let number = number_here(n, word)?;
@@ -42,7 +42,7 @@ fn add_next(n: usize, numbers: &mut Vec<u32>, word: &[u8]) -> Result<(), Refusal
 }
 
 /// Offers up to the word `now`, after those before.
-fn add_offers(n: usize, offers: &mut Vec<u32>, words: &mut Words<'_>) -> Result<(), Refusal>
+fn add_offers(n: usize, offers: &mut Vec<u32>, words: &mut Words<'_>) -> Result<()>
     ensures { Answers (seen (λ _. (offers.new.items, words.new)) result)
         (until n (codes "now") (with_next n) offers.old.items words.old) }
 {
@@ -56,7 +56,7 @@ fn add_offers(n: usize, offers: &mut Vec<u32>, words: &mut Words<'_>) -> Result<
 }
 
 #[tactic(auto, using(ar_space::proofs::Outcomes::answering), unfolding(crate::specs::Reading::offers))]
-fn offers(alloc: Global, n: usize, words: &mut Words<'_>) -> Result<Vec<u32>, Refusal>
+fn offers(alloc: Global, n: usize, words: &mut Words<'_>) -> Result<Vec<u32>>
     ensures { Answers (seen (λ v. v.items) result) (offers n words.old) }
 {
     let first = word(n, words)?;
@@ -68,7 +68,7 @@ fn offers(alloc: Global, n: usize, words: &mut Words<'_>) -> Result<Vec<u32>, Re
 
 /// `small low offers N.. now V`, or `extended`, or `high`
 #[tactic(auto, using(ar_space::proofs::Outcomes::answering), unfolding(crate::specs::Reading::offered))]
-fn offered(alloc: Global, n: usize, words: &mut Words<'_>) -> Result<Vec<u32>, Refusal>
+fn offered(alloc: Global, n: usize, words: &mut Words<'_>) -> Result<Vec<u32>>
     ensures { Answers (seen (λ v. v.items) result) (offered n words.old) }
 {
     one_of(n, b"small", b"extended", words)?;
@@ -79,7 +79,7 @@ fn offered(alloc: Global, n: usize, words: &mut Words<'_>) -> Result<Vec<u32>, R
 
 /// `P`, and what it offers
 #[tactic(auto, using(ar_space::proofs::Outcomes::answering), unfolding(crate::specs::Reading::link))]
-fn link(alloc: Global, n: usize, words: &mut Words<'_>) -> Result<Link, Refusal>
+fn link(alloc: Global, n: usize, words: &mut Words<'_>) -> Result<Link>
     ensures { Answers result (link n words.old) }
 {
     let path = path(alloc, n, words)?;
@@ -89,7 +89,7 @@ fn link(alloc: Global, n: usize, words: &mut Words<'_>) -> Result<Link, Refusal>
 
 /// `N C`
 #[tactic(auto, using(ar_space::proofs::Outcomes::answering), unfolding(crate::specs::Reading::wired))]
-fn wired(n: usize, words: &mut Words<'_>) -> Result<(u32, u32), Refusal>
+fn wired(n: usize, words: &mut Words<'_>) -> Result<(u32, u32)>
     ensures answer { Answers result (wired n words.old) }
     ensures memory { NotMemory result }
 {
@@ -101,7 +101,7 @@ fn wired(n: usize, words: &mut Words<'_>) -> Result<(u32, u32), Refusal>
 
 /// `N` or `none`
 #[tactic(auto, using(ar_space::proofs::Outcomes::answering), unfolding(crate::specs::Reading::sci))]
-fn sci(n: usize, words: &mut Words<'_>) -> Result<Option<u32>, Refusal>
+fn sci(n: usize, words: &mut Words<'_>) -> Result<Option<u32>>
     ensures answer { Answers result (sci n words.old) }
     ensures memory { NotMemory result }
 {
@@ -115,7 +115,7 @@ fn sci(n: usize, words: &mut Words<'_>) -> Result<Option<u32>, Refusal>
 }
 
 /// All words that are left, as numbers in ascending order, after those before.
-fn add_ascending(n: usize, numbers: &mut Vec<u32>, words: &mut Words<'_>) -> Result<(), Refusal>
+fn add_ascending(n: usize, numbers: &mut Vec<u32>, words: &mut Words<'_>) -> Result<()>
     ensures { Answers (seen (λ _. numbers.new.items) result) (ascending_after n numbers.old.items words.old) }
 {
     while let Some(next) = words.take() {
@@ -126,7 +126,7 @@ fn add_ascending(n: usize, numbers: &mut Vec<u32>, words: &mut Words<'_>) -> Res
 
 /// `-`, or `N..`
 #[tactic(auto, using(ar_space::proofs::Outcomes::answering), unfolding(crate::specs::Reading::avoid))]
-fn avoid(alloc: Global, n: usize, words: &mut Words<'_>) -> Result<Vec<u32>, Refusal>
+fn avoid(alloc: Global, n: usize, words: &mut Words<'_>) -> Result<Vec<u32>>
     ensures { Answers (seen (λ v. v.items) result) (avoid n words.old) }
 {
     let first = word(n, words)?;
@@ -143,7 +143,7 @@ fn avoid(alloc: Global, n: usize, words: &mut Words<'_>) -> Result<Vec<u32>, Ref
 
 /// `P N`
 #[tactic(auto, using(ar_space::proofs::Outcomes::answering), unfolding(crate::specs::Reading::give))]
-fn give(alloc: Global, n: usize, words: &mut Words<'_>) -> Result<(Path, u32), Refusal>
+fn give(alloc: Global, n: usize, words: &mut Words<'_>) -> Result<(Path, u32)>
     ensures { Answers result (give n words.old) }
 {
     let path = path(alloc, n, words)?;
@@ -154,7 +154,7 @@ fn give(alloc: Global, n: usize, words: &mut Words<'_>) -> Result<(Path, u32), R
 
 /// `K`
 #[tactic(auto, using(ar_space::proofs::Outcomes::answering), unfolding(crate::specs::Reading::busiest))]
-fn busiest(n: usize, words: &mut Words<'_>) -> Result<u32, Refusal>
+fn busiest(n: usize, words: &mut Words<'_>) -> Result<u32>
     ensures answer { Answers result (busiest n words.old) }
     ensures memory { NotMemory result }
 {
@@ -165,7 +165,7 @@ fn busiest(n: usize, words: &mut Words<'_>) -> Result<u32, Refusal>
 
 /// A path more.
 #[tactic(auto, using(ar_space::proofs::Outcomes::answering), unfolding(crate::specs::Reading::with_path))]
-fn add_path(alloc: Global, n: usize, paths: &mut Vec<Path>, word: &[u8]) -> Result<(), Refusal>
+fn add_path(alloc: Global, n: usize, paths: &mut Vec<Path>, word: &[u8]) -> Result<()>
     ensures { Answers (seen (λ _. paths.new.items) result) (with_path n paths.old.items word.now) }
 {
     let path = path_here(alloc, n, word)?;
@@ -174,12 +174,7 @@ fn add_path(alloc: Global, n: usize, paths: &mut Vec<Path>, word: &[u8]) -> Resu
 }
 
 /// Paths up to the word `over`, after those before.
-fn add_paths(
-    alloc: Global,
-    n: usize,
-    paths: &mut Vec<Path>,
-    words: &mut Words<'_>,
-) -> Result<(), Refusal>
+fn add_paths(alloc: Global, n: usize, paths: &mut Vec<Path>, words: &mut Words<'_>) -> Result<()>
     ensures { Answers (seen (λ _. (paths.new.items, words.new)) result)
         (until n (codes "over") (with_path n) paths.old.items words.old) }
 {
@@ -194,12 +189,7 @@ fn add_paths(
 
 /// `-` for no path, or one at least, up to the word `over`.
 #[tactic(auto, using(ar_space::proofs::Outcomes::answering), unfolding(crate::specs::Reading::set_links))]
-fn set_links(
-    alloc: Global,
-    n: usize,
-    first: &[u8],
-    words: &mut Words<'_>,
-) -> Result<Vec<Path>, Refusal>
+fn set_links(alloc: Global, n: usize, first: &[u8], words: &mut Words<'_>) -> Result<Vec<Path>>
     ensures { Answers (seen (λ v. (v.items, words.new)) result) (set_links n first.now words.old) }
 {
     let mut links = Vec::new(alloc);
@@ -215,7 +205,7 @@ fn set_links(
 
 /// A number more.
 #[tactic(auto, using(ar_space::proofs::Outcomes::answering), unfolding(crate::specs::Reading::with_number))]
-fn add_number(n: usize, numbers: &mut Vec<u32>, word: &[u8]) -> Result<(), Refusal>
+fn add_number(n: usize, numbers: &mut Vec<u32>, word: &[u8]) -> Result<()>
     ensures { Answers (seen (λ _. numbers.new.items) result) (with_number n numbers.old.items word.now) }
 {
     let number = number_here(n, word)?;
@@ -224,7 +214,7 @@ fn add_number(n: usize, numbers: &mut Vec<u32>, word: &[u8]) -> Result<(), Refus
 }
 
 /// All words that are left, as numbers.
-fn numbers(alloc: Global, n: usize, words: &mut Words<'_>) -> Result<Vec<u32>, Refusal>
+fn numbers(alloc: Global, n: usize, words: &mut Words<'_>) -> Result<Vec<u32>>
     ensures { Answers (seen (λ v. v.items) result) (numbers_after n [] words.old) }
 {
     let mut numbers = Vec::new(alloc);
@@ -233,7 +223,7 @@ fn numbers(alloc: Global, n: usize, words: &mut Words<'_>) -> Result<Vec<u32>, R
 }
 
 /// All words that are left, as numbers, after those before.
-fn add_numbers(n: usize, numbers: &mut Vec<u32>, words: &mut Words<'_>) -> Result<(), Refusal>
+fn add_numbers(n: usize, numbers: &mut Vec<u32>, words: &mut Words<'_>) -> Result<()>
     ensures { Answers (seen (λ _. numbers.new.items) result) (numbers_after n numbers.old.items words.old) }
 {
     while let Some(word) = words.take() {
@@ -244,7 +234,7 @@ fn add_numbers(n: usize, numbers: &mut Vec<u32>, words: &mut Words<'_>) -> Resul
 
 /// `N..`, one number at least
 #[tactic(auto, using(ar_space::proofs::Outcomes::answering), unfolding(crate::specs::Reading::some_numbers))]
-fn some_numbers(alloc: Global, n: usize, words: &mut Words<'_>) -> Result<Vec<u32>, Refusal>
+fn some_numbers(alloc: Global, n: usize, words: &mut Words<'_>) -> Result<Vec<u32>>
     ensures { Answers (seen (λ v. v.items) result) (some_numbers n words.old) }
 {
     let first = word(n, words)?;
@@ -256,7 +246,7 @@ fn some_numbers(alloc: Global, n: usize, words: &mut Words<'_>) -> Result<Vec<u3
 
 /// `D N..`
 #[tactic(auto, using(ar_space::proofs::Outcomes::answering), unfolding(crate::specs::Reading::spared))]
-fn spared(alloc: Global, n: usize, words: &mut Words<'_>) -> Result<Vec<u32>, Refusal>
+fn spared(alloc: Global, n: usize, words: &mut Words<'_>) -> Result<Vec<u32>>
     ensures { Answers (seen (λ v. v.items) result) (spared n words.old) }
 {
     path(alloc, n, words)?;
@@ -265,7 +255,7 @@ fn spared(alloc: Global, n: usize, words: &mut Words<'_>) -> Result<Vec<u32>, Re
 
 /// `P.. over N..`
 #[tactic(auto, using(ar_space::proofs::Outcomes::answering), unfolding(crate::specs::Reading::set))]
-fn set(alloc: Global, n: usize, first: &[u8], words: &mut Words<'_>) -> Result<Bound, Refusal>
+fn set(alloc: Global, n: usize, first: &[u8], words: &mut Words<'_>) -> Result<Bound>
     ensures { Answers result (set n first.now words.old) }
 {
     let links = set_links(alloc, n, first, words)?;
@@ -275,7 +265,7 @@ fn set(alloc: Global, n: usize, first: &[u8], words: &mut Words<'_>) -> Result<B
 
 /// `none`, or `P.. over N..`
 #[tactic(auto, using(ar_space::proofs::Outcomes::answering), unfolding(crate::specs::Reading::bound))]
-fn bound(alloc: Global, n: usize, words: &mut Words<'_>) -> Result<Option<Bound>, Refusal>
+fn bound(alloc: Global, n: usize, words: &mut Words<'_>) -> Result<Option<Bound>>
     ensures { Answers result (bound n words.old) }
 {
     let first = word(n, words)?;
@@ -289,12 +279,7 @@ fn bound(alloc: Global, n: usize, words: &mut Words<'_>) -> Result<Option<Bound>
 
 /// Adds a link.
 #[tactic(auto, using(ar_space::proofs::Outcomes::answering), unfolding(crate::specs::Reading::link_line))]
-fn link_line(
-    alloc: Global,
-    n: usize,
-    words: &mut Words<'_>,
-    draft: &mut Draft,
-) -> Result<(), Refusal>
+fn link_line(alloc: Global, n: usize, words: &mut Words<'_>, draft: &mut Draft) -> Result<()>
     ensures { Answers (seen (λ _. draft.new) result) (link_line n words.old draft.old) }
 {
     let link = link(alloc, n, words)?;
@@ -303,7 +288,7 @@ fn link_line(
 
 /// Adds a wired interrupt with its count.
 #[tactic(auto, using(ar_space::proofs::Outcomes::answering), unfolding(crate::specs::Reading::wired_line))]
-fn wired_line(n: usize, words: &mut Words<'_>, draft: &mut Draft) -> Result<(), Refusal>
+fn wired_line(n: usize, words: &mut Words<'_>, draft: &mut Draft) -> Result<()>
     ensures { Answers (seen (λ _. draft.new) result) (wired_line n words.old draft.old) }
 {
     let wired = wired(n, words)?;
@@ -312,7 +297,7 @@ fn wired_line(n: usize, words: &mut Words<'_>, draft: &mut Draft) -> Result<(), 
 
 /// Sets the interrupt that the System Control Interrupt is wired to.
 #[tactic(auto, using(ar_space::proofs::Outcomes::answering), unfolding(crate::specs::Reading::sci_line))]
-fn sci_line(n: usize, words: &mut Words<'_>, draft: &mut Draft) -> Result<(), Refusal>
+fn sci_line(n: usize, words: &mut Words<'_>, draft: &mut Draft) -> Result<()>
     ensures answer { Answers (seen (λ _. draft.new) result) (sci_line n words.old draft.old) }
     ensures memory { NotMemory result }
 {
@@ -322,12 +307,7 @@ fn sci_line(n: usize, words: &mut Words<'_>, draft: &mut Draft) -> Result<(), Re
 
 /// Sets the interrupts that are avoided.
 #[tactic(auto, using(ar_space::proofs::Outcomes::answering), unfolding(crate::specs::Reading::avoid_line))]
-fn avoid_line(
-    alloc: Global,
-    n: usize,
-    words: &mut Words<'_>,
-    draft: &mut Draft,
-) -> Result<(), Refusal>
+fn avoid_line(alloc: Global, n: usize, words: &mut Words<'_>, draft: &mut Draft) -> Result<()>
     ensures { Answers (seen (λ _. draft.new) result) (avoid_line n words.old draft.old) }
 {
     let avoid = avoid(alloc, n, words)?;
@@ -336,12 +316,7 @@ fn avoid_line(
 
 /// Adds the interrupts of a device that are spared.
 #[tactic(auto, using(ar_space::proofs::Outcomes::answering), unfolding(crate::specs::Reading::spared_line))]
-fn spared_line(
-    alloc: Global,
-    n: usize,
-    words: &mut Words<'_>,
-    draft: &mut Draft,
-) -> Result<(), Refusal>
+fn spared_line(alloc: Global, n: usize, words: &mut Words<'_>, draft: &mut Draft) -> Result<()>
     ensures { Answers (seen (λ _. draft.new) result) (spared_line n words.old draft.old) }
 {
     let interrupts = spared(alloc, n, words)?;
@@ -350,7 +325,7 @@ fn spared_line(
 
 /// Sets the rule of the choice.
 #[tactic(auto, using(ar_space::proofs::Outcomes::answering), unfolding(crate::specs::Reading::rule_line))]
-fn rule_line(n: usize, rule: Rule, words: &Words<'_>, draft: &mut Draft) -> Result<(), Refusal>
+fn rule_line(n: usize, rule: Rule, words: &Words<'_>, draft: &mut Draft) -> Result<()>
     ensures answer { Answers (seen (λ _. draft.new) result) (rule_line n rule words.now draft.old) }
     ensures memory { NotMemory result }
 {
@@ -360,12 +335,7 @@ fn rule_line(n: usize, rule: Rule, words: &Words<'_>, draft: &mut Draft) -> Resu
 
 /// Adds what a link is given.
 #[tactic(auto, using(ar_space::proofs::Outcomes::answering), unfolding(crate::specs::Reading::give_line))]
-fn give_line(
-    alloc: Global,
-    n: usize,
-    words: &mut Words<'_>,
-    draft: &mut Draft,
-) -> Result<(), Refusal>
+fn give_line(alloc: Global, n: usize, words: &mut Words<'_>, draft: &mut Draft) -> Result<()>
     ensures { Answers (seen (λ _. draft.new) result) (give_line n words.old draft.old) }
 {
     let give = give(alloc, n, words)?;
@@ -374,7 +344,7 @@ fn give_line(
 
 /// Sets how busy the busiest interrupt is.
 #[tactic(auto, using(ar_space::proofs::Outcomes::answering), unfolding(crate::specs::Reading::busiest_line))]
-fn busiest_line(n: usize, words: &mut Words<'_>, draft: &mut Draft) -> Result<(), Refusal>
+fn busiest_line(n: usize, words: &mut Words<'_>, draft: &mut Draft) -> Result<()>
     ensures answer { Answers (seen (λ _. draft.new) result) (busiest_line n words.old draft.old) }
     ensures memory { NotMemory result }
 {
@@ -384,12 +354,7 @@ fn busiest_line(n: usize, words: &mut Words<'_>, draft: &mut Draft) -> Result<()
 
 /// Sets why no assignment has a less busy one.
 #[tactic(auto, using(ar_space::proofs::Outcomes::answering), unfolding(crate::specs::Reading::bound_line))]
-fn bound_line(
-    alloc: Global,
-    n: usize,
-    words: &mut Words<'_>,
-    draft: &mut Draft,
-) -> Result<(), Refusal>
+fn bound_line(alloc: Global, n: usize, words: &mut Words<'_>, draft: &mut Draft) -> Result<()>
     ensures { Answers (seen (λ _. draft.new) result) (bound_line n words.old draft.old) }
 {
     let bound = bound(alloc, n, words)?;
@@ -404,7 +369,7 @@ fn keyed(
     key: &[u8],
     words: &mut Words<'_>,
     draft: &mut Draft,
-) -> Result<(), Refusal>
+) -> Result<()>
     ensures { Answers (seen (λ _. draft.new) result) (keyed n key.now words.old draft.old) }
 {
     if key == b"link".as_slice() {
@@ -434,7 +399,7 @@ fn keyed(
 
 /// The n-th line.
 #[tactic(auto, using(ar_space::proofs::Outcomes::answering), unfolding(crate::specs::Reading::line))]
-pub(crate) fn line(alloc: Global, n: usize, text: &[u8], draft: &mut Draft) -> Result<(), Refusal>
+pub(crate) fn line(alloc: Global, n: usize, text: &[u8], draft: &mut Draft) -> Result<()>
     ensures { Answers (seen (λ _. draft.new) result) (line n (words text.now) draft.old) }
 {
     let mut words = Words::of(text);

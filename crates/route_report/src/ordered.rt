@@ -7,7 +7,7 @@ ghost use Rattle.ar_space.specs.Outcome.{Answers, seen};
 ghost use Rattle.route_report.specs.Ordered.{in_order, barred, link_order, wired_order, give_order, bound_in_order};
 
 use aml_path::Path;
-use ar_space::Refusal;
+use ar_space::Result;
 use route_check::Bound;
 use route_model::Link;
 use std::cmp::Ordering;
@@ -81,7 +81,7 @@ fn without_repeats(mut numbers: Vec<u32>) -> Vec<u32>
 }
 
 /// Numbers that are avoided and numbers that are spared, ascending, each once.
-pub(crate) fn barred(mut avoid: Vec<u32>, mut spared: Vec<u32>) -> Result<Vec<u32>, Refusal>
+pub(crate) fn barred(mut avoid: Vec<u32>, mut spared: Vec<u32>) -> Result<Vec<u32>>
     ensures { Answers (seen (λ v. v.items) result) (Ok (barred avoid.items spared.items)) }
 {
     avoid.append(&mut spared)?;

@@ -14,7 +14,7 @@ use crate::lines::{
 };
 use crate::report::Report;
 use aml_path::laws::text_is_read_back;
-use ar_space::Refusal;
+use ar_space::Result;
 use std::alloc::{AllocError, Global};
 
 /// The lines of what was found.
@@ -94,7 +94,7 @@ fn put_chosen(alloc: Global, text: &mut Vec<u8>, report: &Report) -> Result<(), 
 /// let text = print(alloc, &report)?;
 /// output.write_all(text.as_slice())?;
 /// ```
-pub fn print(alloc: Global, report: &Report) -> Result<Vec<u8>, Refusal>
+pub fn print(alloc: Global, report: &Report) -> Result<Vec<u8>>
     ensures text { Answers (seen (λ v. v.items) result) (Ok (text_of_report report.now)) }
     ensures read_back { IfOk result (λ v. IsReadable report.now →
         claim_of_text v.items ≡ Ok (claim_of_report report.now)) }

@@ -9,7 +9,7 @@ use crate::heading::heading;
 use crate::line::line;
 use crate::version::Version;
 use crate::words::bad_line;
-use ar_space::Refusal;
+use ar_space::Result;
 use route_check::Claim;
 use std::alloc::Global;
 use text_words::cut_at;
@@ -28,7 +28,7 @@ fn first_line(text: &[u8]) -> (&[u8], &[u8])
 }
 
 /// The lines from the second on, of a report of this version.
-fn lines_read(alloc: Global, version: Version, text: &[u8]) -> Result<Claim, Refusal>
+fn lines_read(alloc: Global, version: Version, text: &[u8]) -> Result<Claim>
     requires { length text.now < 2 ^ 64 - 1 }
     ensures { Answers result (lines_read 2 (lines text.now) (first_said version)) }
 {
@@ -71,7 +71,7 @@ fn lines_read(alloc: Global, version: Version, text: &[u8]) -> Result<Claim, Ref
 /// let claim = read(alloc, text)?;
 /// println!(rt; "{} links, busiest {}", claim.links.len(), claim.busiest)?;
 /// ```
-pub fn read(alloc: Global, text: &[u8]) -> Result<Claim, Refusal>
+pub fn read(alloc: Global, text: &[u8]) -> Result<Claim>
     ensures { Answers result (claim_of_text text.now) }
 {
     if text.is_empty() {

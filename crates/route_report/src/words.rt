@@ -10,7 +10,7 @@ ghost use Rattle.route_report.specs.Reading.{named};
 
 use crate::numerals;
 use aml_path::Path;
-use ar_space::{Refusal, ReportFault};
+use ar_space::{Refusal, ReportFault, Result};
 use std::alloc::Global;
 use text_words::Words;
 
@@ -23,7 +23,7 @@ pub(crate) fn bad_line(n: usize) -> Refusal
 
 /// The next word.
 #[tactic(auto, using(ar_space::proofs::Outcomes::answering))]
-pub(crate) fn word<'a>(n: usize, words: &mut Words<'a>) -> Result<&'a [u8], Refusal>
+pub(crate) fn word<'a>(n: usize, words: &mut Words<'a>) -> Result<&'a [u8]>
     ensures answer { Answers (seen (λ w. (w.now, words.new)) result) (word n words.old) }
     ensures memory { NotMemory result }
 {
@@ -35,7 +35,7 @@ pub(crate) fn word<'a>(n: usize, words: &mut Words<'a>) -> Result<&'a [u8], Refu
 
 /// No word is left.
 #[tactic(auto, using(ar_space::proofs::Outcomes::answering))]
-pub(crate) fn ended(n: usize, words: &Words<'_>) -> Result<(), Refusal>
+pub(crate) fn ended(n: usize, words: &Words<'_>) -> Result<()>
     ensures answer { Answers result (ended n words.now) }
     ensures memory { NotMemory result }
 {
@@ -48,7 +48,7 @@ pub(crate) fn ended(n: usize, words: &Words<'_>) -> Result<(), Refusal>
 
 /// The next word is this one.
 #[tactic(auto, using(ar_space::proofs::Outcomes::answering), unfolding(crate::specs::Reading::expected))]
-pub(crate) fn expected(n: usize, key: &[u8], words: &mut Words<'_>) -> Result<(), Refusal>
+pub(crate) fn expected(n: usize, key: &[u8], words: &mut Words<'_>) -> Result<()>
     ensures answer { Answers (seen (λ _. words.new) result) (expected n key.now words.old) }
     ensures memory { NotMemory result }
 {
@@ -62,12 +62,7 @@ pub(crate) fn expected(n: usize, key: &[u8], words: &mut Words<'_>) -> Result<()
 
 /// The next word is one of two.
 #[tactic(auto, using(ar_space::proofs::Outcomes::answering), unfolding(crate::specs::Reading::one_of))]
-pub(crate) fn one_of(
-    n: usize,
-    this: &[u8],
-    that: &[u8],
-    words: &mut Words<'_>,
-) -> Result<(), Refusal>
+pub(crate) fn one_of(n: usize, this: &[u8], that: &[u8], words: &mut Words<'_>) -> Result<()>
     ensures answer { Answers (seen (λ _. words.new) result) (one_of n this.now that.now words.old) }
     ensures memory { NotMemory result }
 {
@@ -81,7 +76,7 @@ pub(crate) fn one_of(
 
 /// The next word as a number.
 #[tactic(auto, using(ar_space::proofs::Outcomes::answering), unfolding(crate::specs::Reading::numbered))]
-pub(crate) fn number(n: usize, words: &mut Words<'_>) -> Result<u32, Refusal>
+pub(crate) fn number(n: usize, words: &mut Words<'_>) -> Result<u32>
     ensures answer { Answers (seen (λ a. (a, words.new)) result) (numbered n words.old) }
     ensures memory { NotMemory result }
 {
@@ -91,7 +86,7 @@ pub(crate) fn number(n: usize, words: &mut Words<'_>) -> Result<u32, Refusal>
 
 /// The next word as a path.
 #[tactic(auto, using(ar_space::proofs::Outcomes::answering), unfolding(crate::specs::Reading::named))]
-pub(crate) fn path(alloc: Global, n: usize, words: &mut Words<'_>) -> Result<Path, Refusal>
+pub(crate) fn path(alloc: Global, n: usize, words: &mut Words<'_>) -> Result<Path>
     ensures { Answers (seen (λ p. (p, words.new)) result) (named n words.old) }
 {
     let word = word(n, words)?;
@@ -100,7 +95,7 @@ pub(crate) fn path(alloc: Global, n: usize, words: &mut Words<'_>) -> Result<Pat
 
 /// The number that a word is.
 #[tactic(auto, using(ar_space::proofs::Outcomes::answering))]
-pub(crate) fn number_here(n: usize, word: &[u8]) -> Result<u32, Refusal>
+pub(crate) fn number_here(n: usize, word: &[u8]) -> Result<u32>
     ensures answer { Answers result (number_here n word.now) }
     ensures memory { NotMemory result }
 {
@@ -111,7 +106,7 @@ pub(crate) fn number_here(n: usize, word: &[u8]) -> Result<u32, Refusal>
 }
 
 /// The path of a text that may be none, or the line is refused.
-fn path_in_line(alloc: Global, n: usize, word: &[u8]) -> Result<Path, Refusal>
+fn path_in_line(alloc: Global, n: usize, word: &[u8]) -> Result<Path>
     ensures { Answers result (in_line n (path_of_text word.now)) }
 {
     match Path::from_text(alloc, word) {
@@ -121,7 +116,7 @@ fn path_in_line(alloc: Global, n: usize, word: &[u8]) -> Result<Path, Refusal>
     }
 }
 
-fn is_text_of(alloc: Global, path: &Path, word: &[u8]) -> Result<bool, Refusal>
+fn is_text_of(alloc: Global, path: &Path, word: &[u8]) -> Result<bool>
     ensures { Answers result (Ok (bytes_eq (text_of path.now) word.now)) }
 {
     let text = path.text(alloc)?;
@@ -130,7 +125,7 @@ fn is_text_of(alloc: Global, path: &Path, word: &[u8]) -> Result<bool, Refusal>
 
 /// The path that a word is: its segments have four characters each.
 #[tactic(auto, using(ar_space::proofs::Outcomes::answering), unfolding(crate::specs::Reading::path_here))]
-pub(crate) fn path_here(alloc: Global, n: usize, word: &[u8]) -> Result<Path, Refusal>
+pub(crate) fn path_here(alloc: Global, n: usize, word: &[u8]) -> Result<Path>
     ensures { Answers result (path_here n word.now) }
 {
     let path = path_in_line(alloc, n, word)?;

@@ -1,11 +1,11 @@
 //! Paths.
 use crate::refusals::refuse;
 use aml_path::Path;
-use ar_space::Refusal;
+use ar_space::Result;
 use test_rows::Exchange;
 
 /// What a path that was read comes to: the root where it is none.
-pub fn path_or_root(asked: &mut Exchange, read: Result<Path, Refusal>) -> Path {
+pub fn path_or_root(asked: &mut Exchange, read: Result<Path>) -> Path {
     match read {
         Ok(path) => path,
         Err(refusal) => {

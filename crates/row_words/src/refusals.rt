@@ -1,5 +1,5 @@
 //! Refusals.
-use ar_space::{EvaluationFault, InputFault, Refusal, ReportFault, ResourceFault};
+use ar_space::{EvaluationFault, InputFault, Refusal, ReportFault, ResourceFault, Result};
 use test_rows::Exchange;
 
 /// Answers that a term is not evaluated: by the refusal's number, and by the opcode.
@@ -38,7 +38,7 @@ pub fn refuse(asked: &mut Exchange, refusal: Refusal) {
 }
 
 /// Answers what a call that only does something gives.
-pub fn say_done(asked: &mut Exchange, outcome: Result<(), Refusal>) {
+pub fn say_done(asked: &mut Exchange, outcome: Result<()>) {
     if let Err(refusal) = outcome {
         refuse(asked, refusal);
     }

@@ -1,6 +1,6 @@
 //! The machine that a machine text describes.
 use acpi_machine::{Machine, Mode, load_tables};
-use ar_space::{Fused, Refusal, Sparse};
+use ar_space::{Fused, Result, Sparse};
 use machine_description::read_description;
 use space_trace::Traced;
 use std::alloc::Global;
@@ -12,7 +12,7 @@ const STEPS: u64 = 1_000_000;
 pub type TracedMachine = Machine<Traced<Fused<Sparse>>>;
 
 /// The machine of a machine text. Loading accesses registers too. After `pass` accesses, one fails.
-pub fn machine_of(alloc: Global, text: &[u8], pass: u64) -> Result<TracedMachine, Refusal> {
+pub fn machine_of(alloc: Global, text: &[u8], pass: u64) -> Result<TracedMachine> {
     let machine = read_description(alloc, text)?;
     let space = Traced::new(Fused::new(machine.registers, pass));
     match load_tables(alloc, machine.tables, space, STEPS, machine.osi) {
@@ -22,6 +22,6 @@ pub fn machine_of(alloc: Global, text: &[u8], pass: u64) -> Result<TracedMachine
 }
 
 /// Tells the firmware the mode `apic`.
-pub fn initialize(alloc: Global, machine: &mut TracedMachine) -> Result<(), Refusal> {
+pub fn initialize(alloc: Global, machine: &mut TracedMachine) -> Result<()> {
     machine.initialize(alloc, Mode::Apic)
 }

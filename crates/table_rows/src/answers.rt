@@ -1,11 +1,11 @@
 //! What calls give, as rows write it, and lists that are filled.
 
-use ar_space::Refusal;
+use ar_space::Result;
 use row_words::{extend, refuse};
 use test_rows::Exchange;
 
 /// What a call gives, if it does not refuse.
-pub fn given<T: Drop>(asked: &mut Exchange, outcome: Result<T, Refusal>) -> Option<T> {
+pub fn given<T: Drop>(asked: &mut Exchange, outcome: Result<T>) -> Option<T> {
     match outcome {
         Ok(given) => Some(given),
         Err(refusal) => {
@@ -16,7 +16,7 @@ pub fn given<T: Drop>(asked: &mut Exchange, outcome: Result<T, Refusal>) -> Opti
 }
 
 /// The number of the refusal of a call, or 0.
-pub fn number_of<T: Drop>(outcome: Result<T, Refusal>) -> u8 {
+pub fn number_of<T: Drop>(outcome: Result<T>) -> u8 {
     match outcome {
         Ok(_) => 0,
         Err(refusal) => refusal.number(),

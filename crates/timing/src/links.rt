@@ -1,6 +1,6 @@
 //! Links as lines of the numbers that they offer, and wired interrupts as a number and a count behind `wired`.
 use aml_path::{Path, Seg};
-use ar_space::Refusal;
+use ar_space::Result;
 use route_model::Link;
 use route_solve::Problem;
 use std::alloc::{AllocError, Global};
@@ -26,14 +26,14 @@ fn numbers(alloc: Global, line: &[u8]) -> Result<Vec<u32>, AllocError> {
 }
 
 /// The path of the link at a place: `\L000`, `\L001` and so on, which are in path order.
-fn path(alloc: Global, place: usize) -> Result<Path, Refusal> {
+fn path(alloc: Global, place: usize) -> Result<Path> {
     let digit = |n: usize| b'0' + (n % 10) as u8;
     let name = [b'L', digit(place / 100), digit(place / 10), digit(place)];
     Path::root(alloc).child(alloc, Seg::new(name)?)
 }
 
 /// Adds the link or the wired interrupt of a line.
-fn add_line(alloc: Global, problem: &mut Problem, line: &[u8]) -> Result<(), Refusal> {
+fn add_line(alloc: Global, problem: &mut Problem, line: &[u8]) -> Result<()> {
     match line.strip_prefix(b"wired ") {
         Some(rest) => {
             let words = numbers(alloc, rest)?;
@@ -50,7 +50,7 @@ fn add_line(alloc: Global, problem: &mut Problem, line: &[u8]) -> Result<(), Ref
 }
 
 /// The problem of these lines.
-pub(crate) fn problem(alloc: Global, text: &[u8]) -> Result<Problem, Refusal> {
+pub(crate) fn problem(alloc: Global, text: &[u8]) -> Result<Problem> {
     let mut problem = Problem {
         links: Vec::new(alloc),
         wired: Vec::new(alloc),

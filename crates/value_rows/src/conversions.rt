@@ -7,7 +7,7 @@ use aml_convert::{
     to_integer, to_text, truncate, truncate_integer,
 };
 use aml_objects::Octets;
-use ar_space::Refusal;
+use ar_space::Result;
 use std::cmp::Ordering;
 use test_rows::Exchange;
 
@@ -19,7 +19,7 @@ const ORDERS: [(&str, Ordering); 3] = [
 ];
 
 /// Answers bytes in hexadecimal digits, or the refusal.
-fn say_octets(asked: &mut Exchange, outcome: Result<Octets, Refusal>) {
+fn say_octets(asked: &mut Exchange, outcome: Result<Octets>) {
     match outcome {
         Ok(bytes) => asked.say_bytes(bytes.as_slice()),
         Err(refusal) => asked.refuse(refusal.number()),
@@ -27,7 +27,7 @@ fn say_octets(asked: &mut Exchange, outcome: Result<Octets, Refusal>) {
 }
 
 /// Answers a string, or the refusal.
-pub fn say_text(asked: &mut Exchange, outcome: Result<Octets, Refusal>) {
+pub fn say_text(asked: &mut Exchange, outcome: Result<Octets>) {
     match outcome {
         Ok(text) => asked.say_quoted(text.as_slice()),
         Err(refusal) => asked.refuse(refusal.number()),
@@ -35,7 +35,7 @@ pub fn say_text(asked: &mut Exchange, outcome: Result<Octets, Refusal>) {
 }
 
 /// Answers a string or a buffer behind its type, or the refusal.
-pub fn say_formed(asked: &mut Exchange, outcome: Result<Formed, Refusal>) {
+pub fn say_formed(asked: &mut Exchange, outcome: Result<Formed>) {
     match outcome {
         Ok(Formed::String(bytes)) => {
             asked.say("string");

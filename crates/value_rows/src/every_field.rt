@@ -3,7 +3,7 @@
 use crate::places::update_rule;
 use aml_fields::{AddressSpace, Region, read_field, write_field};
 use aml_objects::{FieldSource, FieldUnit, UpdateRule};
-use ar_space::{Place, Refusal, Sparse};
+use ar_space::{Place, Result, Sparse};
 use row_words::width;
 use std::alloc::Global;
 use test_rows::Exchange;
@@ -65,7 +65,7 @@ fn is_read(field: FieldUnit, bit: usize) -> bool {
 }
 
 /// Puts into the region what stands there before each write.
-fn fill(space: &mut Sparse) -> Result<(), Refusal> {
+fn fill(space: &mut Sparse) -> Result<()> {
     for number in 0..BYTES {
         space.put(place_of(number), before(number))?;
     }
@@ -119,7 +119,7 @@ fn is_read_well(read: &[u8], field: FieldUnit) -> bool {
 }
 
 /// Writes a field, and says whether the region is well.
-fn is_written_well(space: &mut Sparse, field: FieldUnit) -> Result<bool, Refusal> {
+fn is_written_well(space: &mut Sparse, field: FieldUnit) -> Result<bool> {
     fill(space)?;
     write_field(space, REGION, field, &SOURCE)?;
     Ok(is_region_well(space, field))

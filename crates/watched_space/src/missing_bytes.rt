@@ -6,7 +6,7 @@ ghost use Rattle.watched_space.specs.MissingPlaces.{no_missing, missing_read, mi
 ghost use Rattle.watched_space.specs.MissingPlaces.{memory_place, port_place, register_place};
 
 use crate::zeros::Zeros;
-use ar_space::{Place, Refusal};
+use ar_space::{Place, Result};
 use std::alloc::{AllocError, Global};
 use std::marker::Model;
 
@@ -93,7 +93,7 @@ fn put_registers(places: &mut Vec<Place>, entries: &[(u64, u8)]) -> Result<(), A
 
 impl MissingBytes {
     /// No bytes, and room for all that there may be.
-    pub fn new(alloc: Global) -> Result<MissingBytes, Refusal>
+    pub fn new(alloc: Global) -> Result<MissingBytes>
         ensures none { IfOk result (λ m. m ≡ no_missing) }
         ensures memory { IfErr result (λ refusal. refusal ≡ OutOfMemory) }
     {
@@ -106,7 +106,7 @@ impl MissingBytes {
 
     /// The places of the bytes, each once, in ascending order: memory, then ports, then configuration registers by
     /// function.
-    pub fn places(&self, alloc: Global) -> Result<Vec<Place>, Refusal>
+    pub fn places(&self, alloc: Global) -> Result<Vec<Place>>
         ensures places { IfOk result (λ places. places.items ≡ missing_places self.now) }
         ensures memory { IfErr result (λ refusal. refusal ≡ OutOfMemory) }
     {

@@ -14,4 +14,4 @@ returns-in_err-next-in-None-clause-refused g c =
     refused_begun _ c.from_residual.result _ _ _ paid c.from_residual.ensures
 
 pub returns-in-Some-clause-falls : goal.returns-in-Some-clause-falls
-returns-in-Some-clause-falls g c = falls_once c.go_to_items.result _ c.item_integer.new.run.1 c.args.run.now.1 _ c.in-Some.ensures.paid c.go_to_items.ensures
+returns-in-Some-clause-falls g c = falls_once c.go_to_items.result _ c.try_item.new.run.1 c.args.run.now.1 _ c.in-Some.ensures.paid c.go_to_items.ensures

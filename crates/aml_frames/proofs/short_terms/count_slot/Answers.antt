@@ -13,4 +13,4 @@ returns-clause-counted g c =
 pub returns-clause-behind : goal.returns-clause-behind
 returns-clause-behind g c =
     let short : IsShort (shorts.Slot c.in-Slot.slot) (row_alone (first c.args.act.now.place.rest)) = search rules in
-    c.over.ensures ∙ behind_slot_target g.S.Space.accesses c.args.act.now c.args.levels (omega (arith, c.if-levels-eq0.false)) short.1.1
+    c.advance.ensures ∙ behind_slot_target g.S.Space.accesses c.args.act.now c.args.levels (omega (arith, c.if-levels-eq0.false)) short.1.1

@@ -14,4 +14,4 @@ returns-clause-done g c done =
 pub returns-clause-behind : goal.returns-clause-behind
 returns-clause-behind g c done =
     let short : IsShort (shorts.Slot c.in-Slot.slot) (row_alone (first c.args.act.now.place.rest)) = search rules in
-    c.over.ensures ∙ behind_slot_target g.S.Space.accesses c.args.act.now c.args.levels (omega (arith, c.if-levels-eq0.false)) short.1.1
+    c.advance.ensures ∙ behind_slot_target g.S.Space.accesses c.args.act.now c.args.levels (omega (arith, c.if-levels-eq0.false)) short.1.1

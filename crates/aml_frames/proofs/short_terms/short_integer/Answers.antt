@@ -14,25 +14,25 @@ returns-else-not-take_step-clause-integer g c =
 pub returns-else-not-take_step-clause-behind : goal.returns-else-not-take_step-clause-behind
 returns-else-not-take_step-clause-behind g c =
     let short : IsShort (shorts.Slot c.in-Slot.slot) (row_alone (first c.args.act.now.place.rest)) = search rules in
-    c.over.ensures ∙ behind_slot g.S.Space.accesses c.args.act.now c.args.levels (omega (arith, c.if-levels-eq0.false)) short.1.1
+    c.advance.ensures ∙ behind_slot g.S.Space.accesses c.args.act.now c.args.levels (omega (arith, c.if-levels-eq0.false)) short.1.1
 
 pub returns-else-not-take_step-2-clause-integer : goal.returns-else-not-take_step-2-clause-integer
 returns-else-not-take_step-2-clause-integer g c =
     let short : IsShort (shorts.Constant c.in-Constant.number) (row_alone (first c.args.act.now.place.rest)) = search rules in
-    does_short_constant g.S.Space.accesses c.args.act.now.scope c.args.act.now.depth (count_at c.args.act.now.marks) c.args.levels c.args.act.now.place c.in-Constant.number _ (omega (arith, c.if-levels-eq0.false)) short (c.if-not-take_step-2.ensures.taken refl) (rw (← c.run-in-Constant.view_is) c.number_kept.ensures)
+    does_short_constant g.S.Space.accesses c.args.act.now.scope c.args.act.now.depth (count_at c.args.act.now.marks) c.args.levels c.args.act.now.place c.in-Constant.number _ (omega (arith, c.if-levels-eq0.false)) short (c.if-not-take_step-2.ensures.taken refl) (rw (← c.run-in-Constant.view_is) c.truncated_number.ensures)
 
 pub returns-else-not-take_step-2-clause-behind : goal.returns-else-not-take_step-2-clause-behind
 returns-else-not-take_step-2-clause-behind g c =
     let short : IsShort (shorts.Constant c.in-Constant.number) (row_alone (first c.args.act.now.place.rest)) = search rules in
-    c.over-in-Constant.ensures ∙ behind_slot g.S.Space.accesses c.args.act.now c.args.levels (omega (arith, c.if-levels-eq0.false)) short.1
+    c.advance-in-Constant.ensures ∙ behind_slot g.S.Space.accesses c.args.act.now c.args.levels (omega (arith, c.if-levels-eq0.false)) short.1
 
 pub returns-else-not-take_step-3-clause-integer : goal.returns-else-not-take_step-3-clause-integer
 returns-else-not-take_step-3-clause-integer g c =
     let short : IsShort (shorts.Number c.in-Number.count) (row_alone (first c.args.act.now.place.rest)) = search rules in
-    let is : _ ≡ (an_integer c.in-Number.count (over 1 c.args.act.now.place)).0 = c.number_at-number.ensures ∙ ap (λ (x : Site). (an_integer c.in-Number.count x.place).0) c.over-in-Number.ensures in
-    does_short_number g.S.Space.accesses c.args.act.now.scope c.args.act.now.depth (count_at c.args.act.now.marks) c.args.levels c.args.act.now.place c.in-Number.count _ _ (omega (arith, c.if-levels-eq0.false)) short is (c.if-not-take_step-3.ensures.taken refl) (rw (← c.run-in-Number.view_is) c.number_kept-in-Number.ensures)
+    let is : _ ≡ (an_integer c.in-Number.count (over 1 c.args.act.now.place)).0 = c.number_at-number.ensures ∙ ap (λ (x : Site). (an_integer c.in-Number.count x.place).0) c.advance-in-Number.ensures in
+    does_short_number g.S.Space.accesses c.args.act.now.scope c.args.act.now.depth (count_at c.args.act.now.marks) c.args.levels c.args.act.now.place c.in-Number.count _ _ (omega (arith, c.if-levels-eq0.false)) short is (c.if-not-take_step-3.ensures.taken refl) (rw (← c.run-in-Number.view_is) c.truncated_number-in-Number.ensures)
 
 pub returns-else-not-take_step-3-clause-behind : goal.returns-else-not-take_step-3-clause-behind
 returns-else-not-take_step-3-clause-behind g c =
     let short : IsShort (shorts.Number c.in-Number.count) (row_alone (first c.args.act.now.place.rest)) = search rules in
-    c.over-in-Number-2.ensures ∙ ap (λ (x : Site). at_place x (over c.in-Number.count x.place)) c.over-in-Number.ensures ∙ behind_integer g.S.Space.accesses c.args.act.now c.args.levels c.in-Number.count (omega (arith, c.if-levels-eq0.false)) short
+    c.advance-in-Number-2.ensures ∙ ap (λ (x : Site). at_place x (over c.in-Number.count x.place)) c.advance-in-Number.ensures ∙ behind_integer g.S.Space.accesses c.args.act.now c.args.levels c.in-Number.count (omega (arith, c.if-levels-eq0.false)) short

@@ -18,5 +18,11 @@ returns-clause-unwritten g c = λ write units e s after ends. units_unwritten wr
 pub returns-clause-read_in_region : goal.returns-clause-read_in_region
 returns-clause-read_in_region g c = λ accesses region f s ns after turns. field_read (read_unit accesses region f.access) f s ns after turns
 
+pub returns-clause-unread_in_region : goal.returns-clause-unread_in_region
+returns-clause-unread_in_region g c = λ accesses region f e s after ends. field_unread (read_unit accesses region f.access) f e s after ends
+
 pub returns-clause-written_in_region : goal.returns-clause-written_in_region
 returns-clause-written_in_region g c = λ accesses region f source s answers after turns. units_written (write_unit accesses region f source) (units_of f.bit_offset f.bits f.access) s answers after turns
+
+pub returns-clause-unwritten_in_region : goal.returns-clause-unwritten_in_region
+returns-clause-unwritten_in_region g c = λ accesses region f source e s after ends. units_unwritten (write_unit accesses region f source) e (units_of f.bit_offset f.bits f.access) s after ends

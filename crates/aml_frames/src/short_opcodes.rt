@@ -1,0 +1,77 @@
+//! The operators that are done at once where their operands are there already, by the byte that is their opcode
+//! (ACPI 6.5, 19.6 and 20.3).
+ghost use Rattle.std.specs.Prelude.{◌≡◌, ◌<◌, Ok, None, IfSome};
+ghost use Rattle.ar_space.specs.Change.{Does};
+ghost use Rattle.aml_marked.specs.Marked.{first, over};
+ghost use Rattle.aml_meaning.specs.declared.term_kind.TermKind.TheVariants as kinds;
+ghost use Rattle.aml_meaning.specs.Run.{charge};
+ghost use Rattle.aml_frames.specs.Operands.{row_kind};
+ghost use Rattle.aml_frames.specs.Places.{at_place};
+ghost use Rattle.aml_frames.specs.ShortTerms.{row_alone};
+
+use crate::activation::Activation;
+use crate::short_terms::take_step;
+use aml_convert::{BinaryOperator, Comparison, LogicalOperator};
+use aml_meaning::{Count, OperatorKind, Running, Test, TwoOperands};
+
+/// The operator with an opcode of this one byte, if it can be done at once: `operator_item` and `operator_integer` say
+/// which of them where.
+#[inline(always)]
+#[tactic(auto, unfolding(aml_grammar::specs::Table::row_of, aml_grammar::specs::Names::starts_name))]
+fn operator_at(byte: u8) -> Option<OperatorKind>
+    ensures { IfSome result (λ kind. row_kind (row_alone byte) ≡ kinds.Operator kind) }
+{
+    match byte {
+        0x70 => Some(OperatorKind::Store),
+        0x72 => Some(OperatorKind::Two(TwoOperands::Integers(BinaryOperator::Add))),
+        0x74 => Some(OperatorKind::Two(TwoOperands::Integers(BinaryOperator::Subtract))),
+        0x75 => Some(OperatorKind::Count(Count::Up)),
+        0x76 => Some(OperatorKind::Count(Count::Down)),
+        0x77 => Some(OperatorKind::Two(TwoOperands::Integers(BinaryOperator::Multiply))),
+        0x79 => Some(OperatorKind::Two(TwoOperands::Integers(BinaryOperator::ShiftLeft))),
+        0x7A => Some(OperatorKind::Two(TwoOperands::Integers(BinaryOperator::ShiftRight))),
+        0x7B => Some(OperatorKind::Two(TwoOperands::Integers(BinaryOperator::And))),
+        0x7C => Some(OperatorKind::Two(TwoOperands::Integers(BinaryOperator::Nand))),
+        0x7D => Some(OperatorKind::Two(TwoOperands::Integers(BinaryOperator::Or))),
+        0x7E => Some(OperatorKind::Two(TwoOperands::Integers(BinaryOperator::Nor))),
+        0x7F => Some(OperatorKind::Two(TwoOperands::Integers(BinaryOperator::Xor))),
+        0x85 => Some(OperatorKind::Two(TwoOperands::Integers(BinaryOperator::Mod))),
+        0x90 => Some(OperatorKind::Test(Test::Logical(LogicalOperator::And))),
+        0x91 => Some(OperatorKind::Test(Test::Logical(LogicalOperator::Or))),
+        0x92 => Some(OperatorKind::LogicalNot),
+        0x93 => Some(OperatorKind::Test(Test::Compare(Comparison::Equal))),
+        0x94 => Some(OperatorKind::Test(Test::Compare(Comparison::Greater))),
+        0x95 => Some(OperatorKind::Test(Test::Compare(Comparison::Less))),
+        _ => None,
+    }
+}
+
+/// Takes the step of the operator that stands next, goes over its opcode, and says which it is, where `operator_at`
+/// knows it. In every other case nothing changes, also where no step or no level is left.
+#[inline(always)]
+pub(crate) fn take_operator<S>(
+    run: &mut Running<S>,
+    act: &mut Activation,
+    levels: u8,
+) -> Option<OperatorKind>
+    ensures kind { IfSome result (λ kind. row_kind (row_alone (first act.old.place.rest)) ≡ kinds.Operator kind) }
+    ensures deep { IfSome result (λ kind. 0 < levels) }
+    ensures taken { IfSome result (λ kind. Does (Ok tt) run.new charge run.old) }
+    ensures paid { IfSome result (λ kind. run.new.1 < run.old.1) }
+    ensures over { IfSome result (λ kind. act.new ≡ at_place act.old (over 1 act.old.place)) }
+    ensures kept { run.new.0 ≡ run.old.0 }
+    ensures none { result ≡ None → run.new ≡ run.old }
+    ensures stays { result ≡ None → act.new ≡ act.old }
+{
+    if levels == 0 {
+        return None;
+    }
+    let Some(kind) = operator_at(act.next_byte()) else {
+        return None;
+    };
+    if !take_step(run) {
+        return None;
+    }
+    act.advance(1);
+    Some(kind)
+}

@@ -1,0 +1,96 @@
+//! What tables, answers and calls leave where they end.
+ghost use Rattle.std.specs.Prelude.{◌≡◌, ◌<◌, ◌+◌, ◌-◌, ◌^◌, ◌%◌, ◌∷◌, ◌++◌, [], ℕ, List, length, Ok, Err};
+ghost use Rattle.ar_space.specs.Accesses.{Accesses};
+ghost use Rattle.ar_space.specs.Outcome.{Outcome};
+ghost use Rattle.ar_space.specs.declared.refusal.Refusal.{Refusal};
+ghost use Rattle.ar_space.specs.declared.refusal.Refusal.TheVariants as refusal;
+ghost use Rattle.ar_space.specs.declared.refusal.EvaluationFault.TheVariants.{ObjectLimit};
+ghost use Rattle.aml_path.specs.declared.segment.Seg.{Seg};
+ghost use Rattle.aml_grammar.specs.Tree.{Trees};
+ghost use Rattle.aml_objects.specs.declared.entry.Entry.{Entry};
+ghost use Rattle.aml_objects.specs.declared.entry.Method.{Method};
+ghost use Rattle.aml_objects.specs.declared.entry.NamedObject.TheVariants as named;
+ghost use Rattle.aml_objects.specs.declared.value.Value.{Value};
+ghost use Rattle.aml_namespace.specs.Search.{found};
+ghost use Rattle.aml_meaning.specs.Calling.{table_terms, loaded, called, evaluated, answer_exported, answered};
+ghost use Rattle.aml_meaning.specs.Exporting.{exported};
+ghost use Rattle.aml_meaning.specs.Given.{Given};
+ghost use Rattle.aml_meaning.specs.Importing.{imported};
+ghost use Rattle.aml_meaning.specs.Invocations.{body_terms, invoked, method_value};
+ghost use Rattle.aml_meaning.specs.Meaning.{meaning};
+ghost use Rattle.aml_meaning.specs.State.{State};
+ghost use Rattle.aml_meaning.specs.Tasks.{in_turn};
+ghost use Rattle.aml_laws.specs.Calls.{body_frame};
+ghost use Rattle.aml_laws.specs.CallTerms.{method_entry, HandedInTurn};
+ghost use Rattle.aml_laws.specs.Ends.{EndsAs, IsCallLeft, TableEnds};
+ghost use Rattle.aml_laws.specs.NamesWritten.{from_root};
+
+/// A table whose terms are read comes to what they come to, evaluated in turn at the root and in a frame of their own,
+/// whose slots hold nothing, and leaves the world that they left, whether it succeeds or is refused: only this frame
+/// ends, and all mutexes are free. Where frames have no number left, it is refused as `ObjectLimit`, and its terms
+/// aren't evaluated. A table that is loaded and leaves nothing behind is refused by this. That a table which can't be
+/// read changes nothing else either `a_table_is_read_with_what_was_told_before_it` says.
+pub fn a_table_leaves_what_its_terms_left<S>()
+    ensures ended { (accesses : Accesses S) (bytes : List ℕ) (steps : ℕ) (w told : State S) (ts : Trees) →
+        table_terms bytes w ≡ (Ok ts, told) → told.started < 2 ^ 64 - 1 →
+        TableEnds accesses steps ts told (loaded accesses bytes steps w) }
+    ensures full { (accesses : Accesses S) (bytes : List ℕ) (steps : ℕ) (w told : State S) (ts : Trees) →
+        table_terms bytes w ≡ (Ok ts, told) → told.started ≡ 2 ^ 64 - 1 →
+        EndsAs (Err (refusal.Evaluation ObjectLimit), (told, steps)) (loaded accesses bytes steps w) }
+{}
+
+/// The value of an object, and what it answers to a caller, is what its evaluation comes to with the same steps, and
+/// the world is the one that this left, whether it succeeds or is refused: a value is told with the steps that are
+/// left, and where an answer ends, all mutexes are free. So the value of a control method is what it gives, called
+/// with these arguments, and what it answers is this value handed out, or the refusal of either. One that succeeds and
+/// leaves nothing behind, and one that has a step less than it was given, are refused by this.
+pub fn an_answer_leaves_what_its_evaluation_left<S>()
+    ensures value { (accesses : Accesses S) (p : List Seg) (vs : List Value) (w after : State S) (steps rest : ℕ)
+        (v : Value) → called accesses p vs (w, steps) ≡ (Ok v, (after, rest)) →
+        evaluated accesses p vs steps w ≡ (Ok (v, rest), after) }
+    ensures no_value { (accesses : Accesses S) (p : List Seg) (vs : List Value) (w after : State S) (steps rest : ℕ)
+        (e : Refusal) → called accesses p vs (w, steps) ≡ (Err e, (after, rest)) →
+        evaluated accesses p vs steps w ≡ (Err e, after) }
+    ensures called { (accesses : Accesses S) (p path : List Seg) (vs : List Value) (s : State S × ℕ)
+        (number flags : ℕ) (body : List ℕ) →
+        found s.0.names.map [] (from_root p) ≡ Ok (path, method_entry number flags body) → flags % 8 ≡ length vs →
+        called accesses p vs s ≡ method_value (meaning accesses) 0 path body vs s }
+    ensures answer { (accesses : Accesses S) (p : List Seg) (gs : List Given) (w : State S) (steps : ℕ) →
+        EndsAs (answer_exported accesses p (length gs) gs (w, steps)) (answered accesses p gs steps w) }
+    ensures handed_out { (accesses : Accesses S) (p path : List Seg) (gs : List Given) (w : State S)
+        (number flags : ℕ) (body : List ℕ) (steps : ℕ) →
+        found w.names.map [] (from_root p) ≡ Ok (path, method_entry number flags body) → flags % 8 ≡ length gs →
+        (vs : List Value) (inside : State S) (v : Value) (after end : State S × ℕ) (out : Outcome Given) →
+        HandedInTurn gs w vs inside →
+        method_value (meaning accesses) 0 path body vs (inside, steps) ≡ (Ok v, after) →
+        exported accesses v after ≡ (out, end) → EndsAs (out, end) (answered accesses p gs steps w) }
+    ensures refused { (accesses : Accesses S) (p path : List Seg) (gs : List Given) (w : State S) (number flags : ℕ)
+        (body : List ℕ) (steps : ℕ) →
+        found w.names.map [] (from_root p) ≡ Ok (path, method_entry number flags body) → flags % 8 ≡ length gs →
+        (vs : List Value) (inside : State S) (end : State S × ℕ) (e : Refusal) → HandedInTurn gs w vs inside →
+        method_value (meaning accesses) 0 path body vs (inside, steps) ≡ (Err e, end) →
+        EndsAs (Err e, end) (answered accesses p gs steps w) }
+{}
+
+/// The first argument that can't be handed in refuses the call, and nothing is evaluated: the world is the one that
+/// this argument left, in which all mutexes are free. It is looked at where the control method takes as many arguments
+/// as there are. One that is handed in as nothing is refused by this.
+pub fn the_first_argument_that_is_refused_refuses_the_call<S>()
+    ensures { (accesses : Accesses S) (p path : List Seg) (front others : List Given) (g : Given) (w : State S)
+        (entry : Entry) (m : Method) (steps : ℕ) → found w.names.map [] (from_root p) ≡ Ok (path, entry) →
+        entry.object ≡ named.Method m → m.flags.byte % 8 ≡ length (front ++ g ∷ others) → (vs : List Value)
+        (between after : State S) (e : Refusal) → HandedInTurn front w vs between →
+        imported g between ≡ (Err e, after) →
+        EndsAs (Err e, (after, steps)) (answered accesses p (front ++ g ∷ others) steps w) }
+{}
+
+/// The end of a call takes its own frame away, and the names below its control method, and changes nothing else of the
+/// world that its body left, however that ended: no slot of another frame, no string, buffer or package, and no other
+/// name. A call that empties what its arguments refer to is refused by this.
+pub fn the_end_of_a_call_takes_its_frame_and_names_away<S>()
+    ensures { (accesses : Accesses S) (depth : ℕ) (p : List Seg) (body : List ℕ) (arguments : List Value)
+        (before inside : State S) (steps n : ℕ) → body_frame depth p body arguments before ≡ (Ok n, inside) →
+        (ts : Trees) → body_terms p body before ≡ (Ok ts, before) →
+        IsCallLeft p n (in_turn (meaning accesses) p (depth + 1) ts (inside, steps)).1.0
+        (invoked (meaning accesses) depth p body arguments (before, steps)).1.0 }
+{}
