@@ -2,8 +2,8 @@
 """pages_test.py
 
 Tries the scripts that hold pages to the sources on a copy of the tree: tools/opcodes.py, tools/descriptors.py, tools/report_lines.py,
-tools/refusals.py, tools/architecture.py, tools/words.py and tools/asl_rows.py each have to refuse a page, a table, a source or a row
-that was changed, and to say what is wrong."""
+tools/refusals.py, tools/architecture.py, tools/words.py, tools/row_counts.py and tools/asl_rows.py each have to refuse a page, a table, a
+source or a row that was changed, and to say what is wrong."""
 import os
 import shutil
 import subprocess
@@ -123,6 +123,9 @@ CASES = {
         ("docs/WORDS.md", "| step (of evaluation) |", "| step |", "step has another meaning too"),
         ("docs/WORDS.md", "route_solve/src/ways.rt", "route_solve/src/way.rt", "there is no file crates/route_solve/src/way.rt"),
         ("docs/WORDS.md", "`route_solve/src/ways.rt`", "`route_solve/src/rows.rt`", "doesn't have the word way"),
+    ],
+    "tools/row_counts.py": [
+        ("crates/spoilt_rows/stdout", "1 rows passed", "2 rows passed", "its data has 3 rows, and its stdout has 4"),
     ],
     "tools/asl_rows.py names.rows": [
         (f"{EVALUATION}/operators.rows", "Return(NOr(0xC, 0xA))", "joint denial", "no row of evaluation has the ASL of Nor"),
