@@ -66,13 +66,6 @@ impl Index {
         &self.places
     }
 
-    /// Whether a node may have children. Most of those that never had one have none by this. It takes no memory.
-    pub(crate) fn may_have_children(&self, parent: u64) -> bool
-        ensures { result ≡ false → (s : Seg) → child_in self.now parent s ≡ None }
-    {
-        self.parents.contains(parent)
-    }
-
     /// Whether a node may have a child with this segment. Most of those that have none are known by this. It takes no
     /// memory.
     pub(crate) fn may_have_child(&self, parent: u64, segment: Seg) -> bool
@@ -116,7 +109,7 @@ impl Index {
         ensures { MatchOption result ((s : Seg) → child_in self.now parent s ≡ None)
             (λ first. child_in self.now parent first.0 ≡ Some first.1.number) }
     {
-        if !self.may_have_children(parent) {
+        if !self.parents.contains(parent) {
             return None;
         }
         let mut from = self.places.range((parent, least_segment())..);

@@ -46,11 +46,11 @@ impl Model for Names {
     ghost invariant = { λ n. Linked n.nodes (child_in n.index) n.next };
 }
 
-/// The id of the root.
+/// The id of the root, which is declared first and lies in the first slot.
 pub(crate) fn root_id() -> NodeId
     ensures { result.number ≡ 0 }
 {
-    NodeId::numbered(0)
+    NodeId { key: 0, number: 0 }
 }
 
 impl Names {

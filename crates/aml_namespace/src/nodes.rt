@@ -8,7 +8,6 @@ ghost use Rattle.aml_path.specs.declared.segment.Seg.{Seg};
 ghost use Rattle.aml_objects.specs.declared.entry.NamedObject.TheVariants.{Data};
 ghost use Rattle.aml_objects.specs.declared.value.Value.TheVariants.{Integer};
 ghost use Rattle.aml_namespace.specs.declared.node.Node.{Node as Seen};
-ghost use Rattle.aml_namespace.specs.Mutexes.{acquired};
 ghost use Rattle.aml_namespace.specs.Nodes.{Keyed, key_of, object_put, with_node_object, node_released};
 
 use crate::hints::{Hints, PROBES, first_place};
@@ -152,7 +151,8 @@ impl Nodes {
         let Some(key) = self.keys.remove(&id.number) else {
             return;
         };
-        self.acquired -= taken(self.slab.remove(key));
+        let node = self.slab.remove(key);
+        self.acquired -= acquired(&node.entry.object);
     }
 
     /// Puts another object into the node with an id, if it stands. It takes no memory.
@@ -245,13 +245,6 @@ fn note_all(hints: &mut Hints, slab: &Slab<Node>, keys: &BTreeMap<u64, usize>) {
             hints.note(node.parent.number, node.segment, *key);
         }
     }
-}
-
-/// 1 for an acquired mutex in a node that is given up, and 0 for anything else.
-fn taken(node: Node) -> usize
-    ensures { result ≡ acquired node.entry.object }
-{
-    acquired(&node.entry.object)
 }
 
 /// Puts another object into a node, under the same number.

@@ -3,13 +3,19 @@ use Rattle.std.specs.Option.{option_map}
 use Rattle.std.specs.BTreeMap.{is_at}
 use Rattle.std.specs.Map.{lookup}
 use Rattle.aml_objects.specs.declared.node.NodeId.{NodeId}
-use Rattle.aml_namespace.specs.Tree.{index_cmp, child_in}
+use Rattle.aml_namespace.specs.Tree.{Index, index_cmp, child_in}
+use Rattle.aml_namespace.proofs.Marking.{unmarked}
 use Rattle.aml_namespace.proofs.Indexes.{from_least, same_parent}
 use Rattle.aml_namespace.proofs.index.Index.first_child.Goals as goal
 
 none_unless : (o : Option NodeId) → (is_some o ≡ true → ⊥) → o ≡ None
 none_unless None h = refl
 none_unless (Some x) h = absurd (h refl)
+
+pub returns-then-not-contains : goal.returns-then-not-contains
+returns-then-not-contains c = λ s.
+    ap (λ (es : Index). child_in es c.args.parent s) (sym c.self.view_is)
+    ∙ unmarked c.self.inside.parents c.self.inside.places.entries c.self.invariant.0 c.args.parent (sym c.contains.ensures ∙ c.if-not-contains.true) s
 
 pub returns-in-None : goal.returns-in-None
 returns-in-None c = λ s.

@@ -11,21 +11,21 @@ returns-in_default c =
     ∙ remove_absent c.self.inside.slab.slots c.self.inside.keys.entries c.self.invariant.0 c.args.id.number (sym c.in_default.ensures.value)
     ∙ ap (λ m. remove m c.args.id.number) c.self.view_is
 
-pub remove-requires-2 : goal.remove-requires-2
-remove-requires-2 c = stands c.self.inside.slab.slots c.self.inside.keys.entries c.self.invariant.0 c.args.id.number c.in-Some.key (sym c.in-Some.ensures.value)
+pub remove-node-requires : goal.remove-node-requires
+remove-node-requires c = stands c.self.inside.slab.slots c.self.inside.keys.entries c.self.invariant.0 c.args.id.number c.in-Some.key (sym c.in-Some.ensures.value)
 
 pub overflow_sub-self : goal.overflow_sub-self
-overflow_sub-self c = taken_within c.self.inside.slab.slots c.in-Some.key c.self.inside.acquired c.taken.result c.remove-2.result c.self.invariant.1 c.taken.ensures c.remove-2.ensures.value
+overflow_sub-self c = taken_within c.self.inside.slab.slots c.in-Some.key c.self.inside.acquired c.acquired.result c.remove-node.result c.self.invariant.1 c.acquired.ensures c.remove-node.ensures.value
 
 pub invariant_of-self-2 : goal.invariant_of-self-2
 invariant_of-self-2 c = (
-  removed_keyed c.self.inside.slab.slots c.self.inside.keys.entries c.self.invariant.0 c.remove-2.new.self.slots c.remove.new.self.entries c.args.id.number c.in-Some.key
-      (sym c.in-Some.ensures.value) c.remove-2.ensures.updates.changed c.remove-2.ensures.updates.others c.in-Some.ensures.updates.0,
-  count_taken c.self.inside.slab.slots c.remove-2.new.self.slots c.in-Some.key c.self.inside.acquired c.taken.result c.remove-2.result c.self.invariant.1 c.taken.ensures c.remove-2.ensures.value c.remove-2.ensures.updates.changed c.remove-2.ensures.updates.others,
+  removed_keyed c.self.inside.slab.slots c.self.inside.keys.entries c.self.invariant.0 c.remove-node.new.self.slots c.remove.new.self.entries c.args.id.number c.in-Some.key
+      (sym c.in-Some.ensures.value) c.remove-node.ensures.updates.changed c.remove-node.ensures.updates.others c.in-Some.ensures.updates.0,
+  count_taken c.self.inside.slab.slots c.remove-node.new.self.slots c.in-Some.key c.self.inside.acquired c.acquired.result c.remove-node.result c.self.invariant.1 c.acquired.ensures c.remove-node.ensures.value c.remove-node.ensures.updates.changed c.remove-node.ensures.updates.others,
 )
 
 pub returns : goal.returns
 returns c =
-    removed_is c.self.inside.slab.slots c.self.inside.keys.entries c.self.invariant.0 c.remove-2.new.self.slots c.remove.new.self.entries c.args.id.number c.in-Some.key
-    (sym c.in-Some.ensures.value) c.remove-2.ensures.updates.changed c.remove-2.ensures.updates.others c.in-Some.ensures.updates.0
+    removed_is c.self.inside.slab.slots c.self.inside.keys.entries c.self.invariant.0 c.remove-node.new.self.slots c.remove.new.self.entries c.args.id.number c.in-Some.key
+    (sym c.in-Some.ensures.value) c.remove-node.ensures.updates.changed c.remove-node.ensures.updates.others c.in-Some.ensures.updates.0
     ∙ ap (λ m. remove m c.args.id.number) c.self.view_is
