@@ -55,7 +55,7 @@ impl Heap {
     pub fn is_empty(&self) -> bool
         ensures { result ≡ (length self.now == 0) }
     {
-        self.objects.is_empty()
+        self.len() == 0
     }
 
     /// The object with a number. It takes no memory.
