@@ -16,7 +16,7 @@ const X_DSDT: usize = 140;
 /// An FADT.
 #[derive(Debug, Drop)]
 pub struct Fadt {
-    table: Table,
+    bytes: Vec<u8>,
 }
 
 impl Model for Fadt {
@@ -24,9 +24,9 @@ impl Model for Fadt {
 
     ghost Value = { List ℕ };
 
-    ghost view = { λ f. f.table };
+    ghost view = { λ f. f.bytes.items };
 
-    ghost invariant = { λ f. 44 ≤ length f.table };
+    ghost invariant = { λ f. 44 ≤ length f.bytes.items };
 }
 
 impl Fadt {
@@ -34,14 +34,16 @@ impl Fadt {
         requires { 44 ≤ length table }
         ensures { result ≡ table }
     {
-        Fadt { table }
+        Fadt {
+            bytes: table.into_vec(),
+        }
     }
 
     /// All bytes of the table, with its header.
     pub fn as_slice(&self) -> &[u8]
         ensures { result.now ≡ self.now }
     {
-        self.table.as_slice()
+        &self.bytes
     }
 
     /// The address of the DSDT: X_DSDT where the table has it and it isn't zero, else DSDT.
@@ -50,7 +52,7 @@ impl Fadt {
     {
         let extended = self.x_dsdt();
         if extended == 0 {
-            u64::from(LittleEndian::read_u32(&self.table.as_slice()[DSDT..]))
+            u64::from(LittleEndian::read_u32(&self.bytes[DSDT..]))
         } else {
             extended
         }
@@ -60,7 +62,7 @@ impl Fadt {
     fn x_dsdt(&self) -> u64
         ensures { result ≡ x_dsdt self.now }
     {
-        let bytes = self.table.as_slice();
+        let bytes = self.as_slice();
         if bytes.len() >= X_DSDT + 8 {
             LittleEndian::read_u64(&bytes[X_DSDT..])
         } else {
@@ -72,7 +74,7 @@ impl Fadt {
     pub fn sci_interrupt(&self) -> u16
         ensures { result ≡ sci_interrupt self.now }
     {
-        let bytes = self.table.as_slice();
+        let bytes = self.as_slice();
         if bytes.len() >= SCI_INT + 2 {
             LittleEndian::read_u16(&bytes[SCI_INT..])
         } else {

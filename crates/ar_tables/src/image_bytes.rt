@@ -39,12 +39,6 @@ impl ImageBytes {
         Ok(ImageBytes { bytes })
     }
 
-    pub(crate) fn from_vec(bytes: Vec<u8>) -> ImageBytes
-        ensures { result ≡ bytes.items }
-    {
-        ImageBytes { bytes }
-    }
-
     pub(crate) fn into_vec(self) -> Vec<u8>
         ensures { result.items ≡ self }
     {
@@ -54,7 +48,7 @@ impl ImageBytes {
     pub(crate) fn as_slice(&self) -> &[u8]
         ensures { result.now ≡ self.now }
     {
-        self.bytes.as_slice()
+        &self.bytes
     }
 
     /// Whether the bytes add up to zero, modulo 256: `BadChecksum` where they don't.

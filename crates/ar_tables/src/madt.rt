@@ -20,7 +20,7 @@ const SOURCE_OVERRIDE: u8 = 2;
 /// A MADT, whose interrupt controller structures are each as long as their type needs.
 #[derive(Debug, Drop)]
 pub struct Madt {
-    table: Table,
+    bytes: Vec<u8>,
 }
 
 impl Model for Madt {
@@ -29,9 +29,9 @@ impl Model for Madt {
 
     ghost Value = { List ℕ };
 
-    ghost view = { λ m. m.table };
+    ghost view = { λ m. m.bytes.items };
 
-    ghost invariant = { λ m. (44 ≤ length m.table) × (are_structures (structures_of m.table) ≡ true) };
+    ghost invariant = { λ m. (44 ≤ length m.bytes.items) × (are_structures (structures_of m.bytes.items) ≡ true) };
 }
 
 impl Madt {
@@ -40,20 +40,22 @@ impl Madt {
         requires structured { are_structures (structures_of table) ≡ true }
         ensures { result ≡ table }
     {
-        Madt { table }
+        Madt {
+            bytes: table.into_vec(),
+        }
     }
 
     /// All bytes of the table, with its header.
     pub fn as_slice(&self) -> &[u8]
         ensures { result.now ≡ self.now }
     {
-        self.table.as_slice()
+        &self.bytes
     }
 
     fn structures(&self) -> &[u8]
         ensures { result.now ≡ structures_of self.now }
     {
-        let (_, structures) = self.table.as_slice().split_at(STRUCTURES);
+        let (_, structures) = self.bytes.split_at(STRUCTURES);
         structures
     }
 }

@@ -80,7 +80,7 @@ impl Addresses {
     pub(crate) fn as_slice(&self) -> &[u64]
         ensures { result.now ≡ self.now }
     {
-        self.items.as_slice()
+        &self.items
     }
 }
 

@@ -79,7 +79,7 @@ fn is_within(count: usize, least: usize) -> bool
 /// A table: its bytes, of which the first 36 are its header.
 #[derive(Debug, Drop)]
 pub struct Table {
-    bytes: ImageBytes,
+    bytes: Vec<u8>,
 }
 
 impl Model for Table {
@@ -87,32 +87,25 @@ impl Model for Table {
 
     ghost Value = { List ℕ };
 
-    ghost view = { λ t. t.bytes };
+    ghost view = { λ t. t.bytes.items };
 
-    ghost invariant = { λ t. 36 ≤ length t.bytes };
+    ghost invariant = { λ t. 36 ≤ length t.bytes.items };
 }
 
 impl Table {
-    pub(crate) fn new(bytes: ImageBytes) -> Table
-        requires { 36 ≤ length bytes }
-        ensures { result ≡ bytes }
-    {
-        Table { bytes }
-    }
-
     /// The table of these bytes, of which the first 36 are its header. It takes no memory.
     pub fn from_vec(bytes: Vec<u8>) -> Table
         requires { 36 ≤ length bytes.items }
         ensures { result ≡ bytes.items }
     {
-        Table::new(ImageBytes::from_vec(bytes))
+        Table { bytes }
     }
 
     /// All bytes of the table, in a `Vec` of their own. It takes no memory.
     pub fn into_vec(self) -> Vec<u8>
         ensures { result.items ≡ self }
     {
-        self.bytes.into_vec()
+        self.bytes
     }
 
     /// All bytes of the table, with its header.
@@ -120,7 +113,7 @@ impl Table {
         ensures value { result.now ≡ self.now }
         ensures header { 36 ≤ length self.now }
     {
-        self.bytes.as_slice()
+        &self.bytes
     }
 
     /// The bytes behind the header: the AML of a DSDT or SSDT.
@@ -149,7 +142,7 @@ pub(crate) fn table_at(
     let count = length_in(kind, &header)?;
     let bytes = ImageBytes::read(alloc, image, address, count)?;
     bytes.summed()?;
-    Ok(Table::new(bytes))
+    Ok(Table::from_vec(bytes.into_vec()))
 }
 
 /// Whether a header has the signature of the table.

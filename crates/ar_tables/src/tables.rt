@@ -42,7 +42,7 @@ impl Ssdts {
     pub fn as_slice(&self) -> &[Table]
         ensures { result.now ≡ self.now }
     {
-        self.tables.as_slice()
+        &self.tables
     }
 
     /// The SSDTs, in a `Vec` of their own. It takes no memory.
