@@ -1,5 +1,6 @@
 //! The two forms of an interrupt descriptor, and what their flag bytes say.
-ghost use Rattle.std.specs.Prelude.{◌≡◌};
+ghost use Rattle.std.specs.Prelude.{◌≡◌, if◌then◌else◌};
+ghost use Rattle.acpi_resources.specs.declared.form.Polarity.TheVariants.{Low, High};
 ghost use Rattle.acpi_resources.specs.FlagByte.{is_edge, is_shared, polarity_of};
 
 use crate::flags::{ExtendedInterruptFlags, IrqFlags};
@@ -46,20 +47,15 @@ impl Form {
         }
     }
 
-    /// The polarity that a byte of flags says.
-    pub(crate) fn polarity(self, flags: u8) -> Polarity
-        ensures { result ≡ polarity_of self flags }
+    /// Whether a byte of flags says active low.
+    pub(crate) fn is_low(self, flags: u8) -> bool
+        ensures { polarity_of self flags ≡ (if result then Low else High) }
     {
-        let is_low = match self {
+        match self {
             Form::Small => IrqFlags::from_bits_retain(flags).contains(IrqFlags::ACTIVE_LOW),
             Form::Extended => ExtendedInterruptFlags::from_bits_retain(flags).contains(
                 ExtendedInterruptFlags::ACTIVE_LOW,
             ),
-        };
-        if is_low {
-            Polarity::Low
-        } else {
-            Polarity::High
         }
     }
 }

@@ -1,5 +1,5 @@
 //! A set of interrupts, by their numbers.
-ghost use Rattle.std.specs.Prelude.{◌≡◌, ◌==◌, IfOk, length};
+ghost use Rattle.std.specs.Prelude.{◌≡◌, IfOk};
 ghost use Rattle.std.specs.List.Sorted.{IsStrictlyIncreasing};
 
 use std::alloc::{AllocError, Global};
@@ -43,26 +43,12 @@ impl InterruptNumbers {
         Ok(InterruptNumbers::from_vec(numbers.into_iter().collect(alloc)?))
     }
 
-    /// How many numbers there are.
-    pub fn len(&self) -> usize
-        ensures { result ≡ length self.now }
-    {
-        self.items.len()
-    }
-
-    /// Whether there is no number.
-    pub fn is_empty(&self) -> bool
-        ensures { result ≡ (length self.now == 0) }
-    {
-        self.items.is_empty()
-    }
-
     /// The numbers, ascending.
     pub fn as_slice(&self) -> &[u32]
         ensures value { result.now ≡ self.now }
         ensures ascending { IsStrictlyIncreasing self.now }
     {
-        self.items.as_slice()
+        &self.items
     }
 
     /// The numbers, ascending, in a `Vec` of their own. It takes no memory.

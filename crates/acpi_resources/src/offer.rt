@@ -11,7 +11,7 @@ use std::marker::Model;
 /// `possible` and `possible_as` make an offer; those of `possible` say that the interrupts are shared.
 #[derive(Drop, Debug)]
 pub struct Offer {
-    numbers: InterruptNumbers,
+    numbers: Vec<u32>,
     form: Form,
     flags: u8,
 }
@@ -22,9 +22,9 @@ impl Model for Offer {
 
     ghost Value = { InterruptOffer };
 
-    ghost view = { λ o. interrupt_offer o.numbers o.form o.flags };
+    ghost view = { λ o. interrupt_offer o.numbers.items o.form o.flags };
 
-    ghost invariant = { λ o. IsOffer (interrupt_offer o.numbers o.form o.flags) };
+    ghost invariant = { λ o. IsOffer (interrupt_offer o.numbers.items o.form o.flags) };
 }
 
 impl Offer {
@@ -33,7 +33,7 @@ impl Offer {
         ensures { result ≡ interrupt_offer numbers form flags }
     {
         Offer {
-            numbers,
+            numbers: numbers.into_vec(),
             form,
             flags,
         }
@@ -44,7 +44,7 @@ impl Offer {
         ensures value { result.now ≡ self.now.numbers }
         ensures sound { IsOffer self.now }
     {
-        self.numbers.as_slice()
+        &self.numbers
     }
 
     /// Whether an interrupt is offered.
@@ -67,7 +67,11 @@ impl Offer {
         ensures value { result ≡ self.now.polarity }
         ensures sound { IsOffer self.now }
     {
-        self.form.polarity(self.flags)
+        if self.form.is_low(self.flags) {
+            Polarity::Low
+        } else {
+            Polarity::High
+        }
     }
 
     /// The descriptor's byte of flags, with all its bits.

@@ -82,7 +82,7 @@ fn offer_of_one(alloc: Global, exclusives: Exclusives, interrupts: &Interrupts<'
         return Err(Refusal::Resource(ResourceFault::Source));
     }
     let numbers = interrupts.listed.set(alloc)?;
-    if numbers.is_empty() {
+    if numbers.as_slice().is_empty() {
         return Err(Refusal::Resource(ResourceFault::NoInterrupt));
     }
     Ok(Offer::new(numbers, form, flags))

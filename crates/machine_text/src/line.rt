@@ -109,7 +109,7 @@ fn text(alloc: Global, n: usize, osi: &mut OsiTexts, tail: Option<&[u8]>) -> Res
 {
     match tail {
         Some(text) => {
-            if is_text(text) && osi.len() < MAX_TEXTS {
+            if is_text(text) && osi.as_slice().len() < MAX_TEXTS {
                 osi.push(alloc, text)?;
                 Ok(())
             } else {

@@ -1,5 +1,5 @@
 //! The texts that `_OSI` knows (ACPI 6.5, 5.7.2).
-ghost use Rattle.std.specs.Prelude.{◌≡◌, [], ◌∷◌, ◌++◌, length, map, OnOk, ◌==◌};
+ghost use Rattle.std.specs.Prelude.{◌≡◌, [], ◌∷◌, ◌++◌, map, OnOk};
 
 use std::alloc::{AllocError, Global};
 use std::marker::Model;
@@ -39,21 +39,7 @@ impl OsiTexts {
     pub fn as_slice(&self) -> &[Vec<u8>]
         ensures { map (λ text. text.items) result.now ≡ self.now }
     {
-        self.texts.as_slice()
-    }
-
-    /// How many texts there are.
-    pub fn len(&self) -> usize
-        ensures { result ≡ length self.now }
-    {
-        self.texts.len()
-    }
-
-    /// Whether there is no text.
-    pub fn is_empty(&self) -> bool
-        ensures { result ≡ (length self.now == 0) }
-    {
-        self.texts.is_empty()
+        &self.texts
     }
 
     /// Adds a copy of a text.

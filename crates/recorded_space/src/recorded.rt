@@ -50,7 +50,7 @@ impl Recorded {
     pub fn entries(&self) -> &[Exchange]
         ensures { result.now ≡ self.now.entries }
     {
-        self.entries.as_slice()
+        &self.entries
     }
 
     /// The record, given back.

@@ -95,11 +95,10 @@ fn set_to(asked: &mut Exchange, set: &mut Option<InterruptNumbers>) {
     }
 }
 
-/// `set-count` and `set-empty`: how many interrupts a link device is set to, and whether to none.
-fn set_count(asked: &mut Exchange, set: &Option<InterruptNumbers>, is_count: bool) {
+/// `set-count`: how many interrupts a link device is set to.
+fn set_count(asked: &mut Exchange, set: &Option<InterruptNumbers>) {
     match set {
-        Some(set) if is_count => asked.say_number(set.len() as u64),
-        Some(set) => asked.say_whether(set.is_empty()),
+        Some(set) => asked.say_number(set.as_slice().len() as u64),
         None => asked.misunderstand(),
     }
 }
@@ -118,7 +117,6 @@ pub enum Ask {
     Possible,
     Current,
     SetCount,
-    SetEmpty,
     SetTaken,
 }
 
@@ -127,8 +125,7 @@ pub fn answer(asked: &mut Exchange, row: &mut Row, ask: Ask) {
     match ask {
         Ask::Possible => offered(asked, &mut row.offer, row.text.as_slice()),
         Ask::Current => set_to(asked, &mut row.set),
-        Ask::SetCount => set_count(asked, &row.set, true),
-        Ask::SetEmpty => set_count(asked, &row.set, false),
+        Ask::SetCount => set_count(asked, &row.set),
         Ask::SetTaken => set_taken(asked, &mut row.set),
     }
 }

@@ -148,7 +148,6 @@ fn osi_taken(asked: &mut Exchange, osi: &mut OsiTexts) {
 pub enum OsiAsk {
     Of,
     Texts,
-    Empty,
     Text,
     Taken,
 }
@@ -157,8 +156,7 @@ pub enum OsiAsk {
 pub fn answer_of_osi(asked: &mut Exchange, osi: &mut OsiTexts, ask: OsiAsk) {
     match ask {
         OsiAsk::Of => osi_of(asked, osi),
-        OsiAsk::Texts => asked.say_number(osi.len() as u64),
-        OsiAsk::Empty => asked.say_whether(osi.is_empty()),
+        OsiAsk::Texts => asked.say_number(osi.as_slice().len() as u64),
         OsiAsk::Text => osi_text(asked, osi),
         OsiAsk::Taken => osi_taken(asked, osi),
     }

@@ -38,12 +38,6 @@ fn register_number(seg: u16, bus: u8, dev: u8, func: u8, reg: u16) -> u64
     (device * 256 + u64::from(func)) * 65_536 + u64::from(reg)
 }
 
-fn memory_place(entry: &(u64, u8)) -> Place
-    ensures { result ≡ memory_place entry.now }
-{
-    Place::Memory(entry.0)
-}
-
 fn port_place(entry: &(u64, u8)) -> Place
     ensures { result ≡ port_place entry.now }
 {
@@ -68,7 +62,7 @@ fn put_memory(places: &mut Vec<Place>, entries: &[(u64, u8)]) -> Result<(), Allo
     ensures { OnOk result (places.new.items ≡ places.old.items ++ map memory_place entries.now) }
 {
     for entry in entries {
-        places.push(memory_place(entry))?;
+        places.push(Place::Memory(entry.0))?;
     }
     Ok(())
 }

@@ -43,7 +43,7 @@ impl Zeros {
     pub(crate) fn entries(&self) -> &[(u64, u8)]
         ensures { result.now ≡ self.now }
     {
-        self.bytes.as_slice()
+        &self.bytes
     }
 
     /// The byte with a number: 0 where it wasn't asked for before. None where there is no more room.
