@@ -8,7 +8,7 @@ ghost use Rattle.aml_namespace.specs.Namespace.{numbered};
 ghost use Rattle.aml_namespace.specs.Search.{found};
 ghost use Rattle.aml_meaning.specs.Readings.{arguments_of};
 ghost use Rattle.aml_meaning.specs.Invocations.{invocation_of_body, invocation_of_object, invocation_of, named_use};
-ghost use Rattle.aml_meaning.specs.Invocations.{invocation_found, use_found, left, call_allowed, call_allowed_within};
+ghost use Rattle.aml_meaning.specs.Invocations.{invocation_found, use_found, left, call_allowed};
 
 use crate::invocation::Invocation;
 use crate::readings::{arguments_of, as_many, read_as};
@@ -24,13 +24,21 @@ const MAX_CALLS: usize = 32;
 impl<S> WorldState<S> {
     /// Whether one more call may be made, where so many control methods are being called; refused as `CallDepth` where
     /// these are 32, and as `DepthSetting` where they are as many as this world allows.
-    #[tactic(auto, unfolding(crate::specs::Invocations::call_allowed))]
+    #[tactic(auto, unfolding(crate::specs::Invocations::call_allowed, crate::specs::Invocations::call_allowed_within))]
     pub fn call_allowed(&self, depth: usize) -> Result<()>
         ensures answer { Does result self.now (call_allowed depth) self.now }
         ensures few { OnOk result (depth < 32) }
         ensures memory { NotMemory result }
     {
-        call_allowed_within(self.nesting.calls, depth)
+        if depth < MAX_CALLS {
+            if depth < self.nesting.calls {
+                Ok(())
+            } else {
+                Err(Refusal::Evaluation(EvaluationFault::DepthSetting))
+            }
+        } else {
+            Err(Refusal::Evaluation(EvaluationFault::CallDepth))
+        }
     }
 
     /// What a name is where a value stands, with so many arguments.
@@ -130,22 +138,5 @@ impl<S> WorldState<S> {
     {
         self.close_frame();
         self.remove_below(path);
-    }
-}
-
-/// At most 32 calls one inside another, and no more than a setting allows.
-fn call_allowed_within(calls: usize, depth: usize) -> Result<()>
-    ensures answer { result ≡ call_allowed_within calls depth }
-    ensures few { OnOk result (depth < 32) }
-    ensures memory { NotMemory result }
-{
-    if depth < MAX_CALLS {
-        if depth < calls {
-            Ok(())
-        } else {
-            Err(Refusal::Evaluation(EvaluationFault::DepthSetting))
-        }
-    } else {
-        Err(Refusal::Evaluation(EvaluationFault::CallDepth))
     }
 }

@@ -69,22 +69,6 @@ impl Declarations {
         })
     }
 
-    /// The names.
-    #[inline]
-    pub(crate) fn names(&self) -> &Names
-        ensures { result.now ≡ self.now.names }
-    {
-        &self.names
-    }
-
-    /// The arguments that names take, as the tables so far have declared them, and as Externals told.
-    #[inline]
-    pub(crate) fn arities(&self) -> &Arities
-        ensures { result.now ≡ self.now.arities }
-    {
-        &self.arities
-    }
-
     /// Declares a name, as `Names::insert` does. What a name in a body finds may be another one
     /// from then on, so nothing is kept any more; where the declaration is refused, what is kept stays.
     #[tactic(auto, using(crate::proofs::KnownNames::keeping))]

@@ -10,7 +10,7 @@ impl<S> WorldState<S> {
     pub fn arities(&self) -> &Arities
         ensures { result.now ≡ self.now.arities }
     {
-        self.declarations.arities()
+        &self.declarations.arities
     }
 
     /// Hands out the arguments that names take, and keeps none: they are set again once more are declared. It takes

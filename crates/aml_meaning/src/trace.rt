@@ -1,9 +1,10 @@
 //! Where an evaluation was refused: the lists of terms that were being evaluated, the name that was looked for, and
 //! the steps that were left.
 //!
-//! A trace is made when an evaluation is refused, and at no other time. No contract says what it holds: the clauses
-//! here say that making it and reading it change nothing that a contract sees.
-ghost use Rattle.std.specs.Prelude.{◌≡◌};
+//! A trace is made when an evaluation is refused, and at no other time. No contract says what the trace of a world
+//! holds: the clauses here say what a trace shows of what it holds, and that making it changes nothing else that a
+//! contract sees.
+ghost use Rattle.std.specs.Prelude.{◌≡◌, option_map};
 
 use crate::world_state::WorldState;
 use aml_path::{NameString, Path};
@@ -57,13 +58,17 @@ impl Trace {
 
     /// The lists that were being evaluated, outermost first. None where nothing was refused, or before the first term
     /// was begun.
-    pub fn places(&self) -> &[TracePlace] {
+    pub fn places(&self) -> &[TracePlace]
+        ensures { result.now ≡ self.now.places.items }
+    {
         &self.places
     }
 
     /// A name whose search, declaration or call was refused, if there was one. It is missing where memory for it ran
     /// out.
-    pub fn name(&self) -> Option<&TraceName> {
+    pub fn name(&self) -> Option<&TraceName>
+        ensures { option_map (λ name. name.now) result ≡ self.now.name }
+    {
         match &self.name {
             None => None,
             Some(name) => Some(name),
@@ -71,12 +76,16 @@ impl Trace {
     }
 
     /// How many steps were left when evaluation was refused. Where it wasn't, that says nothing.
-    pub fn steps_left(&self) -> u64 {
+    pub fn steps_left(&self) -> u64
+        ensures { result ≡ self.now.steps_left }
+    {
         self.steps_left
     }
 
     /// Whether memory ran out while the trace was made: then the outermost places are missing, or the name is.
-    pub fn is_cut(&self) -> bool {
+    pub fn is_cut(&self) -> bool
+        ensures { result ≡ self.now.is_cut }
+    {
         self.is_cut
     }
 

@@ -3,7 +3,7 @@ ghost use Rattle.std.specs.Prelude.{◌≡◌};
 ghost use Rattle.ar_space.specs.Change.{Does};
 ghost use Rattle.ar_space.specs.Outcome.{NotMemory, seen};
 ghost use Rattle.aml_convert.specs.Formed.{formed_content};
-ghost use Rattle.aml_meaning.specs.Profiles.{evaluated_in, asked_for};
+ghost use Rattle.aml_meaning.specs.Profiles.{asked_for};
 ghost use Rattle.aml_meaning.specs.WideOperations.{decoded_in, number_coded, coded_in, decimal_text};
 ghost use Rattle.aml_meaning.specs.WideOperations.{new_decimal_string, decimal_string_in, hexadecimal_text};
 ghost use Rattle.aml_meaning.specs.WideOperations.{new_hexadecimal_string, hexadecimal_string_in, string_text};
@@ -24,12 +24,17 @@ use ar_space::{EvaluationFault, Refusal, Result};
 impl<S> WorldState<S> {
     /// Asks whether a term of the wide profile is evaluated: in a world of the core profile it is refused as
     /// `Unsupported`.
-    #[tactic(auto, unfolding(crate::specs::Profiles::asked_for))]
+    #[tactic(auto, unfolding(crate::specs::Profiles::asked_for, crate::specs::Profiles::evaluated_in))]
     pub fn ask_for(&self, opcode: Opcode) -> Result<()>
         ensures answer { Does result self.now (asked_for opcode) self.now }
         ensures memory { NotMemory result }
     {
-        evaluated_in(self.profile, opcode)
+        match self.profile {
+            Profile::Wide => Ok(()),
+            Profile::Core => Err(Refusal::Evaluation(EvaluationFault::Unsupported(
+                opcode.number(),
+            ))),
+        }
     }
 
     /// What an explicit conversion gives of a value; it is refused as that is.
@@ -175,16 +180,5 @@ impl<S> WorldState<S> {
             self.heap.content(start),
             self.heap.content(count),
         )
-    }
-}
-
-/// Whether a profile evaluates a term of the wide one.
-fn evaluated_in(profile: Profile, opcode: Opcode) -> Result<()>
-    ensures answer { result ≡ evaluated_in profile opcode }
-    ensures memory { NotMemory result }
-{
-    match profile {
-        Profile::Wide => Ok(()),
-        Profile::Core => Err(Refusal::Evaluation(EvaluationFault::Unsupported(opcode.number()))),
     }
 }

@@ -88,7 +88,7 @@ impl<S> World<S> {
     pub fn into_space(self) -> S
         ensures { result ≡ self.space }
     {
-        self.running.world.into_space()
+        self.running.world.space
     }
 
     /// The register space, given back, where the evaluation that was last begun was refused, and what was passed over.
@@ -96,12 +96,13 @@ impl<S> World<S> {
         ensures space { result.0 ≡ self.space }
         ensures passed { result.2 ≡ self.passed }
     {
-        self.running.world.into_parts()
+        let world = self.running.world;
+        (world.space, world.trace, world.passed)
     }
 
     /// Where the evaluation that was last begun was refused, as `WorldState::trace` tells it.
     pub fn trace(&self) -> &Trace {
-        self.running.world.trace()
+        &self.running.world.trace
     }
 
     /// Other texts that `_OSI` knows, in place of those before (ACPI 6.5, 5.7.2). It takes no memory.
@@ -115,7 +116,7 @@ impl<S> World<S> {
     pub fn names(&self) -> &Names
         ensures { result.now ≡ self.now.names }
     {
-        self.running.world.names()
+        &self.running.world.declarations.names
     }
 
     /// Passes over a refusal, as `WorldState::pass_over` does.
@@ -129,35 +130,35 @@ impl<S> World<S> {
     pub fn width(&self) -> IntegerWidth
         ensures { result ≡ self.now.width }
     {
-        self.running.world.width()
+        self.running.world.width
     }
 
     /// The profile, which nothing changes.
     pub fn profile(&self) -> Profile
         ensures { result ≡ self.now.profile }
     {
-        self.running.world.profile()
+        self.running.world.profile
     }
 
     /// How deep calls and terms may be one inside another, which nothing changes.
     pub fn nesting(&self) -> Nesting
         ensures { result ≡ self.now.nesting }
     {
-        self.running.world.nesting()
+        self.running.world.nesting
     }
 
     /// The refusals that were passed over in loading and in initializing; none in the core profile.
     pub fn passed_over(&self) -> &PassedOver
         ensures { result.now ≡ self.now.passed }
     {
-        self.running.world.passed_over()
+        &self.running.world.passed
     }
 
     /// The register space.
     pub fn space(&self) -> &S
         ensures { result.now ≡ self.now.space }
     {
-        self.running.world.space()
+        &self.running.world.space
     }
 
     /// Whether a value is one of this world: each object, declaration and frame that it names was given its number by

@@ -86,21 +86,6 @@ impl<S> WorldState<S> {
         }
     }
 
-    /// The register space, given back.
-    pub(crate) fn into_space(self) -> S
-        ensures { result ≡ self.space }
-    {
-        self.space
-    }
-
-    /// The register space, where evaluation was refused, and what was passed over.
-    pub(crate) fn into_parts(self) -> (S, Trace, PassedOver)
-        ensures space { result.0 ≡ self.space }
-        ensures passed { result.2 ≡ self.passed }
-    {
-        (self.space, self.trace, self.passed)
-    }
-
     /// Other texts that `_OSI` knows, in place of those before (ACPI 6.5, 5.7.2). It takes no memory.
     pub(crate) fn set_osi(&mut self, osi: Vec<Octets>)
         ensures { self.new ≡ record self.old { osi = osi.items } }
@@ -113,7 +98,7 @@ impl<S> WorldState<S> {
     pub fn names(&self) -> &Names
         ensures { result.now ≡ self.now.names }
     {
-        self.declarations.names()
+        &self.declarations.names
     }
 
     /// How wide integers are.
