@@ -65,5 +65,8 @@ pub fn truncate_integer(width: IntegerWidth, number: u64) -> u64
     ensures value { result ≡ truncated width number }
     ensures within { result < 2 ^ bits_of width }
 {
-    truncate(width, u128::from(number))
+    match width {
+        IntegerWidth::Bits32 => number % (NUMBERS_OF_32_BITS as u64),
+        IntegerWidth::Bits64 => number,
+    }
 }
