@@ -25,7 +25,7 @@ enum Ask {
 }
 
 /// The questions, by their first words.
-const QUESTIONS: [(&str, Ask); 55] = [
+const QUESTIONS: [(&str, Ask); 53] = [
     ("number", Ask::Number),
     ("says", Ask::Says),
     ("trace", Ask::Trace),
