@@ -4,6 +4,8 @@ use Rattle.std.specs.Ordering.{nat_cmp}
 use Rattle.ar_space.specs.Outcome.{Outcome, seen}
 use Rattle.ar_space.specs.Outcome as outcome
 use Rattle.ar_space.specs.Change.{Does, go_on, ◌>>=◌}
+use Rattle.ar_space.proofs.Changes.{changing}
+use Rattle.aml_objects.specs.declared.value.Value.{Value}
 use Rattle.aml_objects.specs.declared.value.Value.TheVariants.{Integer}
 use Rattle.aml_convert.specs.Conversions.{compared}
 use Rattle.aml_convert.specs.Integers.{truncated, truth}
@@ -12,9 +14,11 @@ use Rattle.aml_convert.specs.declared.operators.BinaryOperator.{BinaryOperator}
 use Rattle.aml_convert.specs.declared.operators.BinaryOperator.TheVariants.{Subtract}
 use Rattle.aml_convert.specs.declared.logic.LogicalOperator.{LogicalOperator}
 use Rattle.aml_convert.specs.declared.logic.Comparison.{Comparison}
+use Rattle.aml_meaning.specs.declared.term_kind.TwoOperands.TheVariants as two
 use Rattle.aml_meaning.specs.State.{State}
 use Rattle.aml_meaning.specs.Readings.{integer_in}
 use Rattle.aml_meaning.specs.Operations.{operated, integers_operated, operated_logically, integers_tested, turned, integer_turned, next_integer, integer_before, compared_in}
+use Rattle.aml_meaning.specs.OperatorTerms.{result_of_two}
 
 module _ {S : Type 0} {w : State S} where
   -- an integer is wanted where one is
@@ -25,6 +29,11 @@ module _ {S : Type 0} {w : State S} where
   pub does_operated : (op : BinaryOperator) (x y : ℕ) (r : Outcome ℕ) → r ≡ result_of op w.width x y → Does (seen Integer r) w (operated op (Integer x) (Integer y)) w
   unfolding operated integer_in integers_operated ◌>>=◌ go_on
   does_operated op x y r is = record { is = λ _. ap (λ (o : Outcome ℕ). (seen Integer o, w)) (sym is) }
+
+  -- what an operator gives of two integers that were converted
+  pub does_integers : (op : BinaryOperator) (x y : ℕ) (r : Outcome Value) → Does r w (result_of_two (two.Integers op) (Integer x) (Integer y)) w → Does r w (integers_operated op x y) w
+  unfolding operated integer_in integers_operated ◌>>=◌ go_on
+  does_integers op x y r h = record { is = h.is }
 
   pub does_tested : (op : LogicalOperator) (x y n : ℕ) → n ≡ logical_result_of op w.width x y → Does (Ok (Integer n)) w (operated_logically op (Integer x) (Integer y)) w
   unfolding operated_logically integer_in integers_tested ◌>>=◌ go_on
@@ -47,3 +56,5 @@ module _ {S : Type 0} {w : State S} where
   does_before x n is = record { is = λ _. ap (λ (o : Outcome ℕ). (seen Integer o, w)) is }
 
 pub ruleset integers = (does_integer, does_operated, does_tested, does_compared, does_turned, does_next, does_before)
+
+pub ruleset operating = (changing, does_integers)

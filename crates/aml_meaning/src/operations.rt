@@ -5,7 +5,7 @@ ghost use Rattle.ar_space.specs.Outcome.{Answers, NotMemory, seen};
 ghost use Rattle.aml_convert.specs.Formed.{formed_content};
 ghost use Rattle.aml_objects.specs.Contents as held;
 ghost use Rattle.aml_meaning.specs.State.{on_objects};
-ghost use Rattle.aml_meaning.specs.Operations.{operated, integers_operated, divided_in, operated_on_one};
+ghost use Rattle.aml_meaning.specs.Operations.{operated, divided_in, operated_on_one};
 ghost use Rattle.aml_meaning.specs.Operations.{integer_operated, operated_logically, integers_tested, turned};
 ghost use Rattle.aml_meaning.specs.Operations.{integer_turned, next_integer, integer_before, compared_in, truth_of};
 ghost use Rattle.aml_meaning.specs.Operations.{joined_contents, joined, made_of, joined_items, joined_resources};
@@ -164,22 +164,15 @@ impl<S> WorldState<S> {
         self.size_of_value(value)
     }
 
-    #[tactic(auto, using(ar_space::proofs::Changes::changing), unfolding(crate::specs::Operations::operated))]
+    #[tactic(auto, using(crate::proofs::IntegerOperations::operating), unfolding(crate::specs::Operations::operated))]
     fn operate(&self, operator: BinaryOperator, first: Value, second: Value) -> Result<Value>
         ensures answer { Does result self.now (operated operator first second) self.now }
         ensures memory { NotMemory result }
     {
         let x = self.integer_in(first)?;
         let y = self.integer_in(second)?;
-        self.integers_operated(operator, x, y)
-    }
-
-    #[tactic(auto, unfolding(crate::specs::Operations::integers_operated))]
-    fn integers_operated(&self, operator: BinaryOperator, x: u64, y: u64) -> Result<Value>
-        ensures answer { Does result self.now (integers_operated operator x y) self.now }
-        ensures memory { NotMemory result }
-    {
-        integer(operate(operator, self.width, x, y))
+        let number = self.operate_on_integers(operator, x, y)?;
+        Ok(Value::Integer(number))
     }
 
     #[tactic(auto, using(ar_space::proofs::Changes::changing), unfolding(crate::specs::Operations::operated_on_one))]
