@@ -1,4 +1,5 @@
 pub mod NameRefusals
+pub mod OpcodesWritten
 pub mod Steady
 pub mod SteadyBytes
 pub mod SteadyNames

@@ -2,8 +2,10 @@
 //! bytes are read.
 #![tactic(auto)]
 
+mod encoding;
 mod laws;
 
+pub use encoding::opcodes_have_their_bytes_and_operands;
 pub use laws::{
     faults_depend_on_no_later_byte, names_are_refused_exactly_if_faulty,
     parts_are_refused_exactly_if_faulty, read_exactly_if_spelled,
