@@ -1,5 +1,5 @@
 -- Under Preserve a unit is read once where bits of it are kept, and written once.
-use Rattle.std.specs.Prelude.{◌≡◌, ◌⊎◌, ◌<◌, ◌≤◌, ◌+◌, ◌==◌, ℕ, Bool, true, false, List, length, drop, get_or, Ok, Err, refl}
+use Rattle.std.specs.Prelude.{◌≡◌, ◌⊎◌, ◌<◌, ◌≤◌, ◌+◌, ◌^◌, ◌==◌, ℕ, Bool, true, false, List, length, drop, get_or, Ok, Err, refl}
 use Rattle.std.proofs.Common.{arith, inl, inr, ap, ◌∙◌}
 use Rattle.std.proofs.lemmas.Bool.Decides.{nat_tests}
 use Rattle.ar_space.specs.declared.refusal.Refusal.TheVariants as refusal
@@ -22,6 +22,7 @@ use Rattle.aml_fields.proofs.SpaceBits.{put_before, put_behind, put_inside}
 use Rattle.aml_fields.proofs.UnitWrites.{narrow}
 use Rattle.aml_laws.specs.UnitPlaces.{IsUnitAt, reads_number, reads_fault, WritesOnce}
 use Rattle.aml_laws.specs.UnitValues.{IsMergedInto}
+use Rattle.aml_laws.proofs.BitsOfSources.{merged_fits}
 use Rattle.aml_laws.proofs.UnitsPlaced.{unit_placed, read_once, written_once}
 
 -- ---- what a unit is written with
@@ -58,8 +59,11 @@ module _ (f : FieldUnit) (source : List ℕ) (u : Access) (within : u.first + u.
       let long = length_from old 0 64 in let s = small in let k = many in
       value_bits (u.first + m) (omega (arith, less, within)) ∙ put_inside u.first m new (bits_from old 0 64) (omega (arith, k, less)) (omega (arith, long, s))
 
+  fits : old < 2 ^ bit_count f.access → value < 2 ^ bit_count f.access
+  fits = merged_fits old u.first (bit_count f.access) new (let m = many in omega (arith, m, within)) (narrow f.access)
+
   merged_so : IsMergedInto old f source u value
-  merged_so = record { inside = λ m less. inside m less; outside = λ m less apart. outside m less apart }
+  merged_so = record { inside = λ m less. inside m less; outside = λ m less apart. outside m less apart; fits = fits }
 
 -- ---- what is kept
 

@@ -22,6 +22,7 @@ pub mod AskedBridges
 pub mod BanksDeclared
 pub mod BanksSelected
 pub mod BeyondLimits
+pub mod BitsOfSources
 pub mod BodiesPassNothing
 pub mod BodiesRead
 pub mod BridgesAsked

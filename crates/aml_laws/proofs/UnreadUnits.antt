@@ -1,6 +1,7 @@
 -- Under the update rules of ones and zeros no unit is read, and each other bit is a one or a zero.
 use Rattle.std.specs.Prelude.{◌≡◌, ◌≢◌, ◌⊎◌, ◌<◌, ◌≤◌, ◌+◌, ◌-◌, ◌^◌, ◌==◌, ℕ, Bool, true, false, List, [], ◌∷◌, length, drop, get_or, Ok, Err, refl, if◌then◌else◌}
-use Rattle.std.proofs.Common.{arith, inl, inr, ap, sym, ◌∙◌}
+use Rattle.std.proofs.Common.{arith, inl, inr, ap, sym, subst, ◌∙◌}
+use Rattle.std.proofs.lemmas.Nat.{pow_pos}
 use Rattle.std.proofs.lemmas.Nat.Bits.{bit_at_ones, bit_at-zero}
 use Rattle.ar_space.specs.declared.space.Place.{Place}
 use Rattle.ar_space.specs.declared.space.Width.{Width}
@@ -23,6 +24,7 @@ use Rattle.aml_fields.proofs.SpaceBits.{put_before, put_behind, put_inside}
 use Rattle.aml_fields.proofs.UnitWrites.{narrow}
 use Rattle.aml_laws.specs.UnitPlaces.{WritesOnce}
 use Rattle.aml_laws.specs.UnitValues.{Reads, with_reads, IsFilledWith}
+use Rattle.aml_laws.proofs.BitsOfSources.{merged_fits}
 use Rattle.aml_laws.proofs.UnitsPlaced.{written_once}
 
 -- ---- no unit is read
@@ -73,6 +75,13 @@ rest_bits : (rule : UpdateRule) (w : Width) (old m : ℕ) (b : Bool) → ((rule 
 rest_bits rule w old m b (inl (is, one)) less = ap (λ x. bit (rest_of_unit x w old) m) is ∙ one_of (bit_count w) m less ∙ sym one
 rest_bits rule w old m b (inr (is, none)) less = ap (λ x. bit (rest_of_unit x w old) m) is ∙ zero_of m ∙ sym none
 
+below_power : (k : ℕ) → 2 ^ k - 1 < 2 ^ k
+below_power k = let p = pow_pos k in omega (arith, p)
+
+rest_fits : (rule : UpdateRule) (w : Width) (old : ℕ) (b : Bool) → ((rule ≡ WriteAsOnes) × (b ≡ true)) ⊎ ((rule ≡ WriteAsZeros) × (b ≡ false)) → rest_of_unit rule w old < 2 ^ bit_count w
+rest_fits rule w old b (inl (is, one)) = subst (λ x. rest_of_unit x w old < 2 ^ bit_count w) (sym is) (below_power (bit_count w))
+rest_fits rule w old b (inr (is, none)) = subst (λ x. rest_of_unit x w old < 2 ^ bit_count w) (sym is) (pow_pos (bit_count w))
+
 module _ (b : Bool) (f : FieldUnit) (rule : ((f.update ≡ WriteAsOnes) × (b ≡ true)) ⊎ ((f.update ≡ WriteAsZeros) × (b ≡ false))) (source : List ℕ) (u : Access) (within : u.first + u.count ≤ bit_count f.access) where
   many : length (field_bits source u.position u.count) ≡ u.count
   many = length_extended u.count (drop u.position (bits_of source))
@@ -101,8 +110,13 @@ module _ (b : Bool) (f : FieldUnit) (rule : ((f.update ≡ WriteAsOnes) × (b �
       let rest = rest_of_unit f.update f.access old in let long = length_from rest 0 64 in let s = small in let k = many in
       value_bits old (u.first + m) (omega (arith, less, within)) ∙ put_inside u.first m (field_bits source u.position u.count) (bits_from rest 0 64) (omega (arith, k, less)) (omega (arith, long, s))
 
+  fits : (old : ℕ) → merged (rest_of_unit f.update f.access old) u.first (field_bits source u.position u.count) < 2 ^ bit_count f.access
+  fits old =
+      merged_fits (rest_of_unit f.update f.access old) u.first (bit_count f.access) (field_bits source u.position u.count)
+      (let m = many in omega (arith, m, within)) (narrow f.access) (rest_fits f.update f.access old b rule)
+
   filled : (old : ℕ) → IsFilledWith b f source u (merged (rest_of_unit f.update f.access old) u.first (field_bits source u.position u.count))
-  filled old = record { inside = λ m less. inside old m less; outside = λ m less apart. outside old m less apart }
+  filled old = record { inside = λ m less. inside old m less; outside = λ m less apart. outside old m less apart; fits = fits old }
 
 -- ---- so is each unit
 

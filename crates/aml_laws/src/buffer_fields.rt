@@ -8,8 +8,8 @@ ghost use Rattle.aml_fields.specs.Bits.{bits_of, field_bits, packed};
 ghost use Rattle.aml_fields.specs.BufferFields.{read_buffer_field, write_buffer_field};
 
 /// A buffer field is read as it was written: after a write that isn't refused, a read gives the bits of the source, cut
-/// or with zeros behind them, and changes nothing. A field that is read from another bit than it is written to, or in
-/// another order, is refused by this.
+/// or with zeros behind them, as `a_source_ends_with_zeros` says, and changes nothing. A field that is read from
+/// another bit than it is written to, or in another order, is refused by this.
 #[tactic(auto, using(crate::proofs::BufferFieldWrites::reads_as_written))]
 pub fn a_buffer_field_is_read_as_it_was_written()
     ensures read { (field : BufferField) (source : List ℕ) (before after : Objects) →

@@ -301,6 +301,7 @@ pub use units::an_access_is_made_once;
 pub use units::units_are_accessed_lowest_first;
 pub use updates::a_unit_that_keeps_bits_is_read_once;
 pub use updates::ones_and_zeros_read_nothing;
+pub use updates::a_source_ends_with_zeros;
 pub use values::an_integer_is_read_back_from_its_string;
 pub use values::binary_coded_decimal_has_the_decimal_digits;
 pub use values::comparisons_answer_by_the_order;
