@@ -139,7 +139,7 @@ module _ {S : Type 0} (accesses : Accesses S) (scope : List Seg) (depth : ℕ) (
   unfolding string_of outcome.◌>>=◌
   no_string bytes source is = rw (source, no_integer_so after.0 e u is) refl
 
-  string_stops : string_of after.0.width (content_in after.0.objects v) (content_in after.0.objects u) ≡ Err e → string_in v u after.0 ≡ (Err e, after.0)
+  pub string_stops : string_of after.0.width (content_in after.0.objects v) (content_in after.0.objects u) ≡ Err e → string_in v u after.0 ≡ (Err e, after.0)
   unfolding string_in string_text go_on ◌>>=◌
   string_stops is = rw is refl
 
@@ -147,7 +147,7 @@ module _ {S : Type 0} (accesses : Accesses S) (scope : List Seg) (depth : ℕ) (
   unfolding to_string_rule two_values value_at operand_value settle lift give go_on ◌>>=◌
   string_by is p = rw (h.first, h.second, is) refl
 
-  string_ruled : w.profile ≡ profiles.Wide → string_in v u after.0 ≡ (Err e, after.0) → (p : Part) → rule accesses (meaning accesses) (task scope depth (two_to opcodes.ToString x y p)) (w, steps) ≡ (Err e, after)
+  pub string_ruled : w.profile ≡ profiles.Wide → string_in v u after.0 ≡ (Err e, after.0) → (p : Part) → rule accesses (meaning accesses) (task scope depth (two_to opcodes.ToString x y p)) (w, steps) ≡ (Err e, after)
   unfolding rule
   string_ruled is_wide is p = asked_in_wide opcodes.ToString w steps is_wide (to_string_rule accesses (meaning accesses) scope depth (two_to opcodes.ToString x y p)) ∙ string_by is p
 
@@ -182,7 +182,7 @@ module _ {S : Type 0} (accesses : Accesses S) (scope : List Seg) (depth : ℕ) (
   unfolding rule
   middle_ruled is_wide is p = asked_in_wide opcodes.Mid w steps is_wide (middle_rule accesses (meaning accesses) scope depth (middle x y z p)) ∙ middle_by is p
 
-  middle_refused : w.profile ≡ profiles.Wide → middle_of after.0.width (content_in after.0.objects v) (content_in after.0.objects u) (content_in after.0.objects r) ≡ Err e → (p : Part) → IsRefused accesses scope depth (middle x y z p) (w, suc steps) e after
+  pub middle_refused : w.profile ≡ profiles.Wide → middle_of after.0.width (content_in after.0.objects v) (content_in after.0.objects u) (content_in after.0.objects r) ≡ Err e → (p : Part) → IsRefused accesses scope depth (middle x y z p) (w, suc steps) e after
   middle_refused is_wide is p = (term_begins accesses (task scope depth (middle x y z p))).paid w steps ∙ middle_ruled is_wide (middle_none is) p
 
   module _ (is_wide : w.profile ≡ profiles.Wide) (whole : List ℕ) (made : List ℕ → Content) (has : HasBytes after.0.width (content_in after.0.objects v) whole made) where

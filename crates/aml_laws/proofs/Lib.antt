@@ -287,6 +287,7 @@ pub mod MatchesPreserve
 pub mod WideAsked
 pub mod WideTermsPreserve
 pub mod MatchesTogether
+pub mod WideTermsRefused
 pub mod WideTermsTogether
 pub mod WorldHistories
 pub mod WorldRelations

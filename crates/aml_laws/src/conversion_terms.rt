@@ -29,13 +29,14 @@ ghost use Rattle.aml_meaning.specs.Stores.{stored, copied_to};
 ghost use Rattle.aml_meaning.specs.StoreTargets.{reference_of};
 ghost use Rattle.aml_namespace.specs.Numbering.{Numbered};
 ghost use Rattle.aml_meaning.specs.FormedStores.{formed_to};
-ghost use Rattle.aml_laws.specs.OperatorTerms.{one_to, StoresTo, GivesValue, Gives, IsRefused, OneInteger};
-ghost use Rattle.aml_laws.specs.JoinedTerms.{with_object, Fits};
+ghost use Rattle.aml_laws.specs.OperatorTerms.{one_to, two_to, StoresTo, GivesValue, Gives, IsRefused, OneInteger};
+ghost use Rattle.aml_laws.specs.JoinedTerms.{middle, with_object, Fits};
 ghost use Rattle.aml_laws.specs.ReferringTerms.{IsNumbered};
 ghost use Rattle.aml_laws.specs.FieldNames.{IsField, NamesField, bits_written_at};
 ghost use Rattle.aml_laws.specs.StoredNames.{data_entry};
-ghost use Rattle.aml_laws.specs.StoredParts.{HoldsNothing};
+ghost use Rattle.aml_laws.specs.StoredParts.{HoldsNothing, IsNoData};
 ghost use Rattle.aml_laws.specs.StoreTerms.{FormsTo, IsNoBuffer, IsNoString};
+ghost use Rattle.aml_laws.specs.TestTerms.{TwoValues};
 
 /// ToInteger gives the integer that its operand is (`explicit_integers_are_read_by_their_prefix`), and ToBuffer a new
 /// buffer of the bytes that it converts to, or the very buffer that it is; both store this to their target. An operand
@@ -104,6 +105,37 @@ pub fn conversions_of_the_wide_profile_are_stored<S>()
         OneInteger accesses scope depth x (w, steps) n after → coded_decimal after.0.width n ≡ Ok code →
         FormsTo scope p (value.Integer code) after.0 end →
         Gives accesses scope depth (one_to opcodes.ToBcd x p) (w, suc steps) code (end, after.1) }
+{}
+
+/// In the wide profile ToDecimalString, ToHexString, ToString and Mid of what is neither an integer nor a string nor a
+/// buffer are refused as `WrongType` once all their operands are evaluated, whatever the others are; FromBCD is refused
+/// where a number is no binary coded decimal, and ToBCD where it has too many digits
+/// (`what_is_no_coded_decimal_is_refused`). Nothing is formed, and nothing is stored. A package whose part is an empty
+/// buffer, or whose string is empty, and a length that is looked at before what it is a length of, are refused by this.
+pub fn conversions_of_the_wide_profile_refuse_what_has_no_bytes<S>()
+    ensures strings { (accesses : Accesses S) (scope : List Seg) (depth : ℕ) (x : Tree) (p : Part) (w : State S)
+        (steps : ℕ) → w.profile ≡ profiles.Wide → (v : Value) (after : State S × ℕ) →
+        GivesValue accesses scope depth x (w, steps) v after → IsNoData v →
+        IsRefused accesses scope depth (one_to opcodes.ToDecimalString x p) (w, suc steps) (refusal.Value WrongType)
+        after × IsRefused accesses scope depth (one_to opcodes.ToHexString x p) (w, suc steps)
+        (refusal.Value WrongType) after }
+    ensures text { (accesses : Accesses S) (scope : List Seg) (depth : ℕ) (x y : Tree) (w : State S) (steps : ℕ)
+        (v u : Value) (after : State S × ℕ) → TwoValues accesses scope depth x y (w, steps) v u after →
+        w.profile ≡ profiles.Wide → IsNoData v → (p : Part) →
+        IsRefused accesses scope depth (two_to opcodes.ToString x y p) (w, suc steps) (refusal.Value WrongType) after }
+    ensures part { (accesses : Accesses S) (scope : List Seg) (depth : ℕ) (x y z : Tree) (w : State S) (steps : ℕ)
+        (v u r : Value) (behind after : State S × ℕ) → TwoValues accesses scope depth x y (w, steps) v u behind →
+        GivesValue accesses scope depth z behind r after → w.profile ≡ profiles.Wide → IsNoData v → (p : Part) →
+        IsRefused accesses scope depth (middle x y z p) (w, suc steps) (refusal.Value WrongType) after }
+    ensures decoded { (accesses : Accesses S) (scope : List Seg) (depth : ℕ) (x : Tree) (p : Part) (w : State S)
+        (steps : ℕ) → w.profile ≡ profiles.Wide → (code : ℕ) (after : State S × ℕ) →
+        OneInteger accesses scope depth x (w, steps) code after → (e : Refusal) → decoded_decimal code ≡ Err e →
+        IsRefused accesses scope depth (one_to opcodes.FromBcd x p) (w, suc steps) e after }
+    ensures coded { (accesses : Accesses S) (scope : List Seg) (depth : ℕ) (x : Tree) (p : Part) (w : State S)
+        (steps : ℕ) → w.profile ≡ profiles.Wide → (n : ℕ) (after : State S × ℕ) →
+        OneInteger accesses scope depth x (w, steps) n after → (e : Refusal) →
+        coded_decimal after.0.width n ≡ Err e →
+        IsRefused accesses scope depth (one_to opcodes.ToBcd x p) (w, suc steps) e after }
 {}
 
 /// What a conversion of the wide profile formed isn't converted again: a name that holds an integer, a string or a

@@ -1,5 +1,6 @@
 //! Conversions, comparisons and what two values are joined to.
-ghost use Rattle.std.specs.Prelude.{◌≡◌, ◌⊎◌, ◌<◌, ◌-◌, ◌+◌, ◌*◌, ◌^◌, ◌++◌, ◌∷◌, [], ℕ, List, length, nat_lt, true, Ok, Err};
+ghost use Rattle.std.specs.Prelude.{◌≡◌, ◌⊎◌, ◌<◌, ◌≤◌, ◌-◌, ◌+◌, ◌*◌, ◌^◌, ◌++◌, ◌∷◌, [], ℕ, List, length, slice_get};
+ghost use Rattle.std.specs.Prelude.{nat_lt, true, Some, Ok, Err};
 ghost use Rattle.std.specs.List.{list_all};
 ghost use Rattle.std.specs.Int.Digits.{digits_of};
 ghost use Rattle.std.specs.declared.cmp.Ordering.{Ordering};
@@ -105,6 +106,16 @@ pub fn binary_coded_decimal_has_the_decimal_digits()
         decoded_decimal code ≡ Ok n }
     ensures decoded_and_coded { (width : IntegerWidth) (code n again : ℕ) → decoded_decimal code ≡ Ok n →
         coded_decimal width n ≡ Ok again → again ≡ code }
+{}
+
+/// A number with a hexadecimal digit above 9 is no binary coded decimal, and FromBCD refuses it; ToBCD refuses one with
+/// more decimal digits than the width has hexadecimal ones: both as `WrongType`. Digits that are carried over, or that
+/// are refused as another fault, are refused by this.
+pub fn what_is_no_coded_decimal_is_refused()
+    ensures decoded { (code k d : ℕ) → slice_get (digits_of 16 code) k ≡ Some d → 9 < d →
+        decoded_decimal code ≡ Err (refusal.Value WrongType) }
+    ensures coded { (width : IntegerWidth) (n : ℕ) → 10 ^ (2 * bytes_of width) ≤ n →
+        coded_decimal width n ≡ Err (refusal.Value WrongType) }
 {}
 
 /// Two buffers of resource items are joined to the items of the first before its end tag, those of the second before
