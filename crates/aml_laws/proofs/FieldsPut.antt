@@ -38,7 +38,7 @@ use Rattle.aml_meaning.specs.Terms.{number_of}
 use Rattle.aml_laws.specs.BankDeclarations.{bank_field, Finds, FindsField}
 use Rattle.aml_laws.specs.DeclaredObjects.{IsFree, TakesNoName, with_name}
 use Rattle.aml_laws.specs.FieldLists.{unit_at, moved_on}
-use Rattle.aml_laws.specs.FieldsPut.{NamesBits, IsSized, ConnectsTo, Puts, no_more, a_field, no_name, no_bits, reserved_bits, an_access, a_connection, a_named_connection, no_connection, no_buffer, PutsAll, TakesList}
+use Rattle.aml_laws.specs.FieldsPut.{NamesBits, IsSized, ConnectsTo, Puts, no_more, a_field, no_name, no_bits, reserved_bits, a_field_too_far, reserved_too_far, an_access, a_connection, a_named_connection, no_connection, no_buffer, PutsAll, TakesList}
 use Rattle.aml_laws.specs.RegionTerms.{field, index_field}
 use Rattle.aml_laws.proofs.BanksDeclared.{fields_declared}
 use Rattle.aml_laws.proofs.NamesDeclared.{new_name_so}
@@ -70,6 +70,12 @@ further_is at bits near = let below : nat_lt (at.bit_offset + bits) (2 ^ 64) ≡
     less_is : (n k : ℕ) → n < k → nat_lt n k ≡ true
     less_is n k less = grind (arith, nat_tests)
 
+no_further : (at : FieldLayout) (bits : ℕ) → 2 ^ 64 ≤ at.bit_offset + bits → further at bits ≡ Err (refusal.Field FieldLimit)
+no_further at bits far = let beyond : nat_lt (at.bit_offset + bits) (2 ^ 64) ≡ false = not_less (at.bit_offset + bits) (2 ^ 64) far in rw beyond refl
+  where
+    not_less : (n k : ℕ) → k ≤ n → nat_lt n k ≡ false
+    not_less n k more = grind (arith, nat_tests)
+
 -- ---- elements
 
 module _ {S : Type 0} (group : FieldGroup) (scope : List Seg) (depth : ℕ) (at : FieldLayout) (t : Tree) (w : State S) where
@@ -77,6 +83,10 @@ module _ {S : Type 0} (group : FieldGroup) (scope : List Seg) (depth : ℕ) (at 
     field_put : IsSized bits → at.bit_offset + bits < 2 ^ 64 → IsFree depth w path → named_field group scope depth at t w ≡ (Ok (moved_on at bits), with_name w path (object.FieldUnit (unit_at group at bits)))
     unfolding named_field new_field settle go_on ◌>>=◌
     field_put size near free = rw (h.names, h.resolves, h.counts, size_is bits size, new_name_so w path (object.FieldUnit (unit_at group at bits)) depth free, further_is at bits near) refl
+
+    field_put_too_far : IsSized bits → 2 ^ 64 ≤ at.bit_offset + bits → IsFree depth w path → named_field group scope depth at t w ≡ (Err (refusal.Field FieldLimit), with_name w path (object.FieldUnit (unit_at group at bits)))
+    unfolding named_field new_field settle go_on ◌>>=◌
+    field_put_too_far size far free = rw (h.names, h.resolves, h.counts, size_is bits size, new_name_so w path (object.FieldUnit (unit_at group at bits)) depth free, no_further at bits far) refl
 
     field_stops : (e : Refusal) → IsSized bits → TakesNoName depth w path e → named_field group scope depth at t w ≡ (Err e, w)
     unfolding named_field new_field settle go_on ◌>>=◌
@@ -89,6 +99,10 @@ module _ {S : Type 0} (group : FieldGroup) (scope : List Seg) (depth : ℕ) (at 
   passed_over : (bits : ℕ) → number_of (operand_of t 0) ≡ Ok bits → at.bit_offset + bits < 2 ^ 64 → reserved_field group scope depth at t w ≡ (Ok (moved_on at bits), w)
   unfolding reserved_field settle go_on ◌>>=◌
   passed_over bits counts near = rw (counts, further_is at bits near) refl
+
+  passed_too_far : (bits : ℕ) → number_of (operand_of t 0) ≡ Ok bits → 2 ^ 64 ≤ at.bit_offset + bits → reserved_field group scope depth at t w ≡ (Err (refusal.Field FieldLimit), w)
+  unfolding reserved_field settle go_on ◌>>=◌
+  passed_too_far bits counts far = rw (counts, no_further at bits far) refl
 
   access_said : (flags : ℕ) → number_of (operand_of t 0) ≡ Ok flags → access_field group scope depth at t w ≡ (Ok (record at { access = access_width flags }), w)
   unfolding access_field settle give go_on ◌>>=◌
@@ -137,9 +151,9 @@ module _ {S : Type 0} (group : FieldGroup) (scope : List Seg) (depth : ℕ) wher
   unfolding elements_laid go_on ◌>>=◌
   next_laid at next t ts w v is = rw is refl
 
-  list_stops : (at : FieldLayout) (t : Tree) (ts : Trees) (w : State S) (e : Refusal) → element_laid group scope depth (code_of t) at t w ≡ (Err e, w) → elements_laid group scope depth at (tree t ts) w ≡ (Err e, w)
+  list_stops : (at : FieldLayout) (t : Tree) (ts : Trees) (w after : State S) (e : Refusal) → element_laid group scope depth (code_of t) at t w ≡ (Err e, after) → elements_laid group scope depth at (tree t ts) w ≡ (Err e, after)
   unfolding elements_laid go_on ◌>>=◌
-  list_stops at t ts w e is = rw is refl
+  list_stops at t ts w after e is = rw is refl
 
   access_element : (at : FieldLayout) (t : Tree) (w : State S) → (code_of t ≡ codes.AccessField) ⊎ (code_of t ≡ codes.ExtendedAccessField) → element_laid group scope depth (code_of t) at t w ≡ access_field group scope depth at t w
   access_element at t w (inl code) = rw code refl
@@ -150,15 +164,18 @@ module _ {S : Type 0} (group : FieldGroup) (scope : List Seg) (depth : ℕ) wher
   all_put _ _ _ _ _ (a_field at t ts w path bits r after h size near free rest) =
       next_laid at (moved_on at bits) t ts w (with_name w path (object.FieldUnit (unit_at group at bits))) (rw h.code (field_put group scope depth at t w path bits h size near free))
       ∙ all_put (moved_on at bits) ts (with_name w path (object.FieldUnit (unit_at group at bits))) r after rest
-  all_put _ _ _ _ _ (no_name at t ts w path bits e h size none) = list_stops at t ts w e (rw h.code (field_stops group scope depth at t w path bits h e size none))
-  all_put _ _ _ _ _ (no_bits at t ts w path bits h none) = list_stops at t ts w (refusal.Field FieldLimit) (rw h.code (size_stops group scope depth at t w path bits h none))
+  all_put _ _ _ _ _ (no_name at t ts w path bits e h size none) = list_stops at t ts w w e (rw h.code (field_stops group scope depth at t w path bits h e size none))
+  all_put _ _ _ _ _ (no_bits at t ts w path bits h none) = list_stops at t ts w w (refusal.Field FieldLimit) (rw h.code (size_stops group scope depth at t w path bits h none))
   all_put _ _ _ _ _ (reserved_bits at t ts w bits r after code counts near rest) = next_laid at (moved_on at bits) t ts w w (rw code (passed_over group scope depth at t w bits counts near)) ∙ all_put (moved_on at bits) ts w r after rest
+  all_put _ _ _ _ _ (a_field_too_far at t ts w path bits h size far free) =
+      list_stops at t ts w (with_name w path (object.FieldUnit (unit_at group at bits))) (refusal.Field FieldLimit) (rw h.code (field_put_too_far group scope depth at t w path bits h size far free))
+  all_put _ _ _ _ _ (reserved_too_far at t ts w bits code counts far) = list_stops at t ts w w (refusal.Field FieldLimit) (rw code (passed_too_far group scope depth at t w bits counts far))
   all_put _ _ _ _ _ (an_access at t ts w flags r after code says rest) =
       next_laid at (record at { access = access_width flags }) t ts w w (access_element at t w code ∙ access_said group scope depth at t w flags says) ∙ all_put (record at { access = access_width flags }) ts w r after rest
   all_put _ _ _ _ _ (a_connection at t u ts w r after code is rest) = next_laid at at t ts w w (by_term group scope depth at t w u code is) ∙ all_put at ts w r after rest
   all_put _ _ _ _ _ (a_named_connection at t ts w n number o r after h f rest) = next_laid at at t ts w w (by_name group scope depth at t w n h ∙ connected group scope depth at t w n number o h f) ∙ all_put at ts w r after rest
-  all_put _ _ _ _ _ (no_connection at t ts w n e h lost) = list_stops at t ts w e (by_name group scope depth at t w n h ∙ unconnected group scope depth at t w n e h lost)
-  all_put _ _ _ _ _ (no_buffer at t ts w n number o h f other) = list_stops at t ts w (refusal.Value WrongType) (by_name group scope depth at t w n h ∙ to_no_buffer group scope depth at t w n number o h f other)
+  all_put _ _ _ _ _ (no_connection at t ts w n e h lost) = list_stops at t ts w w e (by_name group scope depth at t w n h ∙ unconnected group scope depth at t w n e h lost)
+  all_put _ _ _ _ _ (no_buffer at t ts w n number o h f other) = list_stops at t ts w w (refusal.Value WrongType) (by_name group scope depth at t w n h ∙ to_no_buffer group scope depth at t w n number o h f other)
 
 -- ---- terms
 

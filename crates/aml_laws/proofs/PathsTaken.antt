@@ -1,5 +1,5 @@
 -- Declarations at paths that take no name are refused.
-use Rattle.std.specs.Prelude.{◌≡◌, ◌%◌, ℕ, zero, suc, false, List, Some, None, Ok, Err, refl}
+use Rattle.std.specs.Prelude.{◌≡◌, ◌%◌, ◌-◌, ◌^◌, ◌==◌, ℕ, zero, suc, true, false, List, Some, None, Ok, Err, refl}
 use Rattle.std.proofs.Common.{arith, ◌∙◌}
 use Rattle.std.proofs.lemmas.Bool.Decides.{nat_tests}
 use Rattle.std.specs.FinMap.{get}
@@ -7,6 +7,7 @@ use Rattle.ar_space.specs.Accesses.{Accesses}
 use Rattle.ar_space.specs.Change.{settle, go_on, ◌>>=◌}
 use Rattle.ar_space.specs.declared.refusal.Refusal.{Refusal}
 use Rattle.ar_space.specs.declared.refusal.Refusal.TheVariants as refusal
+use Rattle.ar_space.specs.declared.refusal.EvaluationFault.TheVariants.{ObjectLimit}
 use Rattle.ar_space.specs.declared.refusal.NamespaceFault.TheVariants.{Exists, NotFound}
 use Rattle.aml_path.specs.declared.segment.Seg.{Seg}
 use Rattle.aml_path.specs.Paths.{Name, resolved}
@@ -30,7 +31,7 @@ use Rattle.aml_meaning.specs.DeclarationTerms.{declaring, name_rule, alias_rule,
 use Rattle.aml_meaning.specs.Evaluation.{rule}
 use Rattle.aml_meaning.specs.Meaning.{meaning}
 use Rattle.aml_laws.specs.OperatorTerms.{GivesValue, IsRefused}
-use Rattle.aml_laws.specs.DeclaredObjects.{name_term, method_term, alias_term, mutex_term, event_term, method_of, TakesNoName, taken, below_nothing, below_method}
+use Rattle.aml_laws.specs.DeclaredObjects.{name_term, method_term, alias_term, mutex_term, event_term, method_of, TakesNoName, taken, below_nothing, below_method, without_number}
 use Rattle.aml_laws.specs.InnerLists.{DeclaresScope, of_device, of_processor, of_power_resource, of_thermal_zone}
 use Rattle.aml_laws.proofs.NamesDeclared.{no_method_so}
 use Rattle.aml_laws.proofs.TreesCost.{term_begins}
@@ -58,11 +59,19 @@ module _ {S : Type 0} (w : State S) (path : List Seg) where
   unfolding on_names declared
   put_nowhere o none = rw none refl
 
+  put_without_number : (o : NamedObject) (parent : Entry) → get w.names.map (above path) ≡ Some parent → get w.names.map path ≡ None → w.names.next ≡ 2 ^ 64 - 1 → on_names (declared path o) w ≡ (Err (refusal.Evaluation ObjectLimit), w)
+  unfolding on_names declared
+  put_without_number o parent stands free last = let test : (w.names.next == 2 ^ 64 - 1) ≡ true = same w.names.next (2 ^ 64 - 1) last in rw (stands, free, test) refl
+    where
+      same : (n k : ℕ) → n ≡ k → (n == k) ≡ true
+      same n k is = grind (arith, nat_tests)
+
   pub no_new_name : (o : NamedObject) (depth : ℕ) (e : Refusal) → TakesNoName depth w path e → new_name (module_level depth) path o w ≡ (Err e, w)
   unfolding new_name go_on ◌>>=◌
   no_new_name o depth _ (taken parent e stands outside there) = rw (out_of_methods depth parent stands outside, not_put o parent e stands there) refl
   no_new_name o depth _ (below_nothing none) = rw (in_nothing depth none, put_nowhere o none) refl
   no_new_name o depth _ (below_method parent m level stands is) = rw (in_method depth parent m level stands is) refl
+  no_new_name o depth _ (without_number parent stands outside free last) = rw (out_of_methods depth parent stands outside, put_without_number o parent stands free last) refl
 
 module _ {S : Type 0} (accesses : Accesses S) (scope : List Seg) (depth : ℕ) (n : Name) (path : List Seg) (is : resolved n scope ≡ Ok path) where
   pub declaring_stops : (t : Tree) (place : ℕ) (o : NamedObject) (s : State S × ℕ) (e : Refusal) → operand_of t place ≡ Some (name n) → TakesNoName depth s.0 path e → declaring (meaning accesses) scope depth t place o s ≡ (Err e, s)

@@ -3,6 +3,7 @@ use Rattle.std.specs.Prelude.{◌≡◌, ◌<◌, ◌+◌, ◌-◌, ◌^◌, ℕ
 use Rattle.std.specs.FinMap.{get, insert}
 use Rattle.ar_space.specs.declared.refusal.Refusal.{Refusal}
 use Rattle.ar_space.specs.declared.refusal.Refusal.TheVariants as refusal
+use Rattle.ar_space.specs.declared.refusal.EvaluationFault.TheVariants.{ObjectLimit}
 use Rattle.ar_space.specs.declared.refusal.NamespaceFault.TheVariants.{Exists, NotFound}
 use Rattle.aml_path.specs.declared.segment.Seg.{Seg}
 use Rattle.aml_path.specs.Paths.{Name}
@@ -52,12 +53,13 @@ pub record IsFree {S : Type 0} (depth : ℕ) (w : State S) (path : List Seg) : T
   pub free : get w.names.map path ≡ None
   pub room : w.names.next < 2 ^ 64 - 1
 
--- a path takes no name, and a declaration there is refused so: a name stands there, none stands above it, or at module level a control
--- method does
+-- a path takes no name, and a declaration there is refused so: a name stands there, none stands above it, at module level a control
+-- method does, or no number is left for one
 pub data TakesNoName {S : Type 0} (depth : ℕ) (w : State S) (path : List Seg) : Refusal → Type 0 where
   taken : (parent e : Entry) → get w.names.map (above path) ≡ Some parent → (depth ≡ 0 → (m : Method) → parent.object ≡ named.Method m → ⊥) → get w.names.map path ≡ Some e → TakesNoName depth w path (refusal.Namespace Exists)
   below_nothing : get w.names.map (above path) ≡ None → TakesNoName depth w path (refusal.Namespace NotFound)
   below_method : (parent : Entry) (m : Method) → depth ≡ 0 → get w.names.map (above path) ≡ Some parent → parent.object ≡ named.Method m → TakesNoName depth w path (refusal.Namespace NotFound)
+  without_number : (parent : Entry) → get w.names.map (above path) ≡ Some parent → (depth ≡ 0 → (m : Method) → parent.object ≡ named.Method m → ⊥) → get w.names.map path ≡ None → w.names.next ≡ 2 ^ 64 - 1 → TakesNoName depth w path (refusal.Evaluation ObjectLimit)
 
 -- the same world with this object at a path, under the next number
 abbrev pub with_name : {S : Type 0} → State S → List Seg → NamedObject → State S

@@ -49,7 +49,8 @@ ConnectsTo t n = (code_of t ≡ codes.ConnectField) × (operand_of t 0 ≡ Some 
 
 -- Element by element, with how many control methods being called: a named one is declared where its path is free and
 -- is refused where the path takes no name, as each declaration is, and by the limit of fields where it has no bit or
--- too many. What elements in front of it declared stays. A Connection that is a term isn't evaluated, and one that is
+-- too many. What elements in front of it declared stays. Where an element ends at 2^64 bits or behind them, the list
+-- is refused by that limit: a named one is declared before. A Connection that is a term isn't evaluated, and one that is
 -- a name has to find a buffer; neither moves the fields behind it.
 pub data Puts {S : Type 0} (group : FieldGroup) (scope : List Seg) (depth : ℕ) : FieldLayout → Trees → State S → Outcome (Unit {0}) → State S → Type 0 where
   no_more : (at : FieldLayout) (w : State S) → Puts group scope depth at no_trees w (Ok tt) w
@@ -59,6 +60,9 @@ pub data Puts {S : Type 0} (group : FieldGroup) (scope : List Seg) (depth : ℕ)
   no_bits : (at : FieldLayout) (t : Tree) (ts : Trees) (w : State S) (path : List Seg) (bits : ℕ) → NamesBits scope t path bits → (bits ≡ 0) ⊎ (8388608 < bits) → Puts group scope depth at (tree t ts) w (Err (refusal.Field FieldLimit)) w
   reserved_bits : (at : FieldLayout) (t : Tree) (ts : Trees) (w : State S) (bits : ℕ) (r : Outcome (Unit {0})) (after : State S) → code_of t ≡ codes.ReservedField → number_of (operand_of t 0) ≡ Ok bits → at.bit_offset + bits < 2 ^ 64
       → Puts group scope depth (moved_on at bits) ts w r after → Puts group scope depth at (tree t ts) w r after
+  a_field_too_far : (at : FieldLayout) (t : Tree) (ts : Trees) (w : State S) (path : List Seg) (bits : ℕ) → NamesBits scope t path bits → IsSized bits → 2 ^ 64 ≤ at.bit_offset + bits → IsFree depth w path
+      → Puts group scope depth at (tree t ts) w (Err (refusal.Field FieldLimit)) (with_name w path (object.FieldUnit (unit_at group at bits)))
+  reserved_too_far : (at : FieldLayout) (t : Tree) (ts : Trees) (w : State S) (bits : ℕ) → code_of t ≡ codes.ReservedField → number_of (operand_of t 0) ≡ Ok bits → 2 ^ 64 ≤ at.bit_offset + bits → Puts group scope depth at (tree t ts) w (Err (refusal.Field FieldLimit)) w
   an_access : (at : FieldLayout) (t : Tree) (ts : Trees) (w : State S) (flags : ℕ) (r : Outcome (Unit {0})) (after : State S) → (code_of t ≡ codes.AccessField) ⊎ (code_of t ≡ codes.ExtendedAccessField) → number_of (operand_of t 0) ≡ Ok flags
       → Puts group scope depth (record at { access = access_width flags }) ts w r after → Puts group scope depth at (tree t ts) w r after
   a_connection : (at : FieldLayout) (t u : Tree) (ts : Trees) (w : State S) (r : Outcome (Unit {0})) (after : State S) → code_of t ≡ codes.ConnectField → operand_of t 0 ≡ Some (inner u) → Puts group scope depth at ts w r after → Puts group scope depth at (tree t ts) w r after

@@ -67,9 +67,10 @@ pub fn an_alias_of_what_is_not_found_is_refused<S>()
 
 /// A Name, Method, Alias, Mutex or Event term at a path that takes no name, and one of a scope as a Device term, is
 /// refused, and nothing changes (ACPI 6.5, 5.3): where a name stands there, by the number of a name that exists;
-/// where none stands above it, and at module level where a control method does, by that of a name that isn't found. A
-/// Name is refused so once its term is evaluated. A name that is declared in a control method at module level is
-/// refused by this.
+/// where none stands above it, and at module level where a control method does, by that of a name that isn't found;
+/// and where 2^64 - 1 declarations were made, so that no number is left for a name that could stand, as too much. A
+/// Name is refused so once its term is evaluated. A name that is declared in a control method at module level, and
+/// want of numbers that is told as a name that exists, are refused by this.
 pub fn a_path_that_takes_no_name_refuses_declarations<S>()
     ensures name { (accesses : Accesses S) (scope : List Seg) (depth : ℕ) (n : Name) (path : List Seg) →
         resolved n scope ≡ Ok path → (w : State S) (steps : ℕ) (e : Refusal) (x : Tree) (v : Value)

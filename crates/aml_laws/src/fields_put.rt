@@ -31,8 +31,9 @@ ghost use Rattle.aml_laws.specs.TestTerms.{TwoValues};
 /// after another, each where its name may stand (ACPI 6.5, 5.3 and 20.2.5.2): at a path that is free, below a name
 /// that stands; at module level not below a control method, but in a control method that is called also below it. The
 /// first one whose path takes no name refuses the list as it refuses each declaration: as `Exists` where a name
-/// stands there, and else as `NotFound`. A field without a bit, or with more than 8,388,608, refuses it by the limit
-/// of fields. The fields in front stay, and nothing else changes. Where a Connection stands in the list, which the
+/// stands there, as too much where no number is left, and else as `NotFound`. A field without a bit, or with more than
+/// 8,388,608, refuses it by the limit of fields, and so does an element behind which no offset below 2^64 is left,
+/// which is declared before that. The fields in front stay, and nothing else changes. Where a Connection stands in the list, which the
 /// wide profile takes, nothing is evaluated, and the next field begins where it would without it; the name of one has
 /// to find a buffer, or the list is refused there. A list that declares fields in a control method at module level,
 /// one that a control method can't declare, and one that the wide profile refuses for a Connection, are refused by
