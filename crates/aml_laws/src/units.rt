@@ -5,7 +5,8 @@ ghost use Rattle.ar_space.specs.declared.refusal.Refusal.{Refusal};
 ghost use Rattle.ar_space.specs.declared.refusal.Refusal.TheVariants as refusal;
 ghost use Rattle.ar_space.specs.declared.space.Place.{Place};
 ghost use Rattle.ar_space.specs.declared.space.Width.{Width};
-ghost use Rattle.ar_space.specs.Accesses.{Accesses};
+ghost use Rattle.ar_space.specs.declared.space.Width.TheVariants.{W8, W16, W32, W64};
+ghost use Rattle.ar_space.specs.Accesses.{Accesses, byte_count, bit_count};
 ghost use Rattle.ar_space.specs.Change.{Change};
 ghost use Rattle.ar_space.specs.Outcome.{Outcome};
 ghost use Rattle.aml_objects.specs.declared.entry.FieldUnit.{FieldUnit};
@@ -18,6 +19,16 @@ ghost use Rattle.aml_fields.specs.Regions.{unit_place, read_access, read_unit, r
 ghost use Rattle.aml_fields.specs.Regions.{write_access, write_whole, write_unit, write_field};
 ghost use Rattle.aml_laws.specs.UnitPlaces.{IsUnitAt, IsNoUnit, ReadsOnce, WritesOnce};
 ghost use Rattle.aml_laws.specs.UnitsInTurn.{InTurn, EndsRefused, bits_in_units};
+
+/// An access of a byte has 8 bits, one of a word 16, of a doubleword 32 and of a quadword 64, and 1, 2, 4 and 8 bytes
+/// (ACPI 6.5, 19.6: Field). All that other laws say of the bits and the bytes of an access is said of these numbers. A
+/// word access of four bytes is refused by this.
+pub fn accesses_have_1_2_4_or_8_bytes()
+    ensures byte { (byte_count W8 ≡ 1) × (bit_count W8 ≡ 8) }
+    ensures word { (byte_count W16 ≡ 2) × (bit_count W16 ≡ 16) }
+    ensures double_word { (byte_count W32 ≡ 4) × (bit_count W32 ≡ 32) }
+    ensures quad_word { (byte_count W64 ≡ 8) × (bit_count W64 ≡ 64) }
+{}
 
 /// A unit that lies wholly within its operation region, and begins at a byte of memory below 2^64, at a port below 2^16
 /// or at a register below 4,096 of a PCI function, is read by one read at this place, and where it is written whole, by
