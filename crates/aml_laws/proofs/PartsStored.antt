@@ -179,3 +179,13 @@ module _ {S : Type 0} (w : State S) (path : List Seg) where
   pub over_nothing : (e : Entry) (v : Value) → get w.names.map path ≡ Some e → HoldsNothing e.object → (stored (targets.Name path) v w ≡ (Err (refusal.Value WrongType), w)) × (copied_to (targets.Name path) v w ≡ (Err (refusal.Value WrongType), w))
   unfolding store_in_name copy_in_name held_at stop go_on ◌>>=◌
   over_nothing e v at is = (rw (at, nothing_held e.object is) refl, rw (at, nothing_held e.object is) refl)
+
+-- ---- no target
+
+pub nowhere_stored : {S : Type 0} (w : State S) (v : Value) → stored targets.Nowhere v w ≡ (Ok store.Done, w)
+unfolding give
+nowhere_stored w v = refl
+
+pub nowhere_copied : {S : Type 0} (w : State S) (v : Value) → copied_to targets.Nowhere v w ≡ (Ok store.Done, w)
+unfolding give
+nowhere_copied w v = refl

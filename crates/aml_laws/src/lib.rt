@@ -269,6 +269,7 @@ pub use steps::terms_of_tables_and_answers_are_counted;
 pub use steps::terms_that_begin_are_counted;
 pub use store_terms::stores_and_copies_give_their_source;
 pub use stored_parts::a_byte_takes_the_first_byte_of_a_value;
+pub use stored_parts::a_store_to_no_target_changes_nothing;
 pub use stored_parts::an_argument_stands_for_what_it_refers_to;
 pub use stored_parts::arguments_and_elements_take_copies;
 pub use stored_parts::what_holds_no_data_takes_no_conversion;

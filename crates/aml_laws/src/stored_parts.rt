@@ -1,4 +1,4 @@
-//! Stores to arguments, to parts of objects, and to names that hold a reference or nothing.
+//! Stores to no target, to arguments, to parts of objects, and to names that hold a reference or nothing.
 ghost use Rattle.std.specs.Prelude.{◌≡◌, ◌≢◌, ◌<◌, ◌≤◌, ◌+◌, ℕ, List, [], length, slice_get, Some, Ok, Err};
 ghost use Rattle.std.specs.FinMap.{get};
 ghost use Rattle.ar_space.specs.declared.refusal.Refusal.TheVariants as refusal;
@@ -21,6 +21,15 @@ ghost use Rattle.aml_laws.specs.Copyable.{IsCopyable};
 ghost use Rattle.aml_laws.specs.Limits.{IsLink};
 ghost use Rattle.aml_laws.specs.StoredNames.{data_entry, with_object_numbered};
 ghost use Rattle.aml_laws.specs.StoredParts.{ArgumentHolds, ArgumentTakesCopy, ElementTakesCopy, GivesByte, ByteTaken, IsNoData, HoldsNothing};
+
+/// A Store and a CopyObject to no target, and to Debug, are done and change nothing, whatever the value is: none is
+/// refused, and no copy is made (ACPI 6.5, 19.6: Debug, and 20.2.2: Target). So an operator without a target gives what
+/// it formed, and costs no object more. A store to Debug that refuses strings, and one that makes an object, are refused
+/// by this.
+pub fn a_store_to_no_target_changes_nothing<S>()
+    ensures stored { (w : State S) (v : Value) → stored targets.Nowhere v w ≡ (Ok store.Done, w) }
+    ensures copied { (w : State S) (v : Value) → copied_to targets.Nowhere v w ≡ (Ok store.Done, w) }
+{}
 
 /// A Store to an argument that holds no reference, and one to an element of a package, take a copy of the value, which
 /// shares no object with anything that was there before; nothing else of the world changes. So it is of each value that
