@@ -1,15 +1,16 @@
--- What stores leave in arguments, in elements of packages, in bytes, and in names that hold a reference or nothing.
-use Rattle.std.specs.Prelude.{◌≡◌, ◌≢◌, ◌<◌, ◌≤◌, ◌+◌, ◌++◌, ℕ, nat_lt, true, List, [], length, get_or, slice_get, slice_set, Some, Ok, Err, refl}
+-- What stores leave in slots, in elements of packages, in bytes, and in names.
+use Rattle.std.specs.Prelude.{◌≡◌, ◌≢◌, ◌<◌, ◌≤◌, ◌+◌, ◌++◌, ℕ, suc, nat_lt, true, List, [], length, get_or, slice_get, slice_set, Some, Ok, Err, refl}
 use Rattle.std.proofs.Common.{arith, ap, ◌∙◌}
 use Rattle.std.proofs.lemmas.Bool.Decides.{nat_tests}
 use Rattle.std.proofs.lemmas.Option.{slice_get-get_or}
 use Rattle.std.specs.FinMap.{get}
-use Rattle.ar_space.specs.Change.{give, stop, go_on, ◌>>=◌}
+use Rattle.ar_space.specs.Outcome.{Outcome}
+use Rattle.ar_space.specs.Change.{Change, give, stop, go_on, ◌>>=◌}
 use Rattle.ar_space.specs.declared.refusal.Refusal.{Refusal}
 use Rattle.ar_space.specs.declared.refusal.Refusal.TheVariants as refusal
 use Rattle.ar_space.specs.declared.refusal.ValueFault.TheVariants.{WrongType, EmptyValue}
 use Rattle.aml_path.specs.declared.segment.Seg.{Seg}
-use Rattle.aml_objects.specs.Copies.{copied}
+use Rattle.aml_objects.specs.Copies.{value_copy, package_copy, if_whole, whole, copied}
 use Rattle.aml_objects.specs.Objects.{Objects, element_there, write_element, byte_at, write_byte}
 use Rattle.aml_objects.specs.declared.entry.Entry.{Entry}
 use Rattle.aml_objects.specs.declared.entry.NamedObject.{NamedObject}
@@ -19,71 +20,123 @@ use Rattle.aml_objects.specs.declared.object.Object.{Object}
 use Rattle.aml_objects.specs.declared.object.Object.TheVariants as object
 use Rattle.aml_objects.specs.declared.value.Reference.{Reference}
 use Rattle.aml_objects.specs.declared.value.Reference.TheVariants as reference
+use Rattle.aml_objects.specs.declared.value.Slot.{Slot}
 use Rattle.aml_objects.specs.declared.value.Slot.TheVariants.{Argument}
 use Rattle.aml_objects.specs.declared.value.Value.{Value}
 use Rattle.aml_objects.specs.declared.value.Value.TheVariants as value
 use Rattle.aml_meaning.specs.declared.store_target.Holding.TheVariants as holding
 use Rattle.aml_meaning.specs.declared.store_target.StoreTarget.TheVariants as targets
+use Rattle.aml_meaning.specs.declared.frame.Frame.{Frame}
+use Rattle.aml_meaning.specs.declared.store_target.Stored.{Stored}
 use Rattle.aml_meaning.specs.declared.store_target.Stored.TheVariants as store
 use Rattle.aml_meaning.specs.State.{State, on_objects}
-use Rattle.aml_meaning.specs.StoreTargets.{holding_of, held_at, latest_frame, slot_held, most_references}
-use Rattle.aml_meaning.specs.Stores.{slot_put, copy_into_slot, copy_into_element, store_over_slot, store_in_frame, store_in_slot, stored_through, store_byte, byte_in, store_in_name, copy_in_name, stored, copied_to}
+use Rattle.aml_meaning.specs.Slots.{slot_in, frame_index}
+use Rattle.aml_meaning.specs.StoreTargets.{holding_of, held_at, latest_frame, frame_found, slot_held, most_references}
+use Rattle.aml_meaning.specs.Stores.{slot_put, copy_into_slot, copy_into_element, store_over_slot, store_in_frame, store_in_frame_numbered, store_in_slot, stored_through, store_byte, byte_in, store_in_name, copy_in_name, stored, copied_to}
 use Rattle.aml_laws.specs.Copyable.{IsCopyable}
 use Rattle.aml_laws.specs.StoredNames.{data_entry, with_object_numbered}
-use Rattle.aml_laws.specs.StoredParts.{CopyMade, ArgumentHolds, ArgumentTakesCopy, ElementTakesCopy, GivesByte, of_integer, of_string, of_buffer, ByteTaken, in_string, in_buffer, IsNoData, uninitialized, a_package, a_reference, HoldsNothing, scope, device, processor, power_resource, thermal_zone, method, region, mutex, event}
+use Rattle.aml_laws.specs.StoredParts.{CopyMade, TakesCopies, a_local, an_argument, SlotTakesCopy, ElementTakesCopy, GivesByte, of_integer, of_string, of_buffer, ByteTaken, in_string, in_buffer, IsNoData, uninitialized, a_package, a_reference, HoldsNothing, scope, device, processor, power_resource, thermal_zone, method, region, mutex, event}
 use Rattle.aml_laws.proofs.CopiesAnswered.{copy_answers}
 use Rattle.aml_laws.proofs.CopiesApart.{copy_is_apart, stays}
 
 -- ---- a copy that is made in a world
 
 module _ {S : Type 0} (w : State S) (v : Value) where
-  record Made : Type 0 where
+  record Made (count : ℕ) : Type 0 where
     copy : Value
     made : Objects
     answers : on_objects (copied v) w ≡ (Ok copy, record w { objects = w.objects ++ made })
-    apart : CopyMade w.objects v copy made
+    apart : CopyMade w.objects v copy count made
 
   made_so : (copy : Value) (made : Objects) → copied v w.objects ≡ (Ok copy, w.objects ++ made) → on_objects (copied v) w ≡ (Ok copy, record w { objects = w.objects ++ made })
   unfolding on_objects
   made_so copy made e = rw e refl
 
-  made_there : (count : ℕ) → IsCopyable w.objects 64 count v → length w.objects + count ≤ 262144 → Made
+  made_there : (count : ℕ) → IsCopyable w.objects 64 count v → length w.objects + count ≤ 262144 → Made count
   made_there count is room =
       let c = copy_answers w.objects count v is room in
-      record { copy = c.0; made = c.1.0; answers = made_so c.0 c.1.0 c.1.1.0; apart = record { is = copy_is_apart w.objects (w.objects ++ c.1.0) v c.0 c.1.1.0 } }
+      record { copy = c.0; made = c.1.0; answers = made_so c.0 c.1.0 c.1.1.0; apart = record { is = copy_is_apart w.objects (w.objects ++ c.1.0) v c.0 c.1.1.0; many = c.1.1.1 } }
 
--- ---- arguments
+-- one that is refused leaves the objects
+left_whole : (h after : Objects) (x : Outcome Value) (e : Refusal) → (if_whole h x after).0 ≡ Err e → if_whole h x after ≡ (Err e, h)
+left_whole h after (Ok u) e is = absurd (cc is)
+left_whole h after (Err d) e is = ap (λ (x : Outcome Value). (x, h)) is
 
-module _ {S : Type 0} (w : State S) (i last : ℕ) (old v : Value) where
-  by_copy : ((r : Reference) → old ≢ value.Reference r) → store_over_slot {S = S} (stored_through most_references) last (Argument i) old v ≡ copy_into_slot last (Argument i) v
-  by_copy other = by old other
-    where
-      by : (u : Value) → ((r : Reference) → u ≢ value.Reference r) → store_over_slot {S = S} (stored_through most_references) last (Argument i) u v ≡ copy_into_slot last (Argument i) v
-      by value.Uninitialized h = refl
-      by (value.Integer n) h = refl
-      by (value.String o) h = refl
-      by (value.Buffer o) h = refl
-      by (value.Package o) h = refl
-      by (value.Reference r) h = absurd (h r refl)
+copy_leaves : (h : Objects) (v : Value) (e : Refusal) → (copied v h).0 ≡ Err e → copied v h ≡ (Err e, h)
+unfolding copied whole
+copy_leaves h v e is = let p = value_copy (package_copy 64) v h in left_whole h p.1 p.0 e is
 
-  over_slot : ArgumentHolds w i last old → stored (targets.Slot (Argument i)) v w ≡ store_over_slot (stored_through most_references) last (Argument i) old v w
-  unfolding store_in_slot store_in_frame latest_frame slot_held go_on ◌>>=◌
-  over_slot h = rw (h.latest, h.stands, h.holds) refl
+not_copied : {S : Type 0} (w : State S) (v : Value) (e : Refusal) → (copied v w.objects).0 ≡ Err e → on_objects (copied v) w ≡ (Err e, w)
+unfolding on_objects
+not_copied w v e is = rw (copy_leaves w.objects v e is) refl
 
-  put_so : (m : Made w v) → copy_into_slot last (Argument i) v w ≡ (Ok store.Done, (slot_put last (Argument i) m.copy (record w { objects = w.objects ++ m.made })).1)
+-- ---- slots
+
+over_argument : {S : Type 0} (through : Reference → Value → Change (State S) Stored) (k i : ℕ) (held v : Value) → ((r : Reference) → held ≢ value.Reference r) → store_over_slot through k (Argument i) held v ≡ copy_into_slot k (Argument i) v
+over_argument through k i value.Uninitialized v other = refl
+over_argument through k i (value.Integer n) v other = refl
+over_argument through k i (value.String o) v other = refl
+over_argument through k i (value.Buffer o) v other = refl
+over_argument through k i (value.Package o) v other = refl
+over_argument through k i (value.Reference r) v other = absurd (other r refl)
+
+by_copy : {S : Type 0} (through : Reference → Value → Change (State S) Stored) (k : ℕ) (f : Frame) (slot : Slot) (v : Value) → TakesCopies f slot → store_over_slot through k slot (slot_in f slot) v ≡ copy_into_slot k slot v
+by_copy through k f _ v (a_local i) = refl
+by_copy through k f _ v (an_argument i other) = over_argument through k i (slot_in f (Argument i)) v other
+
+module _ {S : Type 0} (w : State S) (k : ℕ) (f : Frame) (slot : Slot) (v : Value) (at : slice_get w.frames k ≡ Some f) (takes : TakesCopies f slot) where
+  in_frame : (through : Reference → Value → Change (State S) Stored) → store_in_frame through k slot v w ≡ copy_into_slot k slot v w
+  unfolding store_in_frame slot_held go_on ◌>>=◌
+  in_frame through = rw at (ap (λ (change : Change (State S) Stored). change w) (by_copy through k f slot v takes))
+
+  in_latest : length w.frames ≡ suc k → stored (targets.Slot slot) v w ≡ copy_into_slot k slot v w
+  unfolding store_in_slot latest_frame go_on ◌>>=◌
+  in_latest latest = rw latest (in_frame (stored_through most_references))
+
+  stored_in_referred : (n : ℕ) → frame_index n w.frames ≡ Some k → stored (targets.Refers (reference.Slot slot n)) v w ≡ copy_into_slot k slot v w
+  unfolding store_in_frame_numbered frame_found go_on ◌>>=◌
+  stored_in_referred n stands = rw stands (in_frame (stored_through most_references))
+
+  copied_in_referred : (n : ℕ) → frame_index n w.frames ≡ Some k → copied_to (targets.Refers (reference.Slot slot n)) v w ≡ copy_into_slot k slot v w
+  unfolding stored_through store_in_frame_numbered frame_found go_on ◌>>=◌
+  copied_in_referred n stands = rw stands (in_frame (stored_through 63))
+
+  slot_put_so : {count : ℕ} (m : Made w v count) → copy_into_slot k slot v w ≡ (Ok store.Done, (slot_put k slot m.copy (record w { objects = w.objects ++ m.made })).1)
   unfolding copy_into_slot slot_put give go_on ◌>>=◌
-  put_so m = rw m.answers refl
+  slot_put_so m = rw m.answers refl
 
-pub argument_stored : {S : Type 0} (w : State S) (i last : ℕ) (old v : Value) (count : ℕ) → ArgumentHolds w i last old → ((r : Reference) → old ≢ value.Reference r) → IsCopyable w.objects 64 count v → length w.objects + count ≤ 262144
-    → (after : State S) × ((stored (targets.Slot (Argument i)) v w ≡ (Ok store.Done, after)) × ArgumentTakesCopy w after i last v)
-argument_stored w i last old v count h other is room =
-    let m = made_there w v count is room in (
-      (slot_put last (Argument i) m.copy (record w { objects = w.objects ++ m.made })).1,
-      (
-        over_slot w i last old v h ∙ (ap (λ f. f w) (by_copy w i last old v other) ∙ put_so w i last old v m),
-        record { copy = m.copy; made = m.made; copied = m.apart; put = refl },
-      ),
-    )
+  slot_refused : (e : Refusal) → (copied v w.objects).0 ≡ Err e → copy_into_slot k slot v w ≡ (Err e, w)
+  unfolding copy_into_slot go_on ◌>>=◌
+  slot_refused e is = rw (not_copied w v e is) refl
+
+module _ {S : Type 0} (w : State S) (k : ℕ) (f : Frame) (slot : Slot) (v : Value) where
+  pub latest_takes : (count : ℕ) → length w.frames ≡ suc k → slice_get w.frames k ≡ Some f → TakesCopies f slot → IsCopyable w.objects 64 count v → length w.objects + count ≤ 262144
+      → (after : State S) × ((stored (targets.Slot slot) v w ≡ (Ok store.Done, after)) × ((copied_to (targets.Slot slot) v w ≡ (Ok store.Done, after)) × SlotTakesCopy w after k slot v count))
+  latest_takes count latest at takes is room =
+      let m = made_there w v count is room in
+      let done = in_latest w k f slot v at takes latest ∙ slot_put_so w k f slot v at takes m in
+      ((slot_put k slot m.copy (record w { objects = w.objects ++ m.made })).1, (done, (done, record { copy = m.copy; made = m.made; copied = m.apart; put = refl })))
+
+  pub referred_takes : (n count : ℕ) → frame_index n w.frames ≡ Some k → slice_get w.frames k ≡ Some f → TakesCopies f slot → IsCopyable w.objects 64 count v → length w.objects + count ≤ 262144
+      → (after : State S) × ((stored (targets.Refers (reference.Slot slot n)) v w ≡ (Ok store.Done, after)) × ((copied_to (targets.Refers (reference.Slot slot n)) v w ≡ (Ok store.Done, after)) × SlotTakesCopy w after k slot v count))
+  referred_takes n count stands at takes is room =
+      let m = made_there w v count is room in
+      let put = slot_put_so w k f slot v at takes m in (
+        (slot_put k slot m.copy (record w { objects = w.objects ++ m.made })).1,
+        (
+          stored_in_referred w k f slot v at takes n stands ∙ put,
+          (copied_in_referred w k f slot v at takes n stands ∙ put, record { copy = m.copy; made = m.made; copied = m.apart; put = refl }),
+        ),
+      )
+
+  pub latest_refuses : (e : Refusal) → length w.frames ≡ suc k → slice_get w.frames k ≡ Some f → TakesCopies f slot → (copied v w.objects).0 ≡ Err e → (stored (targets.Slot slot) v w ≡ (Err e, w)) × (copied_to (targets.Slot slot) v w ≡ (Err e, w))
+  latest_refuses e latest at takes is = let refused = in_latest w k f slot v at takes latest ∙ slot_refused w k f slot v at takes e is in (refused, refused)
+
+  pub referred_refuses : (n : ℕ) (e : Refusal) → frame_index n w.frames ≡ Some k → slice_get w.frames k ≡ Some f → TakesCopies f slot → (copied v w.objects).0 ≡ Err e
+      → (stored (targets.Refers (reference.Slot slot n)) v w ≡ (Err e, w)) × (copied_to (targets.Refers (reference.Slot slot n)) v w ≡ (Err e, w))
+  referred_refuses n e stands at takes is =
+      let refused = slot_refused w k f slot v at takes e is in
+      (stored_in_referred w k f slot v at takes n stands ∙ refused, copied_in_referred w k f slot v at takes n stands ∙ refused)
 
 -- ---- elements
 
@@ -99,16 +152,20 @@ module _ {S : Type 0} (w : State S) (o i : ℕ) (es : List Element) (at : slice_
   unfolding on_objects write_element
   element_is_put made copy = let late = stays w.objects made o (object.Package es) at in rw (late, is_less) refl
 
-  element_put : (m : Made w v) → copy_into_element o i v w ≡ (Ok store.Done, record w { objects = slice_set (w.objects ++ m.made) o (object.Package (slice_set es i (element.Value m.copy))) })
+  element_put : {count : ℕ} (m : Made w v count) → copy_into_element o i v w ≡ (Ok store.Done, record w { objects = slice_set (w.objects ++ m.made) o (object.Package (slice_set es i (element.Value m.copy))) })
   unfolding copy_into_element give go_on ◌>>=◌
   element_put m = rw (element_stands, m.answers, element_is_put m.made m.copy) refl
 
-  pub element_stored : (count : ℕ) → IsCopyable w.objects 64 count v → length w.objects + count ≤ 262144 → (after : State S) × ((stored (targets.Refers (reference.Element o i)) v w ≡ (Ok store.Done, after)) × ElementTakesCopy w after o i es v)
+  pub element_stored : (count : ℕ) → IsCopyable w.objects 64 count v → length w.objects + count ≤ 262144 → (after : State S) × ((stored (targets.Refers (reference.Element o i)) v w ≡ (Ok store.Done, after)) × ElementTakesCopy w after o i es v count)
   element_stored count is room =
       let m = made_there w v count is room in (
         record w { objects = slice_set (w.objects ++ m.made) o (object.Package (slice_set es i (element.Value m.copy))) },
         (element_put m, record { copy = m.copy; made = m.made; copied = m.apart; put = refl }),
       )
+
+  pub element_refuses : (e : Refusal) → (copied v w.objects).0 ≡ Err e → stored (targets.Refers (reference.Element o i)) v w ≡ (Err e, w)
+  unfolding copy_into_element go_on ◌>>=◌
+  element_refuses e is = rw (element_stands, not_copied w v e is) refl
 
 -- ---- bytes
 

@@ -12,7 +12,7 @@ use Rattle.aml_meaning.specs.Stores.{slot_put}
 use Rattle.aml_laws.specs.Copied.{IsCopy}
 
 -- The value at a path is a copy that shares no object with anything that was there before, under the number of the declaration that stood
--- there. Nothing else of the world is another: the copy's own objects stand behind all earlier ones.
+-- there. Nothing else of the world is another, but that objects stand behind all earlier ones, among them the copy's own.
 pub record NameHoldsCopy {S : Type 0} (before after : State S) (path : List Seg) (v : Value) : Type 0 where
   pub copy : Value
   pub is : IsCopy (length before.objects) after.objects v copy

@@ -1,5 +1,5 @@
--- Arguments, elements of packages, bytes and names that values are stored to (ACPI 6.5, 19.3.5.8 and 19.6: Index, Store).
-use Rattle.std.specs.Prelude.{◌≡◌, ◌<◌, ◌%◌, ℕ, suc, List, ◌∷◌, ◌++◌, length, slice_get, slice_set, Some}
+-- Slots, elements of packages, bytes and names that values are stored to (ACPI 6.5, 19.3.5.8 and 19.6: Index, Store).
+use Rattle.std.specs.Prelude.{◌≡◌, ◌≢◌, ◌<◌, ◌%◌, ℕ, suc, List, ◌∷◌, ◌++◌, length, slice_get, slice_set, Some}
 use Rattle.aml_path.specs.declared.segment.Seg.{Seg}
 use Rattle.aml_objects.specs.Objects.{Objects}
 use Rattle.aml_objects.specs.declared.entry.BufferField.{BufferField}
@@ -15,7 +15,8 @@ use Rattle.aml_objects.specs.declared.object.Object.{Object}
 use Rattle.aml_objects.specs.declared.object.Object.TheVariants as object
 use Rattle.aml_objects.specs.declared.value.Reference.{Reference}
 use Rattle.aml_objects.specs.declared.value.Reference.TheVariants as reference
-use Rattle.aml_objects.specs.declared.value.Slot.TheVariants.{Argument}
+use Rattle.aml_objects.specs.declared.value.Slot.{Slot}
+use Rattle.aml_objects.specs.declared.value.Slot.TheVariants.{Local, Argument}
 use Rattle.aml_objects.specs.declared.value.Value.{Value}
 use Rattle.aml_objects.specs.declared.value.Value.TheVariants as value
 use Rattle.aml_meaning.specs.declared.frame.Frame.{Frame}
@@ -28,9 +29,23 @@ use Rattle.aml_laws.specs.Copied.{IsCopy}
 
 -- ---- copies
 
--- a value is a copy of another, and these are the objects that were made for it, behind all that were there
-pub record CopyMade (before : Objects) (v copy : Value) (made : Objects) : Type 0 where
+-- a value is a copy of another, and these are the objects that were made for it, so many, behind all that were there
+pub record CopyMade (before : Objects) (v copy : Value) (count : ℕ) (made : Objects) : Type 0 where
   pub is : IsCopy (length before) (before ++ made) v copy
+  pub many : length made ≡ count
+
+-- a slot takes what is stored to it itself: a local, and an argument that holds no reference
+pub data TakesCopies (f : Frame) : Slot → Type 0 where
+  a_local : (i : ℕ) → TakesCopies f (Local i)
+  an_argument : (i : ℕ) → ((r : Reference) → slot_in f (Argument i) ≢ value.Reference r) → TakesCopies f (Argument i)
+
+-- a slot of the frame at an index holds a copy then: nothing but the objects that were made and this slot is another. What `slot_put` does
+-- the law of slots says
+pub record SlotTakesCopy {S : Type 0} (before after : State S) (k : ℕ) (slot : Slot) (v : Value) (count : ℕ) : Type 0 where
+  pub copy : Value
+  pub made : Objects
+  pub copied : CopyMade before.objects v copy count made
+  pub put : after ≡ (slot_put k slot copy (record before { objects = before.objects ++ made })).1
 
 -- an argument of the control method that runs, whose frame is the latest one, holds this
 pub record ArgumentHolds {S : Type 0} (w : State S) (i last : ℕ) (old : Value) : Type 0 where
@@ -39,18 +54,11 @@ pub record ArgumentHolds {S : Type 0} (w : State S) (i last : ℕ) (old : Value)
   pub stands : slice_get w.frames last ≡ Some frame
   pub holds : slot_in frame (Argument i) ≡ old
 
--- it holds a copy then: nothing but the objects and this slot is another. What `slot_put` does the law of slots says
-pub record ArgumentTakesCopy {S : Type 0} (before after : State S) (i last : ℕ) (v : Value) : Type 0 where
-  pub copy : Value
-  pub made : Objects
-  pub copied : CopyMade before.objects v copy made
-  pub put : after ≡ (slot_put last (Argument i) copy (record before { objects = before.objects ++ made })).1
-
 -- an element of a package holds a copy then: nothing but the objects that were made and this element is another
-pub record ElementTakesCopy {S : Type 0} (before after : State S) (o i : ℕ) (es : List Element) (v : Value) : Type 0 where
+pub record ElementTakesCopy {S : Type 0} (before after : State S) (o i : ℕ) (es : List Element) (v : Value) (count : ℕ) : Type 0 where
   pub copy : Value
   pub made : Objects
-  pub copied : CopyMade before.objects v copy made
+  pub copied : CopyMade before.objects v copy count made
   pub put : after ≡ record before { objects = slice_set (before.objects ++ made) o (object.Package (slice_set es i (element.Value copy))) }
 
 -- ---- bytes

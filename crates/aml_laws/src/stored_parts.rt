@@ -1,26 +1,31 @@
-//! Stores to no target, to arguments, to parts of objects, and to names that hold a reference or nothing.
-ghost use Rattle.std.specs.Prelude.{◌≡◌, ◌≢◌, ◌<◌, ◌≤◌, ◌+◌, ℕ, List, [], length, slice_get, Some, Ok, Err};
+//! Stores to no target, to slots, to parts of objects, and to names that hold a reference or nothing.
+ghost use Rattle.std.specs.Prelude.{◌≡◌, ◌≢◌, ◌<◌, ◌≤◌, ◌+◌, ℕ, suc, List, [], length, slice_get, Some, Ok, Err};
 ghost use Rattle.std.specs.FinMap.{get};
+ghost use Rattle.ar_space.specs.declared.refusal.Refusal.{Refusal};
 ghost use Rattle.ar_space.specs.declared.refusal.Refusal.TheVariants as refusal;
 ghost use Rattle.ar_space.specs.declared.refusal.ValueFault.TheVariants.{WrongType, EmptyValue};
 ghost use Rattle.aml_path.specs.declared.segment.Seg.{Seg};
+ghost use Rattle.aml_objects.specs.Copies.{copied};
 ghost use Rattle.aml_objects.specs.declared.entry.Entry.{Entry};
 ghost use Rattle.aml_objects.specs.declared.object.Element.{Element};
 ghost use Rattle.aml_objects.specs.declared.object.Object.{Object};
 ghost use Rattle.aml_objects.specs.declared.object.Object.TheVariants as object;
 ghost use Rattle.aml_objects.specs.declared.value.Reference.{Reference};
 ghost use Rattle.aml_objects.specs.declared.value.Reference.TheVariants as reference;
+ghost use Rattle.aml_objects.specs.declared.value.Slot.{Slot};
 ghost use Rattle.aml_objects.specs.declared.value.Slot.TheVariants.{Argument};
 ghost use Rattle.aml_objects.specs.declared.value.Value.{Value};
 ghost use Rattle.aml_objects.specs.declared.value.Value.TheVariants as value;
+ghost use Rattle.aml_meaning.specs.declared.frame.Frame.{Frame};
 ghost use Rattle.aml_meaning.specs.State.{State};
+ghost use Rattle.aml_meaning.specs.Slots.{frame_index};
 ghost use Rattle.aml_meaning.specs.Stores.{stored, copied_to};
 ghost use Rattle.aml_meaning.specs.declared.store_target.StoreTarget.TheVariants as targets;
 ghost use Rattle.aml_meaning.specs.declared.store_target.Stored.TheVariants as store;
 ghost use Rattle.aml_laws.specs.Copyable.{IsCopyable};
 ghost use Rattle.aml_laws.specs.Limits.{IsLink};
 ghost use Rattle.aml_laws.specs.StoredNames.{data_entry, with_object_numbered};
-ghost use Rattle.aml_laws.specs.StoredParts.{ArgumentHolds, ArgumentTakesCopy, ElementTakesCopy, GivesByte, ByteTaken, IsNoData, HoldsNothing};
+ghost use Rattle.aml_laws.specs.StoredParts.{ArgumentHolds, TakesCopies, SlotTakesCopy, ElementTakesCopy, GivesByte, ByteTaken, IsNoData, HoldsNothing};
 
 /// A Store and a CopyObject to no target, and to Debug, are done and change nothing, whatever the value is: none is
 /// refused, and no copy is made (ACPI 6.5, 19.6: Debug, and 20.2.2: Target). So an operator without a target gives what
@@ -31,21 +36,50 @@ pub fn a_store_to_no_target_changes_nothing<S>()
     ensures copied { (w : State S) (v : Value) → copied_to targets.Nowhere v w ≡ (Ok store.Done, w) }
 {}
 
-/// A Store to an argument that holds no reference, and one to an element of a package, take a copy of the value, which
-/// shares no object with anything that was there before; nothing else of the world changes. So it is of each value that
-/// `what_is_within_the_limits_is_copied` says can be copied. A Store that does nothing, and one that shares a string, a
-/// buffer or a package, are refused by this.
-pub fn arguments_and_elements_take_copies<S>()
-    ensures argument { (before : State S) (i last : ℕ) (old v : Value) (count : ℕ) →
-        ArgumentHolds before i last old → ((r : Reference) → old ≢ value.Reference r) →
+/// A Store and a CopyObject to a local, and to an argument that holds no reference, of the control method that runs are
+/// done for each value that can be copied (`what_is_within_the_limits_is_copied`), and leave a copy in that very slot:
+/// as many objects are made as the value has, and the copy shares none with anything that was there before. So it is
+/// through a reference to such a slot of any control method that hasn't ended: it is the slot of that one that takes the
+/// copy, also where it is a caller. Nothing else of the world changes (`a_store_changes_its_slot_alone`). Where the value
+/// can't be copied, they are refused as its copy is, and nothing changes. A Store to a local that is refused, one to an
+/// argument that does nothing, and one through a reference to a local of the caller that changes a local of the control
+/// method that runs, are refused by this.
+pub fn slots_take_copies<S>()
+    ensures latest { (before : State S) (last : ℕ) (f : Frame) (slot : Slot) (v : Value) (count : ℕ) →
+        length before.frames ≡ suc last → slice_get before.frames last ≡ Some f → TakesCopies f slot →
         IsCopyable before.objects 64 count v → length before.objects + count ≤ 262144 → (after : State S) ×
-        ((stored (targets.Slot (Argument i)) v before ≡ (Ok store.Done, after)) ×
-        ArgumentTakesCopy before after i last v) }
+        ((stored (targets.Slot slot) v before ≡ (Ok store.Done, after)) ×
+        ((copied_to (targets.Slot slot) v before ≡ (Ok store.Done, after)) ×
+        SlotTakesCopy before after last slot v count)) }
+    ensures referred { (before : State S) (n k : ℕ) (f : Frame) (slot : Slot) (v : Value) (count : ℕ) →
+        frame_index n before.frames ≡ Some k → slice_get before.frames k ≡ Some f → TakesCopies f slot →
+        IsCopyable before.objects 64 count v → length before.objects + count ≤ 262144 → (after : State S) ×
+        ((stored (targets.Refers (reference.Slot slot n)) v before ≡ (Ok store.Done, after)) ×
+        ((copied_to (targets.Refers (reference.Slot slot n)) v before ≡ (Ok store.Done, after)) ×
+        SlotTakesCopy before after k slot v count)) }
+    ensures latest_refused { (w : State S) (last : ℕ) (f : Frame) (slot : Slot) (v : Value) (e : Refusal) →
+        length w.frames ≡ suc last → slice_get w.frames last ≡ Some f → TakesCopies f slot →
+        (copied v w.objects).0 ≡ Err e → (stored (targets.Slot slot) v w ≡ (Err e, w)) ×
+        (copied_to (targets.Slot slot) v w ≡ (Err e, w)) }
+    ensures referred_refused { (w : State S) (n k : ℕ) (f : Frame) (slot : Slot) (v : Value) (e : Refusal) →
+        frame_index n w.frames ≡ Some k → slice_get w.frames k ≡ Some f → TakesCopies f slot →
+        (copied v w.objects).0 ≡ Err e → (stored (targets.Refers (reference.Slot slot n)) v w ≡ (Err e, w)) ×
+        (copied_to (targets.Refers (reference.Slot slot n)) v w ≡ (Err e, w)) }
+{}
+
+/// A Store to an element of a package takes a copy of each value that can be copied, of as many objects as the value
+/// has, which shares none with anything that was there before; nothing else of the world changes. Where the value can't
+/// be copied, it is refused as its copy is, and nothing changes. A Store that does nothing, and one that shares a string,
+/// a buffer or a package, are refused by this.
+pub fn elements_take_copies<S>()
     ensures part { (before : State S) (o i : ℕ) (es : List Element) →
         slice_get before.objects o ≡ Some (object.Package es) → i < length es → (v : Value) (count : ℕ) →
         IsCopyable before.objects 64 count v → length before.objects + count ≤ 262144 → (after : State S) ×
         ((stored (targets.Refers (reference.Element o i)) v before ≡ (Ok store.Done, after)) ×
-        ElementTakesCopy before after o i es v) }
+        ElementTakesCopy before after o i es v count) }
+    ensures refused { (w : State S) (o i : ℕ) (es : List Element) → slice_get w.objects o ≡ Some (object.Package es) →
+        i < length es → (v : Value) (e : Refusal) → (copied v w.objects).0 ≡ Err e →
+        stored (targets.Refers (reference.Element o i)) v w ≡ (Err e, w) }
 {}
 
 /// A Store to an argument of the control method that runs that holds a reference goes to what this refers to, as
