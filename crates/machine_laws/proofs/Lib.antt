@@ -44,5 +44,6 @@ pub mod RunsEvaluate
 pub mod RunsFound
 pub mod TablesInTurn
 pub mod TellingWidened
+pub mod TextsKept
 pub mod SettingsTogether
 pub mod MachinesDeepened

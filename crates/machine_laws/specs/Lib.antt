@@ -12,4 +12,5 @@ pub mod Notes
 pub mod PassedCalls
 pub mod ReportedNotes
 pub mod RoutingEntries
+pub mod TextsKnown
 pub mod Widened

@@ -1,14 +1,20 @@
-//! How the tables of a machine are loaded.
-ghost use Rattle.std.specs.Prelude.{◌≡◌, ◌≤◌, ◌<◌, ℕ, ◌∷◌, List, length, Ok, Err};
+//! How the tables of a machine are loaded, and which texts `_OSI` knows.
+ghost use Rattle.std.specs.Prelude.{◌≡◌, ◌≤◌, ◌<◌, ℕ, ◌∷◌, List, length, true, false, Ok, Err};
 ghost use Rattle.ar_space.specs.Accesses.{Accesses};
 ghost use Rattle.ar_space.specs.declared.refusal.Refusal.TheVariants as refusal;
+ghost use Rattle.ar_space.specs.declared.integer_width.IntegerWidth.{IntegerWidth};
 ghost use Rattle.ar_space.specs.declared.refusal.EvaluationFault.TheVariants.{ObjectLimit};
+ghost use Rattle.ar_space.specs.declared.refusal.MachineFault.TheVariants.{Spent};
 ghost use Rattle.ar_space.specs.Outcome.{Outcome};
 ghost use Rattle.ar_tables.specs.declared.tables.Tables.{Tables};
 ghost use Rattle.aml_meaning.specs.State.{State};
-ghost use Rattle.aml_meaning.specs.Predefined.{predefined};
+ghost use Rattle.aml_meaning.specs.Predefined.{fresh_as, predefined};
+ghost use Rattle.aml_meaning.specs.declared.settings.EvaluationSettings.{EvaluationSettings};
+ghost use Rattle.acpi_machine.specs.Calls.{osi_set};
 ghost use Rattle.acpi_machine.specs.Loading.{all_loaded, loaded_tables};
+ghost use Rattle.acpi_machine.specs.MachineStates.{MachineState};
 ghost use Rattle.machine_laws.specs.LoadedInTurn.{LoadedInTurn};
+ghost use Rattle.machine_laws.specs.TextsKnown.{with_texts};
 
 /// The tables of a machine are loaded one after another, the DSDT first and then each SSDT in the order of the list,
 /// each behind its header of 36 bytes and in the world that the one before it left, where the predefined names stand.
@@ -24,4 +30,21 @@ pub fn tables_are_loaded_in_turn<S>()
         loaded_tables accesses t steps osi w ≡ all_loaded accesses t steps before }
     ensures too_many_texts { (accesses : Accesses S) (t : Tables) (steps : ℕ) (osi : List (List ℕ)) (w : State S) →
         64 < length osi → loaded_tables accesses t steps osi w ≡ (Err (refusal.Evaluation ObjectLimit), w) }
+{}
+
+/// The texts that `_OSI` knows are those that a machine is given: in the world of its tables those with which it is
+/// loaded, and behind `set_osi` those of this call, at most sixty-four, and nothing else changes. More of them are
+/// refused as `ObjectLimit`, and a machine on which memory ran out takes none; nothing changes then. That evaluations
+/// keep them `evaluation_keeps_the_texts_that_osi_knows` of `aml_laws` says. Texts that are forgotten, and a machine
+/// that takes any number of them, are refused by this.
+pub fn osi_knows_the_texts_that_a_machine_is_given<S>()
+    ensures loaded { (accesses : Accesses S) (settings : EvaluationSettings) (width : IntegerWidth)
+        (osi : List (List ℕ)) (space : S) (t : Tables) (steps : ℕ) →
+        (loaded_tables accesses t steps osi (fresh_as settings width osi space)).1.osi ≡ osi }
+    ensures set { (texts : List (List ℕ)) (m : MachineState S) → m.spent ≡ false → length texts ≤ 64 →
+        osi_set texts m ≡ (Ok tt, with_texts texts m) }
+    ensures too_many { (texts : List (List ℕ)) (m : MachineState S) → m.spent ≡ false → 64 < length texts →
+        osi_set texts m ≡ (Err (refusal.Evaluation ObjectLimit), m) }
+    ensures spent { (texts : List (List ℕ)) (m : MachineState S) → m.spent ≡ true →
+        osi_set texts m ≡ (Err (refusal.Machine Spent), m) }
 {}
