@@ -1,12 +1,13 @@
 -- The frame that a call opens, and what the call gives.
-use Rattle.std.specs.Prelude.{◌≡◌, ◌<◌, ◌+◌, ◌-◌, ◌^◌, ◌==◌, ◌++◌, ℕ, zero, suc, List, [], ◌∷◌, length, replicate, Bool, true, false, Option, Some, None, Ok, Err, slice_get, slice_index_or, refl, if◌then◌else◌}
+use Rattle.std.specs.Prelude.{◌≡◌, ◌<◌, ◌+◌, ◌-◌, ◌^◌, ◌==◌, ◌++◌, ℕ, zero, suc, List, [], ◌∷◌, replicate, Bool, true, false, None, Ok, Err, slice_get, slice_index_or, refl, if◌then◌else◌}
 use Rattle.std.proofs.Common.{ap, sym, subst, arith, ◌∙◌}
-use Rattle.std.proofs.lemmas.Option.{get_or_from_slice_get}
+use Rattle.std.specs.Option.{unwrap_or}
+use Rattle.std.proofs.lemmas.Option.{get_or_from_slice_get, unwrap_or-slice_get}
 use Rattle.ar_space.specs.declared.refusal.Refusal.{Refusal}
 use Rattle.ar_space.specs.declared.refusal.Refusal.TheVariants as refusal
 use Rattle.ar_space.specs.declared.refusal.EvaluationFault.TheVariants.{ObjectLimit}
 use Rattle.ar_space.specs.Outcome.{Outcome, seen}
-use Rattle.ar_space.specs.Change.{Change, give, settle, go_on, ◌>>=◌}
+use Rattle.ar_space.specs.Change.{give, settle, go_on, ◌>>=◌}
 use Rattle.aml_path.specs.declared.segment.Seg.{Seg}
 use Rattle.aml_grammar.specs.Tree.{Trees}
 use Rattle.aml_objects.specs.declared.value.Value.{Value}
@@ -22,7 +23,6 @@ use Rattle.aml_meaning.specs.Tasks.{Task, in_turn}
 use Rattle.aml_fields.proofs.UnitWrites.{steps}
 use Rattle.aml_laws.specs.Calls.{body_frame}
 use Rattle.aml_laws.specs.FramesOpened.{IsFrameOpened}
-use Rattle.aml_laws.proofs.FieldsInOrder.{settled}
 
 -- ---- the frame
 
@@ -47,6 +47,10 @@ in_place vs (suc (suc (suc (suc (suc zero))))) less = refl
 in_place vs (suc (suc (suc (suc (suc (suc zero)))))) less = refl
 in_place vs (suc (suc (suc (suc (suc (suc (suc i))))))) less = absurd (omega arith)
 
+-- behind the end of a list there is nothing
+pub none_there : (vs : List Value) (i : ℕ) → slice_get vs i ≡ None → slice_index_or vs i value.Uninitialized ≡ value.Uninitialized
+none_there vs i past = sym (unwrap_or-slice_get vs i value.Uninitialized) ∙ ap (λ o. unwrap_or o value.Uninitialized) past
+
 module _ {S : Type 0} where
   new_frame : State S → List Value → Frame
   new_frame w vs = record { number = w.started; locals = replicate 8 value.Uninitialized; arguments = frame_arguments vs }
@@ -59,6 +63,7 @@ module _ {S : Type 0} where
     next = refl;
     numbered = refl;
     argument = λ i v less at. in_place vs i less ∙ get_or_from_slice_get vs i v value.Uninitialized at;
+    none = λ i less past. in_place vs i less ∙ none_there vs i past;
     local = empty_local;
   }
 

@@ -52,7 +52,7 @@ then_takes m n w h p k first further =
       so_many = omega (arith, sum, is_m, is_n);
     }
 
-absolute_resolved : (p : List Seg) → resolved (absolute p) [] ≡ Ok p
+pub absolute_resolved : (p : List Seg) → resolved (absolute p) [] ≡ Ok p
 unfolding resolved
 absolute_resolved p = refl
 

@@ -153,6 +153,7 @@ pub mod NamesGiven
 pub mod NamesHandedOut
 pub mod NamesInPackages
 pub mod NamesMatched
+pub mod NamesNotFound
 pub mod NamesPredefined
 pub mod NamesSought
 pub mod NamesTyped
@@ -166,6 +167,7 @@ pub mod OperandsStop
 pub mod OperatorLaws
 pub mod OperatorsComputed
 pub mod OsiAsked
+pub mod OsiKept
 pub mod PartsAsked
 pub mod PartsCounted
 pub mod PartsIndexed
@@ -225,6 +227,7 @@ pub mod OperandsTogether
 pub mod OrderedValues
 pub mod OutOfSteps
 pub mod OutsideOfMethods
+pub mod PathsHandedIn
 pub mod PathsTaken
 pub mod PciAddresses
 pub mod PciRegionsLocated

@@ -3,7 +3,6 @@ use Rattle.std.specs.Prelude.{◌≡◌, ◌<◌, ◌==◌, ◌-◌, ◌^◌, �
 use Rattle.std.proofs.Common.{arith, ap, sym, subst, ◌∙◌}
 use Rattle.std.proofs.lemmas.Bool.Decides.{nat_tests}
 use Rattle.std.proofs.lemmas.Option.{get_or_from_slice_get}
-use Rattle.ar_space.specs.declared.refusal.Refusal.{Refusal}
 use Rattle.ar_space.specs.declared.refusal.Refusal.TheVariants as refusal
 use Rattle.ar_space.specs.declared.refusal.EvaluationFault.TheVariants.{ObjectLimit}
 use Rattle.ar_space.specs.Accesses.{Accesses}
@@ -20,7 +19,7 @@ use Rattle.aml_laws.specs.Ends.{EndsAs, at_the_root, TableEnds}
 use Rattle.aml_laws.specs.FramesOpened.{IsFrameOpened}
 use Rattle.aml_laws.specs.Numbers.{numbers_of}
 use Rattle.aml_laws.proofs.FrameNumbers.{numbers_pushed, list_is_balanced}
-use Rattle.aml_laws.proofs.FramesOpened.{empty_local}
+use Rattle.aml_laws.proofs.FramesOpened.{empty_local, none_there}
 use Rattle.aml_laws.proofs.FramesTaken.{latest_is_taken}
 use Rattle.aml_laws.proofs.WorldRelations.{in_new_frame}
 use Rattle.aml_laws.proofs.WorldsReleased.{world_released}
@@ -46,6 +45,7 @@ module _ {S : Type 0} where
     next = refl;
     numbered = refl;
     argument = λ i v less at. get_or_from_slice_get table_slots i v value.Uninitialized at;
+    none = λ i less past. none_there table_slots i past;
     local = empty_local;
   }
 

@@ -1,11 +1,14 @@
--- Data that can be handed in, how many objects are made of it, and how deep packages nest.
-use Rattle.std.specs.Prelude.{◌≡◌, ◌≤◌, ◌+◌, ℕ, zero, suc, List, length, Some, Ok}
+-- Data that can be handed in, how many objects are made of it, how deep packages nest, and data with a path that leads nowhere.
+use Rattle.std.specs.Prelude.{◌≡◌, ◌≤◌, ◌+◌, ℕ, zero, suc, List, [], ◌∷◌, ◌++◌, length, Some, Ok, Err}
 use Rattle.std.specs.FinMap.{get}
+use Rattle.ar_space.specs.declared.refusal.Refusal.{Refusal}
 use Rattle.aml_path.specs.declared.segment.Seg.{Seg}
 use Rattle.aml_objects.specs.declared.entry.Entry.{Entry}
 use Rattle.aml_namespace.specs.Namespace.{Map}
-use Rattle.aml_meaning.specs.Given.{Given, Nothing, Integer, Text, Bytes, Package, Named, Reference, Givens, none, more}
+use Rattle.aml_namespace.specs.Search.{found}
+use Rattle.aml_meaning.specs.Given.{Given, Nothing, Integer, Text, Bytes, Package, Named, Reference, Givens, none, more, givens}
 use Rattle.aml_laws.specs.NamesFound.{LeadsTo}
+use Rattle.aml_laws.specs.NamesWritten.{from_root}
 
 -- packages one inside another: at most so many
 abbrev mutual
@@ -60,3 +63,10 @@ mutual
     no_more : (deep : ℕ) → AllMayBeHandedIn names deep 0 none
     one_more : (deep count rest : ℕ) (g : Given) (gs : Givens) → MayBeHandedIn names deep count g
         → AllMayBeHandedIn names deep rest gs → AllMayBeHandedIn names deep (count + rest) (more g gs)
+
+-- The first part of it that can't be handed in is the path of a name that isn't found, wherever in a package: what stands before it is
+-- within the limits, and so many objects are made of that.
+pub data BeginsWithLost (names : Map) (e : Refusal) : ℕ → ℕ → Given → Type 0 where
+  lost : (deep : ℕ) (path : List Seg) → found names [] (from_root path) ≡ Err e → BeginsWithLost names e deep 0 (Named path)
+  inside : (deep count rest : ℕ) (front others : List Given) (g : Given) → AllMayBeHandedIn names deep count (givens front)
+      → BeginsWithLost names e deep rest g → BeginsWithLost names e (suc deep) (count + rest) (Package (givens (front ++ g ∷ others)))

@@ -31,3 +31,16 @@ pub record StandsAtRoot {S : Type 0} (w : State S) (text : List ℕ) (o : NamedO
   pub stands : get w.names.map (segment ∷ []) ≡ Some entry
   pub is : entry.object ≡ o
   pub takes : arity_at w.arities (segment ∷ []) ≡ Some count
+
+-- what stands at the root itself: a scope
+pub record IsRoot (path : List Seg) (o : NamedObject) : Type 0 where
+  pub here : path ≡ []
+  pub scope : o ≡ named.Scope
+
+-- the path of a predefined name: one segment below the root, which has the characters of that name
+pub record IsPathOfPredefined (path : List Seg) : Type 0 where
+  pub segment : Seg
+  pub is : path ≡ segment ∷ []
+  pub object : NamedObject
+  pub count : ℕ
+  pub predefined : IsPredefined 0 segment.bytes object count

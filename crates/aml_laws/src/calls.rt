@@ -51,8 +51,9 @@ pub fn calls_leave_nothing<S>()
 {}
 
 /// The body of a control method begins in a frame of its own, which has the next number: its arguments are those that
-/// are handed in, in their order, and its eight locals hold nothing. Arguments that are exchanged, and a local that
-/// keeps what an earlier call left in it, are refused by this.
+/// are handed in, in their order, and its eight locals, and those of the seven arguments that aren't handed in, hold
+/// nothing. Arguments that are exchanged, an argument that is 0 where none is handed in, and a local that keeps what an
+/// earlier call left in it, are refused by this.
 pub fn a_call_begins_with_its_arguments<S>()
     ensures { (depth : ℕ) (p : List Seg) (body : List ℕ) (arguments : List Value) (before inside : State S) (n : ℕ) →
         body_frame depth p body arguments before ≡ (Ok n, inside) → IsFrameOpened before arguments n inside }

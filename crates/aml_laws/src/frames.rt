@@ -83,7 +83,9 @@ pub fn a_call_opens_one_frame<S>()
 /// At most 33 frames stand at once. Where a term, a list or a call is evaluated with at most one frame more than
 /// control methods are being called, and these are at most 32, it makes no difference what a term does where more than
 /// 33 frames stand (`other`): none is evaluated there. So it is outside of calls, where at most the frame of a table
-/// stands. A call that leaves its frame open, one that counts as none, and a limit of more calls are refused by this.
+/// stands: in a new world none stands, as `nothing_else_stands_before_any_table` says, and evaluations leave as many as
+/// they found, as `frames_are_balanced` says. A call that leaves its frame open, one that counts as none, and a limit
+/// of more calls are refused by this.
 pub fn at_most_33_frames_stand_at_once<S>()
     ensures terms { (accesses : Accesses S) (other : Task → Run S Flow) (t : Task) (s : State S × ℕ) →
         t.depth ≤ 32 → length s.0.frames ≤ t.depth + 1 →

@@ -1,15 +1,20 @@
 //! Data that is handed in and handed out again.
-ghost use Rattle.std.specs.Prelude.{◌≡◌, ◌≤◌, ◌++◌, ◌+◌, ◌%◌, [], ℕ, List, length, Ok, Err};
+ghost use Rattle.std.specs.Prelude.{◌≡◌, ◌≤◌, ◌++◌, ◌+◌, ◌%◌, [], ℕ, List, length, Some, Ok, Err};
+ghost use Rattle.std.specs.FinMap.{get};
 ghost use Rattle.ar_space.specs.Accesses.{Accesses};
+ghost use Rattle.ar_space.specs.declared.refusal.Refusal.{Refusal};
 ghost use Rattle.ar_space.specs.declared.refusal.Refusal.TheVariants as refusal;
 ghost use Rattle.ar_space.specs.declared.refusal.EvaluationFault.TheVariants.{ArityChanged};
 ghost use Rattle.ar_space.specs.declared.refusal.ValueFault.TheVariants.{WrongType};
 ghost use Rattle.aml_path.specs.declared.segment.Seg.{Seg};
 ghost use Rattle.aml_objects.specs.Objects.{Objects};
+ghost use Rattle.aml_objects.specs.declared.entry.Entry.{Entry};
+ghost use Rattle.aml_objects.specs.declared.value.Reference.TheVariants as reference;
 ghost use Rattle.aml_objects.specs.declared.value.Value.{Value};
+ghost use Rattle.aml_objects.specs.declared.value.Value.TheVariants as value;
 ghost use Rattle.aml_namespace.specs.Numbering.{Numbered};
 ghost use Rattle.aml_namespace.specs.Search.{found};
-ghost use Rattle.aml_meaning.specs.Given.{Given, Reference};
+ghost use Rattle.aml_meaning.specs.Given.{Given, Named, Reference};
 ghost use Rattle.aml_meaning.specs.State.{State};
 ghost use Rattle.aml_meaning.specs.Importing.{imported};
 ghost use Rattle.aml_meaning.specs.Exporting.{exported};
@@ -18,7 +23,8 @@ ghost use Rattle.aml_meaning.specs.Invocations.{method_value};
 ghost use Rattle.aml_meaning.specs.Meaning.{meaning};
 ghost use Rattle.aml_laws.specs.CallTerms.{method_entry, HandedInTurn};
 ghost use Rattle.aml_laws.specs.HandedBack.{ComesBack, elements_of};
-ghost use Rattle.aml_laws.specs.HandedIn.{NestsWithin, HasPaths, MayBeHandedIn};
+ghost use Rattle.aml_laws.specs.HandedIn.{NestsWithin, HasPaths, MayBeHandedIn, BeginsWithLost};
+ghost use Rattle.aml_laws.specs.NamesFound.{LeadsTo};
 ghost use Rattle.aml_laws.specs.NamesWritten.{from_root};
 
 /// What is handed in is handed out as it was, to its last element: integers that fit the width, texts, bytes, packages
@@ -79,4 +85,18 @@ pub fn arguments_are_handed_in_in_their_order<S>()
         found w.names.map [] (from_root p) ≡ Ok (path, method_entry number flags body) →
         (flags % 8 ≡ length gs → ⊥) →
         (answered accesses p gs steps w).0 ≡ Err (refusal.Evaluation ArityChanged) }
+{}
+
+/// The path of a name is handed in as a reference to that name, the path of an alias as one to what the alias leads to,
+/// and nothing changes. The path of a name that isn't found is refused as the search for it is, and so is a package of
+/// whose elements it is the first that can't be handed in, however deep it stands in packages; nothing changes. One
+/// that is handed in as nothing, and the path of an alias that is a reference to the alias, are refused by this.
+pub fn a_path_is_handed_in_as_a_reference_to_what_it_finds<S>()
+    ensures there { (w : State S) (path at : List Seg) (entry other : Entry) → get w.names.map path ≡ Some entry →
+        LeadsTo w.names.map path entry (Ok (at, other)) →
+        imported (Named path) w ≡ (Ok (value.Reference (reference.Name other.number)), w) }
+    ensures nowhere { (w : State S) (path : List Seg) (e : Refusal) → found w.names.map [] (from_root path) ≡ Err e →
+        imported (Named path) w ≡ (Err e, w) }
+    ensures inside { (w : State S) (count : ℕ) (g : Given) (e : Refusal) → BeginsWithLost w.names.map e 64 count g →
+        length w.objects + count ≤ 262144 → imported g w ≡ (Err e, w) }
 {}

@@ -1,6 +1,8 @@
 //! Names, locals and arguments where values stand.
-ghost use Rattle.std.specs.Prelude.{◌≡◌, ℕ, suc, List, Ok};
+ghost use Rattle.std.specs.Prelude.{◌≡◌, [], ℕ, suc, List, Ok, Err};
 ghost use Rattle.ar_space.specs.Accesses.{Accesses};
+ghost use Rattle.ar_space.specs.declared.integer_width.IntegerWidth.{IntegerWidth};
+ghost use Rattle.ar_space.specs.declared.refusal.Refusal.{Refusal};
 ghost use Rattle.ar_space.specs.declared.refusal.Refusal.TheVariants as refusal;
 ghost use Rattle.ar_space.specs.declared.refusal.EvaluationFault.TheVariants.{NoValue};
 ghost use Rattle.ar_space.specs.declared.refusal.ValueFault.TheVariants.{WrongType};
@@ -12,7 +14,15 @@ ghost use Rattle.aml_objects.specs.declared.value.Slot.{Slot};
 ghost use Rattle.aml_objects.specs.declared.value.Value.{Value};
 ghost use Rattle.aml_objects.specs.declared.value.Value.TheVariants as value;
 ghost use Rattle.aml_namespace.specs.Search.{found};
+ghost use Rattle.aml_meaning.specs.declared.settings.EvaluationSettings.{EvaluationSettings};
+ghost use Rattle.aml_meaning.specs.Calling.{called, answered};
+ghost use Rattle.aml_meaning.specs.Given.{Given};
+ghost use Rattle.aml_meaning.specs.Predefined.{fresh_as, predefined};
 ghost use Rattle.aml_meaning.specs.State.{State};
+ghost use Rattle.aml_laws.specs.Becomes.{Becomes};
+ghost use Rattle.aml_laws.specs.CallTerms.{call_of};
+ghost use Rattle.aml_laws.specs.Ends.{EndsAs};
+ghost use Rattle.aml_laws.specs.NamesWritten.{from_root};
 ghost use Rattle.aml_laws.specs.StoredNames.{data_entry};
 ghost use Rattle.aml_laws.specs.OperatorTerms.{alone, NamesSlot, SlotHolds, SlotIsEmpty, GivesValue, Gives, IsRefused};
 ghost use Rattle.aml_laws.specs.TestTerms.{IsTruth};
@@ -35,9 +45,9 @@ pub fn a_name_gives_what_it_holds<S>()
 {}
 
 /// The predefined control method \_OSI, called by any name with a string, is True where the text is one of those that
-/// the machine says it knows, and else False; called with any other value it is refused as one of the wrong type. It
-/// changes nothing. One that knows texts that begin alike, one that answers 1, and one that answers False of what is
-/// no string, are refused by this.
+/// its world knows, and else False; called with any other value it is refused as one of the wrong type. It changes
+/// nothing. Which texts a world knows `evaluation_keeps_the_texts_that_osi_knows` says. One that knows texts that begin
+/// alike, one that answers 1, and one that answers False of what is no string, are refused by this.
 pub fn osi_tells_of_known_texts<S>()
     ensures text { (accesses : Accesses S) (scope : List Seg) (depth : ℕ) (n : Name) (x : Tree) (w : State S)
         (steps : ℕ) (text : List ℕ) (after : State S × ℕ) → AsksOsi accesses scope depth n x (w, steps) text after →
@@ -47,4 +57,28 @@ pub fn osi_tells_of_known_texts<S>()
         (steps : ℕ) (v : Value) (after : State S × ℕ) → AsksOsiOf accesses scope depth n x (w, steps) v after →
         ((o : ℕ) → v ≡ value.String o → ⊥) → IsRefused accesses scope depth
         (call_of_one n x) (w, suc steps) (refusal.Value WrongType) after }
+{}
+
+/// The texts that \_OSI knows are those that its world was made with: no evaluation changes them, however it ends. A
+/// new world that knows none of them is refused by this.
+#[tactic(auto, using(crate::proofs::OsiKept::osi_is_kept, crate::proofs::OsiKept::osi_is_given))]
+pub fn evaluation_keeps_the_texts_that_osi_knows<S>()
+    ensures kept { (accesses : Accesses S) (w v : State S) → Becomes accesses w v → v.osi ≡ w.osi }
+    ensures given { (accesses : Accesses S) (settings : EvaluationSettings) (width : IntegerWidth) (osi : List (List ℕ))
+        (space : S) (w : State S) → Becomes accesses (predefined (fresh_as settings width osi space)).1 w →
+        w.osi ≡ osi }
+{}
+
+/// A name that isn't found is refused where a value stands as the search for it is, with arguments or without, and none
+/// of these is evaluated: it takes its own step and changes nothing. So is the value of an object at a path where none
+/// is found, and its answer, whatever is handed in. One that is refused for its number of arguments is refused by this.
+pub fn a_name_that_is_not_found_is_refused<S>()
+    ensures term { (accesses : Accesses S) (scope : List Seg) (depth : ℕ) (w : State S) (steps : ℕ) (n : Name)
+        (xs : List Tree) (e : Refusal) → found w.names.map scope n ≡ Err e →
+        IsRefused accesses scope depth (call_of n xs) (w, suc steps) e (w, steps) }
+    ensures value { (accesses : Accesses S) (p : List Seg) (vs : List Value) (w : State S) (steps : ℕ) (e : Refusal) →
+        found w.names.map [] (from_root p) ≡ Err e → called accesses p vs (w, steps) ≡ (Err e, (w, steps)) }
+    ensures answer { (accesses : Accesses S) (p : List Seg) (gs : List Given) (w : State S) (steps : ℕ) (e : Refusal) →
+        found w.names.map [] (from_root p) ≡ Err e →
+        EndsAs (Err e, (w, steps)) (answered accesses p gs steps w) }
 {}

@@ -1,6 +1,6 @@
 //! The PCI functions that operation regions of PCI_Config belong to.
 ghost use Rattle.std.specs.Prelude.{◌≡◌, ◌≢◌, ◌≤◌, ◌<◌, ◌+◌, ◌*◌, ◌-◌, ◌%◌, ◌++◌, ◌∷◌};
-ghost use Rattle.std.specs.Prelude.{[], ℕ, List, length, take, Some, None, Ok, Err};
+ghost use Rattle.std.specs.Prelude.{[], ℕ, List, length, take, codes, Some, None, Ok, Err};
 ghost use Rattle.ar_space.specs.declared.refusal.Refusal.TheVariants.{Evaluation, Value};
 ghost use Rattle.ar_space.specs.declared.refusal.Refusal.{Refusal};
 ghost use Rattle.ar_space.specs.declared.refusal.EvaluationFault.TheVariants.{ArityChanged, CallDepth, DepthSetting};
@@ -24,7 +24,7 @@ ghost use Rattle.aml_objects.specs.declared.entry.NamedObject.TheVariants as nam
 ghost use Rattle.aml_objects.specs.declared.entry.OperationRegion.{OperationRegion};
 ghost use Rattle.aml_objects.specs.declared.value.Value.TheVariants.{Integer};
 ghost use Rattle.std.specs.FinMap.{get};
-ghost use Rattle.aml_meaning.specs.PciFunctions.{adr, segment_group, base_bus, nearest, pci_function};
+ghost use Rattle.aml_meaning.specs.PciFunctions.{adr, hid, segment_group, base_bus, nearest, pci_function};
 ghost use Rattle.aml_namespace.specs.Namespace.{Map};
 ghost use Rattle.aml_meaning.specs.Run.{Run};
 ghost use Rattle.aml_meaning.specs.Fields.{bus_behind_all, pci_address, located};
@@ -35,6 +35,17 @@ ghost use Rattle.aml_laws.specs.PciScopes.{IsAskedBridge, IsAmong, GrowFrom};
 ghost use Rattle.aml_laws.specs.PciRegions.{RegionStandsIn, located_at};
 ghost use Rattle.aml_laws.specs.PciAddresses.{BridgeTells, AddressAnswers, PartAnswers, BridgesLead};
 ghost use Rattle.aml_laws.specs.AddressObjects.{HoldsNoValueAt, IsAskedAt, TakesNoArguments, ObjectAnswers};
+
+/// The objects that tell which function a scope belongs to and what its address is have these four names: `_ADR`, the
+/// address of a device, `_HID`, its hardware id, `_SEG`, the segment group, and `_BBN`, the base bus number (ACPI 6.5,
+/// 6.1.1, 6.1.5, 6.5.6 and 6.5.5). The other laws of PCI functions, and those of the bus of a routing table, speak of
+/// the objects of these names. One of another name is refused by this.
+pub fn the_objects_of_a_pci_address_have_four_names()
+    ensures address { adr.bytes ≡ codes "_ADR" }
+    ensures hardware_id { hid.bytes ≡ codes "_HID" }
+    ensures segment_group { segment_group.bytes ≡ codes "_SEG" }
+    ensures base_bus { base_bus.bytes ≡ codes "_BBN" }
+{}
 
 /// A scope belongs to the nearest Device with an `_ADR`, of itself and the scopes above it: that is the PCI function of
 /// a region of PCI_Config there. Where there is none it is refused (DeepPci). So it is in the core profile where a
