@@ -42,9 +42,8 @@ use Rattle.aml_laws.specs.AddressObjects.{ObjectAnswers, of_data, of_field, of_w
 use Rattle.aml_laws.specs.DeclaredObjects.{method_of}
 use Rattle.aml_laws.specs.FieldNames.{IsField, of_unit, of_buffer}
 use Rattle.aml_laws.specs.Histories.{numbered_entry}
-use Rattle.aml_laws.specs.StoredParts.{HoldsNothing}
-use Rattle.aml_laws.specs.StoredParts as nothing
 use Rattle.aml_laws.proofs.LimitsRefused.{call_is_allowed, call_set}
+use Rattle.aml_laws.proofs.NamesGiven.{itself_used}
 use Rattle.aml_laws.proofs.NamesSearched.{one_path_found}
 
 -- ---- values and objects
@@ -110,18 +109,6 @@ used p n (named.BufferField b) = (_, refl)
 used p n (named.Mutex c) = (_, refl)
 used p n (named.Event c) = (_, refl)
 used p n (named.Alias q) = (_, refl)
-
--- what holds no value stands for a reference to itself
-itself_used : (p : List Seg) (n : ℕ) (o : NamedObject) → HoldsNothing o → ((m : Method) → o ≢ named.Method m) → invocation_of_object p n o ≡ Ok (invocation.Value (value.Reference (reference.Name n)))
-itself_used p n _ nothing.scope other = refl
-itself_used p n _ nothing.device other = refl
-itself_used p n _ nothing.processor other = refl
-itself_used p n _ nothing.power_resource other = refl
-itself_used p n _ nothing.thermal_zone other = refl
-itself_used p n _ (nothing.method m) other = absurd (other m refl)
-itself_used p n _ (nothing.region r) other = refl
-itself_used p n _ (nothing.mutex count) other = refl
-itself_used p n _ (nothing.event count) other = refl
 
 differs : (n k : ℕ) (b : Bool) → (n == k) ≡ b → n ≢ k → b ≡ false
 differs n k true is h = absurd (h (eqb-true n k is))

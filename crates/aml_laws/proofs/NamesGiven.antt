@@ -8,10 +8,15 @@ use Rattle.ar_space.specs.Change.{give, settle, go_on, ◌>>=◌}
 use Rattle.aml_path.specs.declared.segment.Seg.{Seg}
 use Rattle.aml_path.specs.Paths.{Name}
 use Rattle.aml_grammar.specs.declared.opcode.Opcode.{Opcode}
+use Rattle.aml_objects.specs.declared.entry.Entry.{Entry}
+use Rattle.aml_objects.specs.declared.entry.NamedObject.{NamedObject}
+use Rattle.aml_objects.specs.declared.value.Reference.TheVariants as reference
 use Rattle.aml_objects.specs.declared.value.Slot.{Slot}
 use Rattle.aml_objects.specs.declared.value.Value.{Value}
+use Rattle.aml_objects.specs.declared.value.Value.TheVariants as value
 use Rattle.aml_namespace.specs.Search.{found}
 use Rattle.aml_meaning.specs.declared.flow.Flow.TheVariants as flow
+use Rattle.aml_meaning.specs.declared.invocation.Invocation.TheVariants as invocation
 use Rattle.aml_meaning.specs.declared.term_kind.TermKind.TheVariants as kinds
 use Rattle.aml_meaning.specs.declared.term_kind.OperatorKind.TheVariants as operators
 use Rattle.aml_meaning.specs.State.{State}
@@ -19,15 +24,19 @@ use Rattle.aml_meaning.specs.Run.{lift}
 use Rattle.aml_meaning.specs.Terms.{kind_of}
 use Rattle.aml_meaning.specs.Tasks.{task}
 use Rattle.aml_meaning.specs.Readings.{read_as, entry_found, arguments_found}
-use Rattle.aml_meaning.specs.Invocations.{named_use, invocation_found}
+use Rattle.aml_meaning.specs.Invocations.{invocation_of_object, named_use, invocation_found}
 use Rattle.aml_meaning.specs.InvocationTerms.{name_value}
 use Rattle.aml_meaning.specs.OperatorTerms.{slot_rule}
 use Rattle.aml_meaning.specs.StoreTargets.{latest_frame, slot_held, own_slot, slot_read}
 use Rattle.aml_meaning.specs.Evaluation.{rule}
 use Rattle.aml_meaning.specs.Meaning.{meaning}
+use Rattle.aml_laws.specs.CallTerms.{IsNoMethod}
 use Rattle.aml_laws.specs.StoredNames.{data_entry}
+use Rattle.aml_laws.specs.StoredParts.{HoldsNothing}
+use Rattle.aml_laws.specs.StoredParts as nothing
 use Rattle.aml_laws.specs.OperatorTerms.{alone, NamesSlot, local0, local1, local2, local3, local4, local5, local6, local7, argument0, argument1, argument2, argument3, argument4, argument5, argument6, SlotHolds, SlotIsEmpty, GivesValue, IsRefused}
 use Rattle.aml_laws.specs.NamesUsed.{use_of, IsGivenBy, an_integer, a_string, a_buffer, a_package, another}
+use Rattle.aml_laws.proofs.ArgumentsInTurn.{takes_none}
 use Rattle.aml_laws.proofs.TreesCost.{term_begins}
 use Rattle.aml_laws.proofs.Counting.{slot_gives}
 
@@ -37,6 +46,18 @@ given_as number _ _ (a_string o) = refl
 given_as number _ _ (a_buffer o) = refl
 given_as number _ _ (a_package o) = refl
 given_as number _ _ (another r) = refl
+
+-- what holds no value stands for a reference to itself
+pub itself_used : (p : List Seg) (n : ℕ) (o : NamedObject) → HoldsNothing o → IsNoMethod o → invocation_of_object p n o ≡ Ok (invocation.Value (value.Reference (reference.Name n)))
+itself_used p n _ nothing.scope other = refl
+itself_used p n _ nothing.device other = refl
+itself_used p n _ nothing.processor other = refl
+itself_used p n _ nothing.power_resource other = refl
+itself_used p n _ nothing.thermal_zone other = refl
+itself_used p n _ (nothing.method m) other = absurd (other m refl)
+itself_used p n _ (nothing.region r) other = refl
+itself_used p n _ (nothing.mutex count) other = refl
+itself_used p n _ (nothing.event count) other = refl
 
 slot_is_term : (op : Opcode) (s : Slot) → NamesSlot op s → kind_of op ≡ kinds.Operator (operators.Slot s)
 slot_is_term _ _ local0 = refl
@@ -62,6 +83,14 @@ module _ {S : Type 0} (accesses : Accesses S) (scope : List Seg) (depth : ℕ) (
 
   pub name_gives : (n : Name) (path : List Seg) (number : ℕ) (v r : Value) → found w.names.map scope n ≡ Ok (path, data_entry number v) → IsGivenBy number v r → GivesValue accesses scope depth (use_of n) (w, suc steps) r (w, steps)
   name_gives n path number v r finds given = (term_begins accesses (task scope depth (use_of n))).paid w steps ∙ named_so n path number v r finds given
+
+  module _ (n : Name) (path : List Seg) (e : Entry) (finds : found w.names.map scope n ≡ Ok (path, e)) (nothing : HoldsNothing e.object) (no_method : IsNoMethod e.object) where
+    itself_so : rule accesses (meaning accesses) (task scope depth (use_of n)) (w, steps) ≡ (Ok (flow.Value (value.Reference (reference.Name e.number))), (w, steps))
+    unfolding rule name_value invocation_found arguments_found entry_found named_use settle lift give go_on ◌>>=◌
+    itself_so = rw (finds, takes_none e.object no_method, finds, itself_used path e.number e.object nothing no_method) refl
+
+    pub itself_is_given : GivesValue accesses scope depth (use_of n) (w, suc steps) (value.Reference (reference.Name e.number)) (w, steps)
+    itself_is_given = (term_begins accesses (task scope depth (use_of n))).paid w steps ∙ itself_so
 
   slot_so : (op : Opcode) (s : Slot) (v : Value) → NamesSlot op s → SlotHolds w s v → rule accesses (meaning accesses) (task scope depth (alone op)) (w, steps) ≡ (Ok (flow.Value v), (w, steps))
   unfolding rule slot_rule lift give go_on ◌>>=◌

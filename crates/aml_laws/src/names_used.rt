@@ -10,6 +10,8 @@ ghost use Rattle.aml_path.specs.declared.segment.Seg.{Seg};
 ghost use Rattle.aml_path.specs.Paths.{Name};
 ghost use Rattle.aml_grammar.specs.Tree.{Tree};
 ghost use Rattle.aml_grammar.specs.declared.opcode.Opcode.{Opcode};
+ghost use Rattle.aml_objects.specs.declared.entry.Entry.{Entry};
+ghost use Rattle.aml_objects.specs.declared.value.Reference.TheVariants as reference;
 ghost use Rattle.aml_objects.specs.declared.value.Slot.{Slot};
 ghost use Rattle.aml_objects.specs.declared.value.Value.{Value};
 ghost use Rattle.aml_objects.specs.declared.value.Value.TheVariants as value;
@@ -20,22 +22,29 @@ ghost use Rattle.aml_meaning.specs.Given.{Given};
 ghost use Rattle.aml_meaning.specs.Predefined.{fresh_as, predefined};
 ghost use Rattle.aml_meaning.specs.State.{State};
 ghost use Rattle.aml_laws.specs.Becomes.{Becomes};
-ghost use Rattle.aml_laws.specs.CallTerms.{call_of};
+ghost use Rattle.aml_laws.specs.CallTerms.{call_of, IsNoMethod};
 ghost use Rattle.aml_laws.specs.Ends.{EndsAs};
 ghost use Rattle.aml_laws.specs.NamesWritten.{from_root};
 ghost use Rattle.aml_laws.specs.StoredNames.{data_entry};
+ghost use Rattle.aml_laws.specs.StoredParts.{HoldsNothing};
 ghost use Rattle.aml_laws.specs.OperatorTerms.{alone, NamesSlot, SlotHolds, SlotIsEmpty, GivesValue, Gives, IsRefused};
 ghost use Rattle.aml_laws.specs.TestTerms.{IsTruth};
 ghost use Rattle.aml_laws.specs.NamesUsed.{use_of, IsGivenBy, call_of_one, IsAmong, AsksOsi, AsksOsiOf};
 
 /// A name that holds an integer, a string, a buffer or a package gives this value where a value stands, and not a
-/// copy of it; one that holds a reference gives a reference to itself. A local and an argument give what they hold,
-/// and are refused as `NoValue` where they hold nothing yet. Each takes a step and changes nothing.
+/// copy of it; one that holds a reference gives a reference to itself, and so does one that holds neither a value nor
+/// the bits of a field and is no control method, as that of a device. A local and an argument give what they hold,
+/// and are refused as `NoValue` where they hold nothing yet. Each takes a step and changes nothing. A device that
+/// stands for a reference to the root is refused by this.
 pub fn a_name_gives_what_it_holds<S>()
     ensures names { (accesses : Accesses S) (scope : List Seg) (depth : ℕ) (w : State S) (steps : ℕ) (n : Name)
         (path : List Seg) (number : ℕ) (v r : Value) →
         found w.names.map scope n ≡ Ok (path, data_entry number v) → IsGivenBy number v r →
         GivesValue accesses scope depth (use_of n) (w, suc steps) r (w, steps) }
+    ensures no_data { (accesses : Accesses S) (scope : List Seg) (depth : ℕ) (w : State S) (steps : ℕ) (n : Name)
+        (path : List Seg) (e : Entry) → found w.names.map scope n ≡ Ok (path, e) → HoldsNothing e.object →
+        IsNoMethod e.object → GivesValue accesses scope depth (use_of n) (w, suc steps)
+        (value.Reference (reference.Name e.number)) (w, steps) }
     ensures slots { (accesses : Accesses S) (scope : List Seg) (depth : ℕ) (w : State S) (steps : ℕ) (op : Opcode)
         (s : Slot) (v : Value) → NamesSlot op s → SlotHolds w s v →
         GivesValue accesses scope depth (alone op) (w, suc steps) v (w, steps) }
