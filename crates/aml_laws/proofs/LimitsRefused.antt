@@ -66,7 +66,7 @@ call_is_allowed depth w less few =
     let allowed : nat_lt depth w.nesting.calls ≡ true = grind (arith, nat_tests) in
     rw (test, allowed) refl
 
-call_deep : {S : Type 0} (depth : ℕ) (w : State S) → 32 ≤ depth → call_allowed depth w ≡ (Err (refusal.Evaluation CallDepth), w)
+pub call_deep : {S : Type 0} (depth : ℕ) (w : State S) → 32 ≤ depth → call_allowed depth w ≡ (Err (refusal.Evaluation CallDepth), w)
 unfolding call_allowed
 call_deep depth w more = let test : nat_lt depth 32 ≡ false = grind (arith, nat_tests) in rw test refl
 

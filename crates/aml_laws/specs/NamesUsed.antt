@@ -47,13 +47,17 @@ pub data IsAmong (text : List ℕ) : List (List ℕ) → Type 0 where
 abbrev pub osi_entry : ℕ → MethodFlags → Entry
 osi_entry number flags = record { number = number; object = named.Method (record { flags = flags; body = Osi }) }
 
--- it is asked of a string by a name, where one more call may be made
-pub record AsksOsi {S : Type 0} (accesses : Accesses S) (scope : List Seg) (depth : ℕ) (n : Name) (x : Tree) (s : State S × ℕ) (text : List ℕ) (after : State S × ℕ) : Type 0 where
+-- a name finds it
+pub record FindsOsi {S : Type 0} (w : State S) (scope : List Seg) (n : Name) : Type 0 where
   pub path : List Seg
   pub number : ℕ
   pub flags : MethodFlags
   pub takes_one : arguments_taken flags ≡ 1
-  pub finds : found s.0.names.map scope n ≡ Ok (path, osi_entry number flags)
+  pub finds : found w.names.map scope n ≡ Ok (path, osi_entry number flags)
+
+-- it is asked of a string by a name, where one more call may be made
+pub record AsksOsi {S : Type 0} (accesses : Accesses S) (scope : List Seg) (depth : ℕ) (n : Name) (x : Tree) (s : State S × ℕ) (text : List ℕ) (after : State S × ℕ) : Type 0 where
+  pub osi : FindsOsi s.0 scope n
   pub o : ℕ
   pub gives : GivesValue accesses scope depth x s (value.String o) after
   pub holds : slice_get after.0.objects o ≡ Some (object.String text)
@@ -62,11 +66,7 @@ pub record AsksOsi {S : Type 0} (accesses : Accesses S) (scope : List Seg) (dept
 
 -- or of any value
 pub record AsksOsiOf {S : Type 0} (accesses : Accesses S) (scope : List Seg) (depth : ℕ) (n : Name) (x : Tree) (s : State S × ℕ) (v : Value) (after : State S × ℕ) : Type 0 where
-  pub path : List Seg
-  pub number : ℕ
-  pub flags : MethodFlags
-  pub takes_one : arguments_taken flags ≡ 1
-  pub finds : found s.0.names.map scope n ≡ Ok (path, osi_entry number flags)
+  pub osi : FindsOsi s.0 scope n
   pub gives : GivesValue accesses scope depth x s v after
   pub below_32 : depth < 32
   pub allowed : depth < after.0.nesting.calls

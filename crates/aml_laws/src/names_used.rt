@@ -1,10 +1,10 @@
 //! Names, locals and arguments where values stand.
-ghost use Rattle.std.specs.Prelude.{◌≡◌, [], ℕ, suc, List, Ok, Err};
+ghost use Rattle.std.specs.Prelude.{◌≡◌, ◌≤◌, ◌<◌, [], ℕ, suc, List, Ok, Err};
 ghost use Rattle.ar_space.specs.Accesses.{Accesses};
 ghost use Rattle.ar_space.specs.declared.integer_width.IntegerWidth.{IntegerWidth};
 ghost use Rattle.ar_space.specs.declared.refusal.Refusal.{Refusal};
 ghost use Rattle.ar_space.specs.declared.refusal.Refusal.TheVariants as refusal;
-ghost use Rattle.ar_space.specs.declared.refusal.EvaluationFault.TheVariants.{NoValue};
+ghost use Rattle.ar_space.specs.declared.refusal.EvaluationFault.TheVariants.{CallDepth, DepthSetting, NoValue};
 ghost use Rattle.ar_space.specs.declared.refusal.ValueFault.TheVariants.{WrongType};
 ghost use Rattle.aml_path.specs.declared.segment.Seg.{Seg};
 ghost use Rattle.aml_path.specs.Paths.{Name};
@@ -27,9 +27,9 @@ ghost use Rattle.aml_laws.specs.Ends.{EndsAs};
 ghost use Rattle.aml_laws.specs.NamesWritten.{from_root};
 ghost use Rattle.aml_laws.specs.StoredNames.{data_entry};
 ghost use Rattle.aml_laws.specs.StoredParts.{HoldsNothing};
-ghost use Rattle.aml_laws.specs.OperatorTerms.{alone, NamesSlot, SlotHolds, SlotIsEmpty, GivesValue, Gives, IsRefused};
+ghost use Rattle.aml_laws.specs.OperatorTerms.{alone, NamesSlot, SlotHolds, SlotIsEmpty, GivesValue, GivesNothing, Gives, IsRefused};
 ghost use Rattle.aml_laws.specs.TestTerms.{IsTruth};
-ghost use Rattle.aml_laws.specs.NamesUsed.{use_of, IsGivenBy, call_of_one, IsAmong, AsksOsi, AsksOsiOf};
+ghost use Rattle.aml_laws.specs.NamesUsed.{use_of, IsGivenBy, call_of_one, IsAmong, FindsOsi, AsksOsi, AsksOsiOf};
 
 /// A name that holds an integer, a string, a buffer or a package gives this value where a value stands, and not a
 /// copy of it; one that holds a reference gives a reference to itself, and so does one that holds neither a value nor
@@ -90,4 +90,27 @@ pub fn a_name_that_is_not_found_is_refused<S>()
     ensures answer { (accesses : Accesses S) (p : List Seg) (gs : List Given) (w : State S) (steps : ℕ) (e : Refusal) →
         found w.names.map [] (from_root p) ≡ Err e →
         EndsAs (Err e, (w, steps)) (answered accesses p gs steps w) }
+{}
+
+/// A call of the predefined control method \_OSI is a call as any other: its argument is evaluated first, and where this
+/// is refused, or gives nothing, the call is refused so, as `NoValue` in the latter case. Then it is refused inside 32
+/// calls of control methods as `CallDepth`, and inside as many as the world allows as `DepthSetting`, whatever its
+/// argument gave. One that answers at any depth, and one that looks at the depth first, are refused by this.
+pub fn osi_is_called_as_control_methods_are<S>()
+    ensures too_deep { (accesses : Accesses S) (scope : List Seg) (depth : ℕ) (n : Name) (x : Tree) (w : State S)
+        (steps : ℕ) (v : Value) (after : State S × ℕ) → FindsOsi w scope n →
+        GivesValue accesses scope depth x (w, steps) v after → 32 ≤ depth → IsRefused accesses scope depth
+        (call_of_one n x) (w, suc steps) (refusal.Evaluation CallDepth) after }
+    ensures setting { (accesses : Accesses S) (scope : List Seg) (depth : ℕ) (n : Name) (x : Tree) (w : State S)
+        (steps : ℕ) (v : Value) (after : State S × ℕ) → FindsOsi w scope n →
+        GivesValue accesses scope depth x (w, steps) v after → depth < 32 → after.0.nesting.calls ≤ depth →
+        IsRefused accesses scope depth (call_of_one n x) (w, suc steps) (refusal.Evaluation DepthSetting) after }
+    ensures refused { (accesses : Accesses S) (scope : List Seg) (depth : ℕ) (n : Name) (x : Tree) (w : State S)
+        (steps : ℕ) (e : Refusal) (after : State S × ℕ) → FindsOsi w scope n →
+        IsRefused accesses scope depth x (w, steps) e after →
+        IsRefused accesses scope depth (call_of_one n x) (w, suc steps) e after }
+    ensures no_value { (accesses : Accesses S) (scope : List Seg) (depth : ℕ) (n : Name) (x : Tree) (w : State S)
+        (steps : ℕ) (after : State S × ℕ) → FindsOsi w scope n →
+        GivesNothing accesses scope depth x (w, steps) after → IsRefused accesses scope depth
+        (call_of_one n x) (w, suc steps) (refusal.Evaluation NoValue) after }
 {}
