@@ -7,6 +7,7 @@ use Rattle.ar_space.specs.declared.refusal.Refusal.TheVariants as refusal
 use Rattle.ar_space.specs.declared.refusal.EvaluationFault.TheVariants.{DeadReference, NoValue}
 use Rattle.ar_space.specs.declared.refusal.ValueFault.TheVariants.{WrongType}
 use Rattle.ar_space.specs.Accesses.{Accesses}
+use Rattle.ar_space.specs.Outcome.{Outcome}
 use Rattle.ar_space.specs.Change.{Change, give, stop, settle, go_on, ◌>>=◌}
 use Rattle.aml_path.specs.declared.segment.Seg.{Seg}
 use Rattle.aml_path.specs.Paths.{Name}
@@ -26,6 +27,7 @@ use Rattle.aml_objects.specs.declared.value.Value.{Value}
 use Rattle.aml_objects.specs.declared.value.Value.TheVariants as value
 use Rattle.aml_convert.specs.Integers.{bits_of, bytes_of}
 use Rattle.aml_namespace.specs.Namespace.{numbered}
+use Rattle.aml_namespace.specs.Search.{found}
 use Rattle.aml_meaning.specs.declared.flow.Flow.TheVariants as flow
 use Rattle.aml_meaning.specs.declared.object_type.Referent.{Referent}
 use Rattle.aml_meaning.specs.declared.object_type.Referent.TheVariants as referent
@@ -47,7 +49,8 @@ use Rattle.aml_laws.specs.JoinedTerms.{with_object, Fits}
 use Rattle.aml_laws.specs.IntegersOfValues.{lowest_first}
 use Rattle.aml_laws.specs.FieldNames.{bits_read_at}
 use Rattle.aml_laws.specs.StoredParts.{HoldsNothing, scope, device, processor, power_resource, thermal_zone, method, region, mutex, event}
-use Rattle.aml_laws.specs.Dereferenced.{Holds, by_name, by_slot, by_element, by_byte_of_string, by_byte_of_buffer, IsEmpty, empty_slot, empty_element, IsDead, name_gone, call_ended, no_element, no_byte, IsReferredTo, holds_reference, holds_nothing, IsNext, by_value, by_found_name, Leads, nowhere, further}
+use Rattle.aml_laws.specs.NamesInPackages.{HoldsName}
+use Rattle.aml_laws.specs.Dereferenced.{Holds, by_name, by_slot, by_element, by_byte_of_string, by_byte_of_buffer, IsEmpty, empty_slot, empty_element, IsDead, name_gone, call_ended, no_element, no_byte, IsReferredTo, holds_reference, holds_nothing, IsNext, by_value, by_found_name, Leads, nowhere, further, EndsUnfound}
 use Rattle.aml_laws.proofs.Counting.{initialized_is}
 use Rattle.aml_laws.proofs.FieldNamesUsed.{number_of_bits, buffer_of_bits}
 use Rattle.aml_laws.proofs.PartsIndexed.{element_read, string_byte_read, buffer_byte_read}
@@ -213,6 +216,10 @@ module _ {S : Type 0} (w : State S) where
     empty_is_followed r (empty_slot slot n k f at stands is) = rw (at, stands, is) refl
     empty_is_followed r (empty_element o i es at is) = rw (at, is) refl
 
+    unfound_is_followed : (o i : ℕ) (n : Name) (home : List Seg) (e : Refusal) → HoldsName w o i n home → found w.names.map home n ≡ Err e → reference_followed follow (reference.Element o i) w ≡ (Err e, w)
+    unfolding held_followed name_followed entry_found on_objects element_at give go_on ◌>>=◌
+    unfound_is_followed o i n home e name lost = rw (name.stands, name.is, lost) refl
+
   abbrev IsNotFollowed : ℕ → Reference → Type 0
   IsNotFollowed k r = followed k r w ≡ (Err (refusal.Evaluation DeadReference), w)
 
@@ -251,17 +258,24 @@ module _ {S : Type 0} (w : State S) where
   unfolding followed
   at_empty k r empty = empty_is_followed (followed k) r empty
 
-  one_on : (k : ℕ) (r q : Reference) (x : Referent) → IsNext w r q → followed k q w ≡ (Ok x, w) → followed (suc k) r w ≡ (Ok x, w)
+  one_on : (k : ℕ) (r q : Reference) (y : Outcome Referent) → IsNext w r q → followed k q w ≡ (y, w) → followed (suc k) r w ≡ (y, w)
   unfolding followed
-  one_on k r q x is comes = next_is_followed (followed k) r q is ∙ comes
+  one_on k r q y is comes = next_is_followed (followed k) r q is ∙ comes
 
-  to_empty : (k n : ℕ) (r q : Reference) → Leads w n r q → IsEmpty w q → n < k → followed k r w ≡ (Ok (referent.Value value.Uninitialized), w)
-  to_empty zero n r q leads empty less = absurd (omega (arith, less))
-  to_empty (suc k) n r q (nowhere p) empty less = at_empty k p empty
-  to_empty (suc k) n r q (further m p s end is leads) empty less = one_on k p s (referent.Value value.Uninitialized) is (to_empty k m s end leads empty (omega (arith, less)))
+  to_end : (k n : ℕ) (r q : Reference) (y : Outcome Referent) → Leads w n r q → ((j : ℕ) → followed (suc j) q w ≡ (y, w)) → n < k → followed k r w ≡ (y, w)
+  to_end zero n r q y leads ends less = absurd (omega (arith, less))
+  to_end (suc k) n r q y (nowhere p) ends less = ends k
+  to_end (suc k) n r q y (further m p s end is leads) ends less = one_on k p s y is (to_end k m s end y leads ends (omega (arith, less)))
 
   pub an_empty_end_is_found : (n : ℕ) (r q : Reference) → Leads w n r q → n < 64 → IsEmpty w q → target_referent (targets.Refers r) w ≡ (Ok (referent.Value value.Uninitialized), w)
-  an_empty_end_is_found n r q leads less empty = to_empty 64 n r q leads empty less
+  an_empty_end_is_found n r q leads less empty = to_end 64 n r q (Ok (referent.Value value.Uninitialized)) leads (λ j. at_empty j q empty) less
+
+  at_unfound : (k o i : ℕ) (n : Name) (home : List Seg) (e : Refusal) → HoldsName w o i n home → found w.names.map home n ≡ Err e → followed (suc k) (reference.Element o i) w ≡ (Err e, w)
+  unfolding followed
+  at_unfound k o i n home e name lost = unfound_is_followed (followed k) o i n home e name lost
+
+  pub an_unfound_end_is_refused : (r : Reference) (e : Refusal) → EndsUnfound w r e → target_referent (targets.Refers r) w ≡ (Err e, w)
+  an_unfound_end_is_refused r e h = to_end 64 h.count r (reference.Element h.o h.i) (Err e) h.leads (λ j. at_unfound j h.o h.i h.name h.home e h.holds h.unfound) h.few
 
   pub too_long_is_refused : (n : ℕ) (r q : Reference) → Leads w n r q → 64 ≤ n → target_referent (targets.Refers r) w ≡ (Err (refusal.Evaluation DeadReference), w)
   too_long_is_refused n r q leads le = too_far 64 n r q leads le

@@ -1,6 +1,6 @@
 -- Terms that act on the target that an operand names, by itself or behind RefOf, DerefOf and Index.
-use Rattle.std.specs.Prelude.{◌≡◌, ◌≢◌, ◌⊎◌, ◌≤◌, ℕ, suc, List, Option, Some, None, Ok, Err, refl}
-use Rattle.std.proofs.Common.{ap, inl, inr, ◌∙◌}
+use Rattle.std.specs.Prelude.{◌≡◌, ◌⊎◌, ℕ, suc, List, Option, Some, None, Ok, Err, refl}
+use Rattle.std.proofs.Common.{inl, inr, ◌∙◌}
 use Rattle.ar_space.specs.Accesses.{Accesses}
 use Rattle.ar_space.specs.Change.{give, settle, go_on, ◌>>=◌}
 use Rattle.ar_space.specs.Outcome.{Outcome}
@@ -25,8 +25,6 @@ use Rattle.aml_meaning.specs.declared.store_target.StoreTarget.{StoreTarget}
 use Rattle.aml_meaning.specs.declared.store_target.Stored.TheVariants as store
 use Rattle.aml_meaning.specs.declared.term_kind.EventChange.{EventChange}
 use Rattle.aml_meaning.specs.declared.term_kind.EventChange.TheVariants as changes
-use Rattle.aml_meaning.specs.declared.term_kind.TermKind.TheVariants as kinds
-use Rattle.aml_meaning.specs.declared.term_kind.WideKind.TheVariants as wide
 use Rattle.aml_meaning.specs.Evaluation.{rule}
 use Rattle.aml_meaning.specs.Events.{name_referred, event_named}
 use Rattle.aml_meaning.specs.FieldCalls.{field_written}
@@ -41,7 +39,6 @@ use Rattle.aml_meaning.specs.StoreTargets.{declaration, name_tested, reference_o
 use Rattle.aml_meaning.specs.Stores.{copied_to}
 use Rattle.aml_meaning.specs.TargetTerms.{target_named, name_target, target_of, target_at}
 use Rattle.aml_meaning.specs.Tasks.{task, operand_value, value_at}
-use Rattle.aml_meaning.specs.Terms.{kind_of}
 use Rattle.aml_meaning.specs.WideTerms.{event_rule, wait_rule}
 use Rattle.aml_laws.specs.FieldNames.{bits_written_at}
 use Rattle.aml_laws.specs.ObjectTerms.{acquire, on_target, on_target_with, Passes, Declared, Undeclared}
@@ -266,3 +263,21 @@ module _ {S : Type 0} (accesses : Accesses S) (scope : List Seg) (depth : ℕ) w
           λ e is. wait_begins accesses scope depth p w steps is_wide x ∙ wait_stops told.0 told.1 x e after (refused_stops accesses scope depth x between e after is),
           λ is. wait_begins accesses scope depth p w steps is_wide x ∙ wait_stops told.0 told.1 x (refusal.Evaluation NoValue) after (nothing_stops accesses scope depth x between after is),
         )
+
+  -- an event that isn't found
+  module _ (p : Part) (w : State S) (steps : ℕ) (e : Refusal) (after : State S × ℕ) (is_wide : w.profile ≡ profiles.Wide) (none : NamesNone accesses scope depth (w, steps) p e after) where
+    no_event : (k : EventChange) (op : Opcode) → event_rule accesses (meaning accesses) k scope depth (on_target op p) (w, steps) ≡ (Err e, after)
+    unfolding event_rule go_on ◌>>=◌
+    no_event k op = rw (none_at (on_target op p) 0 w steps p e after refl none) refl
+
+    no_wait : (x : Tree) → wait_rule accesses (meaning accesses) scope depth (on_target_with opcodes.Wait p x) (w, steps) ≡ (Err e, after)
+    unfolding wait_rule go_on ◌>>=◌
+    no_wait x = rw (none_at (on_target_with opcodes.Wait p x) 0 w steps p e after refl none) refl
+
+    pub no_event_at : (IsRefused accesses scope depth (on_target opcodes.Signal p) (w, suc steps) e after) × (IsRefused accesses scope depth (on_target opcodes.Reset p) (w, suc steps) e after)
+        × ((x : Tree) → IsRefused accesses scope depth (on_target_with opcodes.Wait p x) (w, suc steps) e after)
+    no_event_at = (
+      event_begins accesses scope depth p w steps is_wide changes.Signal opcodes.Signal refl ∙ no_event changes.Signal opcodes.Signal,
+      event_begins accesses scope depth p w steps is_wide changes.Reset opcodes.Reset refl ∙ no_event changes.Reset opcodes.Reset,
+      λ x. wait_begins accesses scope depth p w steps is_wide x ∙ no_wait x,
+    )

@@ -1,5 +1,6 @@
 -- What DerefOf reads, dead references, and references that follow one another (ACPI 6.5, 19.6: DerefOf, Index, RefOf).
-use Rattle.std.specs.Prelude.{◌≡◌, ◌≢◌, ◌⊎◌, ◌≤◌, ℕ, zero, suc, List, length, slice_get, Some, None, Ok}
+use Rattle.std.specs.Prelude.{◌≡◌, ◌≢◌, ◌⊎◌, ◌≤◌, ◌<◌, ℕ, zero, suc, List, length, slice_get, Some, None, Ok, Err}
+use Rattle.ar_space.specs.declared.refusal.Refusal.{Refusal}
 use Rattle.aml_path.specs.declared.segment.Seg.{Seg}
 use Rattle.aml_path.specs.Paths.{Name}
 use Rattle.aml_objects.specs.declared.entry.Entry.{Entry}
@@ -63,3 +64,15 @@ pub data HasNoEnd {S : Type 0} (w : State S) : Reference → Type 0 where
   too_many : (n : ℕ) (r q : Reference) → Leads w n r q → 64 ≤ n → HasNoEnd w r
   dead_end : (n : ℕ) (r q : Reference) → Leads w n r q → IsDead w q → HasNoEnd w r
   a_circle : (n m : ℕ) (r q : Reference) → Leads w n r q → Leads w m q q → m ≢ zero → HasNoEnd w r
+
+-- fewer than 64 references lead to an element of a package that is a name, whose search is refused
+pub record EndsUnfound {S : Type 0} (w : State S) (r : Reference) (e : Refusal) : Type 0 where
+  pub count : ℕ
+  pub o : ℕ
+  pub i : ℕ
+  pub leads : Leads w count r (reference.Element o i)
+  pub few : count < 64
+  pub name : Name
+  pub home : List Seg
+  pub holds : HoldsName w o i name home
+  pub unfound : found w.names.map home name ≡ Err e

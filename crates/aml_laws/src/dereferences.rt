@@ -1,4 +1,4 @@
-//! DerefOf, dead references, and references that come to no end.
+//! DerefOf, dead references, references that come to no end, and those that lead to a name that isn't found.
 ghost use Rattle.std.specs.Prelude.{◌≡◌, ◌≢◌, ◌<◌, ◌≤◌, ◌∷◌, ℕ, suc, List, length, take, Some, Ok, Err};
 ghost use Rattle.ar_space.specs.Accesses.{Accesses};
 ghost use Rattle.ar_space.specs.declared.refusal.Refusal.{Refusal};
@@ -6,7 +6,8 @@ ghost use Rattle.ar_space.specs.declared.refusal.Refusal.TheVariants as refusal;
 ghost use Rattle.ar_space.specs.declared.refusal.EvaluationFault.TheVariants.{DeadReference, NoValue};
 ghost use Rattle.ar_space.specs.declared.refusal.ValueFault.TheVariants.{WrongType};
 ghost use Rattle.aml_path.specs.declared.segment.Seg.{Seg};
-ghost use Rattle.aml_grammar.specs.Tree.{Tree, Part, inner};
+ghost use Rattle.aml_path.specs.Paths.{Name};
+ghost use Rattle.aml_grammar.specs.Tree.{Tree, Part, name, inner};
 ghost use Rattle.aml_grammar.specs.declared.opcode.Opcode.TheVariants as opcodes;
 ghost use Rattle.aml_objects.specs.Fields.{bits_of_field};
 ghost use Rattle.aml_objects.specs.declared.entry.Entry.{Entry};
@@ -18,6 +19,7 @@ ghost use Rattle.aml_objects.specs.declared.value.Value.{Value};
 ghost use Rattle.aml_objects.specs.declared.value.Value.TheVariants as value;
 ghost use Rattle.aml_convert.specs.Integers.{bits_of, bytes_of};
 ghost use Rattle.aml_namespace.specs.Namespace.{numbered};
+ghost use Rattle.aml_namespace.specs.Search.{found};
 ghost use Rattle.aml_meaning.specs.State.{State};
 ghost use Rattle.aml_meaning.specs.StoreTargets.{dereferenced, target_referent};
 ghost use Rattle.aml_meaning.specs.Stores.{stored, copied_to};
@@ -25,7 +27,7 @@ ghost use Rattle.aml_meaning.specs.declared.object_type.Referent.TheVariants as 
 ghost use Rattle.aml_meaning.specs.declared.store_target.Held.TheVariants as held;
 ghost use Rattle.aml_meaning.specs.declared.store_target.StoreTarget.{StoreTarget};
 ghost use Rattle.aml_meaning.specs.declared.store_target.StoreTarget.TheVariants as targets;
-ghost use Rattle.aml_laws.specs.Dereferenced.{Holds, IsEmpty, IsDead, Leads, HasNoEnd};
+ghost use Rattle.aml_laws.specs.Dereferenced.{Holds, IsEmpty, IsDead, Leads, HasNoEnd, EndsUnfound};
 ghost use Rattle.aml_laws.specs.FieldNames.{bits_read_at};
 ghost use Rattle.aml_laws.specs.IntegersOfValues.{lowest_first};
 ghost use Rattle.aml_laws.specs.JoinedTerms.{with_object, Fits};
@@ -119,6 +121,29 @@ pub fn references_without_an_end_are_dead<S>()
         HasNoEnd w r → IsRefused accesses scope depth (size_of p) (w, suc steps) (refusal.Evaluation DeadReference)
         (w, steps) × IsRefused accesses scope depth (object_type p) (w, suc steps) (refusal.Evaluation DeadReference)
         (w, steps) }
+{}
+
+/// SizeOf and ObjectType of a name that isn't found are refused as the search for it is. So they are where fewer than 64
+/// references lead, each to the next, to an element of a package that is a name, and this isn't found from the scope
+/// where the package was made: of a RefOf, a DerefOf or an Index that gives such a reference, and of a local, an argument
+/// or a name that holds one. Nothing changes but what evaluating the operand changes. An ObjectType that is 0 of a name
+/// that isn't found, and one of an element whose name is taken for no value, are refused by this.
+pub fn sizes_and_types_are_refused_as_searches_are<S>()
+    ensures names { (accesses : Accesses S) (scope : List Seg) (depth : ℕ) (w : State S) (steps : ℕ) (n : Name)
+        (e : Refusal) → found w.names.map scope n ≡ Err e →
+        IsRefused accesses scope depth (size_of (name n)) (w, suc steps) e (w, steps) ×
+        IsRefused accesses scope depth (object_type (name n)) (w, suc steps) e (w, steps) }
+    ensures elements { (w : State S) (r : Reference) (e : Refusal) → EndsUnfound w r e →
+        target_referent (targets.Refers r) w ≡ (Err e, w) }
+    ensures terms { (accesses : Accesses S) (scope : List Seg) (depth : ℕ) (u : Tree) (w : State S) (steps : ℕ) →
+        IsReferring u → (r : Reference) (after : State S × ℕ) →
+        GivesValue accesses scope depth u (w, steps) (value.Reference r) after → (e : Refusal) →
+        EndsUnfound after.0 r e → IsRefused accesses scope depth (size_of (inner u)) (w, suc steps) e after ×
+        IsRefused accesses scope depth (object_type (inner u)) (w, suc steps) e after }
+    ensures holders { (accesses : Accesses S) (scope : List Seg) (depth : ℕ) (p : Part) (w : State S) (steps : ℕ)
+        (t : StoreTarget) (r : Reference) → NamesTarget scope w p t → TargetHolds w t (value.Reference r) →
+        (e : Refusal) → EndsUnfound w r e → IsRefused accesses scope depth (size_of p) (w, suc steps) e (w, steps) ×
+        IsRefused accesses scope depth (object_type p) (w, suc steps) e (w, steps) }
 {}
 
 /// A Store and a CopyObject to what a dead reference referred to are refused as it is, and change nothing; so is a

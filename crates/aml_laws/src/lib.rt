@@ -126,6 +126,7 @@ pub use depths::evaluation_keeps_the_depth;
 pub use dereferences::a_dead_reference_takes_nothing;
 pub use dereferences::a_dereference_reads_what_its_operand_refers_to;
 pub use dereferences::references_without_an_end_are_dead;
+pub use dereferences::sizes_and_types_are_refused_as_searches_are;
 pub use ends::a_table_leaves_what_its_terms_left;
 pub use ends::an_answer_leaves_what_its_evaluation_left;
 pub use ends::the_end_of_a_call_takes_its_frame_and_names_away;

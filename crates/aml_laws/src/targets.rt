@@ -130,8 +130,10 @@ pub fn a_copy_goes_to_what_its_target_names<S>()
 /// In the wide profile Signal, Reset and Wait of an argument that holds a reference to a name whose declaration is
 /// gone are refused as a dead reference, also behind a RefOf, and a Wait before it evaluates its timeout (ACPI 6.5,
 /// 19.6: Reset, Signal, Wait). A Wait takes no signal where its timeout is refused, or gives nothing: it is refused
-/// as the timeout is, or as `NoValue`, whether its operand names an event or not. A dead reference that is of another
-/// type, a Wait that evaluates its timeout first, and one that takes its signal all the same, are refused by this.
+/// as the timeout is, or as `NoValue`, whether its operand names an event or not. Where the operand names no target, as
+/// a name that isn't found, all three are refused so, a Wait before it evaluates its timeout. A dead reference that is
+/// of another type, a Wait that evaluates its timeout first, one that takes its signal all the same, and a Signal of a
+/// name that isn't found that passes, are refused by this.
 pub fn a_wait_finds_its_event_and_then_its_timeout<S>()
     ensures gone { (accesses : Accesses S) (scope : List Seg) (depth : ℕ) (p : Part) (t : StoreTarget) (w : State S)
         (steps : ℕ) (between : State S × ℕ) → w.profile ≡ profiles.Wide →
@@ -148,6 +150,12 @@ pub fn a_wait_finds_its_event_and_then_its_timeout<S>()
         IsRefused accesses scope depth (on_target_with opcodes.Wait p x) (w, suc steps) e after) ×
         (GivesNothing accesses scope depth x between after → IsRefused accesses scope depth
         (on_target_with opcodes.Wait p x) (w, suc steps) (refusal.Evaluation NoValue) after) }
+    ensures unnamed { (accesses : Accesses S) (scope : List Seg) (depth : ℕ) (p : Part) (w : State S) (steps : ℕ)
+        (e : Refusal) (after : State S × ℕ) → w.profile ≡ profiles.Wide →
+        NamesNone accesses scope depth (w, steps) p e after → IsRefused accesses scope depth
+        (on_target opcodes.Signal p) (w, suc steps) e after × IsRefused accesses scope depth
+        (on_target opcodes.Reset p) (w, suc steps) e after × ((x : Tree) → IsRefused accesses scope depth
+        (on_target_with opcodes.Wait p x) (w, suc steps) e after) }
 {}
 
 /// SizeOf and ObjectType of a RefOf, a DerefOf or an Index evaluate it, and tell of its value: of the value itself, or
