@@ -239,6 +239,7 @@ pub mod ReadingStepsGiveBytes
 pub mod ReferenceChains
 pub mod ReferencesHandedIn
 pub mod ReferencesRead
+pub mod ReferencesSought
 pub mod ReferencesToNames
 pub mod ReferencesToSlots
 pub mod ReferencesToTargets

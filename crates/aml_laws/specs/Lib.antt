@@ -77,6 +77,7 @@ pub mod PredefinedNames
 pub mod ProfileTerms
 pub mod PutIntoTargets
 pub mod Reached
+pub mod ReferencesOfTargets
 pub mod ReferringTargets
 pub mod ReferringTerms
 pub mod RegionAccesses

@@ -112,11 +112,15 @@ PutsWhatItGives S put t = (accesses : Accesses S) (scope : List Seg) (depth : �
     → (IsTaken accesses scope depth put p v between after → GivesValue accesses scope depth (t p) (w, suc steps) v after)
     × ((e : Refusal) → IsNotTaken accesses scope depth put p v between e after → IsRefused accesses scope depth (t p) (w, suc steps) e after)
 
--- a term gives Ones once its target took a reference, and is refused where it isn't taken
+-- once its operand is evaluated, a term gives Ones where its target takes a reference, and is refused where it doesn't
+abbrev pub PutsReferenceAfter : {S : Type 0} → Accesses S → List Seg → ℕ → Tree → State S × ℕ → State S × ℕ → Part → Reference → Type 0
+PutsReferenceAfter {S} accesses scope depth t s between q r = (end : State S × ℕ)
+    → (IsTaken accesses scope depth stored q (value.Reference r) between end → Gives accesses scope depth t (s.0, suc s.1) (2 ^ bits_of end.0.width - 1) end)
+    × ((e : Refusal) → IsNotTaken accesses scope depth stored q (value.Reference r) between e end → IsRefused accesses scope depth t (s.0, suc s.1) e end)
+
+-- the same of a term whose operand changes nothing
 abbrev pub PutsReference : {S : Type 0} → Accesses S → List Seg → ℕ → Tree → State S × ℕ → Part → Reference → Type 0
-PutsReference {S} accesses scope depth t s q r = (end : State S × ℕ)
-    → (IsTaken accesses scope depth stored q (value.Reference r) s end → Gives accesses scope depth t (s.0, suc s.1) (2 ^ bits_of end.0.width - 1) end)
-    × ((e : Refusal) → IsNotTaken accesses scope depth stored q (value.Reference r) s e end → IsRefused accesses scope depth t (s.0, suc s.1) e end)
+PutsReference accesses scope depth t s q r = PutsReferenceAfter accesses scope depth t s s q r
 
 -- ---- Increment and Decrement
 

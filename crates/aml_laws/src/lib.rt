@@ -248,6 +248,8 @@ pub use reading::terms_of_bytes_hold_bytes;
 pub use references::a_reference_refers_to_its_target;
 pub use references::a_reference_to_a_name_finds_its_declaration;
 pub use references::a_reference_to_a_slot_reads_that_slot;
+pub use references::each_target_but_debug_has_a_reference;
+pub use referring::a_conditional_reference_finds_what_a_term_names;
 pub use referring::a_conditional_reference_tells_what_is_found;
 pub use referring::a_size_counts_bytes_and_elements;
 pub use referring::an_index_is_a_target;

@@ -1,6 +1,9 @@
 //! References: what RefOf gives, and what is read, stored and acquired through it.
-ghost use Rattle.std.specs.Prelude.{◌≡◌, ℕ, List, Ok, Some};
+ghost use Rattle.std.specs.Prelude.{◌≡◌, ℕ, List, length, Ok, Err, Some};
 ghost use Rattle.std.specs.FinMap.{get};
+ghost use Rattle.ar_space.specs.declared.refusal.Refusal.TheVariants as refusal;
+ghost use Rattle.ar_space.specs.declared.refusal.EvaluationFault.TheVariants.{DeadReference};
+ghost use Rattle.ar_space.specs.declared.refusal.ValueFault.TheVariants.{WrongType};
 ghost use Rattle.aml_path.specs.declared.segment.Seg.{Seg};
 ghost use Rattle.aml_objects.specs.declared.entry.Entry.{Entry};
 ghost use Rattle.aml_objects.specs.declared.value.Reference.{Reference};
@@ -17,6 +20,7 @@ ghost use Rattle.aml_meaning.specs.StoreTargets.{declaration, reference_of, dere
 ghost use Rattle.aml_meaning.specs.Stores.{stored, copied_to};
 ghost use Rattle.aml_meaning.specs.Mutexes.{acquired_at, given_back_at};
 ghost use Rattle.aml_laws.specs.Numbers.{numbers_of, RiseTo};
+ghost use Rattle.aml_laws.specs.ReferencesOfTargets.{RefersTo};
 ghost use Rattle.aml_laws.specs.StoredParts.{IsRead};
 
 /// RefOf of a name gives a reference to the declaration that stands at its path, and to no other: the number of that
@@ -49,8 +53,21 @@ pub fn a_reference_to_a_slot_reads_that_slot<S>()
         copied_to (targets.Slot (Local i)) v w }
 {}
 
-/// What RefOf gives refers to just what its operand names: a name, a local, an argument, or what another reference
-/// refers to. What is read through it is what the operand holds, and the term DerefOf gives what is read so
+/// Each target but Debug has a reference, which RefOf gives (`a_reference_is_given_of_what_a_term_names`): that of a name
+/// refers to the declaration that stands at its path, that of a local or an argument to this slot of the control method
+/// that runs, and that of what another reference refers to is this very reference. Debug has none and is refused as
+/// `WrongType`, and so is a local or an argument where no control method runs, as a dead one. Nothing changes. A RefOf of
+/// an Index or of a DerefOf that is refused is refused by this.
+pub fn each_target_but_debug_has_a_reference<S>()
+    ensures given { (w : State S) (t : StoreTarget) (r : Reference) → RefersTo w t r → reference_of t w ≡ (Ok r, w) }
+    ensures debug { (w : State S) → reference_of targets.Nowhere w ≡ (Err (refusal.Value WrongType), w) }
+    ensures no_method { (w : State S) (slot : Slot) → length w.frames ≡ 0 →
+        reference_of (targets.Slot slot) w ≡ (Err (refusal.Evaluation DeadReference), w) }
+{}
+
+/// The reference that a target has (`each_target_but_debug_has_a_reference`) refers to just what its operand names: a
+/// name, a local, an argument, or what another reference refers to. What is read through it is what the operand holds,
+/// and the term DerefOf gives what is read so
 /// (`a_dereference_reads_what_its_operand_refers_to`); a Store to what it refers to is a Store to the operand, and
 /// a mutex is acquired and released through it as by the operand. So it is where the numbers of declarations are
 /// apart and those of frames rise, as they are and do in each world that evaluations make of the predefined names,

@@ -29,8 +29,11 @@ ghost use Rattle.aml_meaning.specs.TargetTerms.{target_of};
 ghost use Rattle.aml_meaning.specs.Meaning.{meaning};
 ghost use Rattle.aml_laws.specs.OperatorTerms.{alone, one_to, two_to, NamesSlot, NamesTarget, StoresTo, SlotHolds, SlotIsEmpty, TargetHolds, GivesValue, Gives, IsRefused};
 ghost use Rattle.aml_laws.specs.IndexTargets.{CountsPart};
-ghost use Rattle.aml_laws.specs.PutIntoTargets.{PutsReference};
+ghost use Rattle.aml_laws.specs.Dereferenced.{IsEmpty};
+ghost use Rattle.aml_laws.specs.PutIntoTargets.{PutsReferenceAfter, PutsReference};
+ghost use Rattle.aml_laws.specs.ReferencesOfTargets.{RefersTo, IsReferable};
 ghost use Rattle.aml_laws.specs.ReferringTerms.{HasParts, HasNoParts, HasPart, Indexes, part_read, size_of, object_type, IsNumbered, IsNamedKind, conditional, IsNumberedLast};
+ghost use Rattle.aml_laws.specs.TargetsNamed.{NamesAt, NamesNone};
 ghost use Rattle.aml_laws.specs.TestTerms.{TwoValues};
 
 /// Index gives a reference to the element of a package, or to the byte of a string or of a buffer, that its second
@@ -167,4 +170,30 @@ pub fn a_conditional_reference_tells_what_is_found<S>()
     ensures empty_slot { (accesses : Accesses S) (scope : List Seg) (depth : ℕ) (w : State S) (steps : ℕ) (q : Part)
         (op : Opcode) (s : Slot) → NamesSlot op s → (h : SlotIsEmpty w s) → IsNumberedLast w h.frame h.last →
         Gives accesses scope depth (conditional (inner (alone op)) q) (w, suc steps) 0 (w, steps) }
+{}
+
+/// CondRefOf of Debug, a local, an argument, a RefOf, a DerefOf or an Index finds what this names first. Where that has a
+/// reference (`each_target_but_debug_has_a_reference`), it puts it into its target and gives Ones; but where the reference
+/// is one to a slot or to an element that holds no value yet, it stores nothing and gives Zero. An element that is a name
+/// holds one, whatever this finds. Debug, itself or behind a RefOf, is refused as `WrongType`, and where no target is
+/// found, CondRefOf is refused so. What the reference refers to isn't read. One that gives Zero of each element, and
+/// one that refers to an element that holds nothing, are refused by this.
+pub fn a_conditional_reference_finds_what_a_term_names<S>()
+    ensures with_value { (accesses : Accesses S) (scope : List Seg) (depth : ℕ) (u : Tree) (w : State S) (steps : ℕ)
+        (q : Part) (t : StoreTarget) (after : State S × ℕ) →
+        NamesAt accesses scope depth (w, steps) (inner u) t after → (r : Reference) → RefersTo after.0 t r →
+        IsReferable after.0 r →
+        PutsReferenceAfter accesses scope depth (conditional (inner u) q) (w, steps) after q r }
+    ensures empty { (accesses : Accesses S) (scope : List Seg) (depth : ℕ) (u : Tree) (w : State S) (steps : ℕ)
+        (q : Part) (t : StoreTarget) (after : State S × ℕ) →
+        NamesAt accesses scope depth (w, steps) (inner u) t after → (r : Reference) → RefersTo after.0 t r →
+        IsEmpty after.0 r → Gives accesses scope depth (conditional (inner u) q) (w, suc steps) 0 after }
+    ensures debug { (accesses : Accesses S) (scope : List Seg) (depth : ℕ) (u : Tree) (w : State S) (steps : ℕ)
+        (q : Part) (after : State S × ℕ) →
+        NamesAt accesses scope depth (w, steps) (inner u) targets.Nowhere after → IsRefused accesses scope depth
+        (conditional (inner u) q) (w, suc steps) (refusal.Value WrongType) after }
+    ensures unnamed { (accesses : Accesses S) (scope : List Seg) (depth : ℕ) (u : Tree) (w : State S) (steps : ℕ)
+        (q : Part) (e : Refusal) (after : State S × ℕ) →
+        NamesNone accesses scope depth (w, steps) (inner u) e after →
+        IsRefused accesses scope depth (conditional (inner u) q) (w, suc steps) e after }
 {}
