@@ -26,7 +26,7 @@ use Rattle.aml_laws.proofs.Preorders.{Preorder, Respects, give_respects, stop_re
 use Rattle.aml_laws.proofs.ObjectKinds.{KeepsObjectKinds, kinds_reflexive, kinds_transitive, kinds_of_front, make_string_keeps_kinds, make_buffer_keeps_kinds, make_package_keeps_kinds, string_at_keeps_kinds, buffer_at_keeps_kinds, elements_at_keeps_kinds}
 use Rattle.aml_laws.proofs.WorldRelations.{Levels, WorldRelationOf, Preserves, RunPreserves, unchanged_preserves, give_preserves, then_preserves, on_objects_preserves, run_give_preserves, run_stop_preserves, lift_preserves, charge_preserves, run_then_preserves}
 use Rattle.aml_laws.proofs.FieldsPreserve.{field_given_preserves}
-use Rattle.aml_laws.proofs.OperandsAndCallsPreserve.{called_at_preserves}
+use Rattle.aml_laws.proofs.OperandsAndCallsPreserve.{called_at_preserves, called_at_asks}
 use Rattle.aml_laws.proofs.RulesPreserve.{meaning_parts_lead}
 
 -- ---- arguments make objects, and change nothing else
@@ -134,7 +134,7 @@ module _ {S : Type 0} {accesses : Accesses S} (levels : Levels accesses) (out : 
   use_exported_preserves : (u : NameUse) → RunPreserves (levels.at 1) (use_exported accesses out u)
   unfolding use_exported
   use_exported_preserves (uses.Value v) = value_exported_preserves v
-  use_exported_preserves (uses.Field u) = field_given_preserves _ (called_at_preserves _ (meaning_parts_lead levels) {level = 1} 1) u
+  use_exported_preserves (uses.Field u) = field_given_preserves _ (called_at_preserves _ (meaning_parts_lead levels) {level = 1} 1) (called_at_asks _ (meaning_parts_lead levels) {level = 1} 1) u
   use_exported_preserves (uses.Path p) = run_give_preserves _
 
   name_exported_preserves : (n : Name) (scope : List Seg) → RunPreserves (levels.at 1) (name_exported accesses out n scope)

@@ -21,6 +21,7 @@ use Rattle.aml_meaning.specs.Passing.{with_passed}
 use Rattle.aml_meaning.specs.State.{State}
 use Rattle.aml_meaning.specs.Tasks.{Task, in_turn}
 use Rattle.aml_laws.proofs.EvaluationsPreserve.{terms_run_preserves, evaluated_preserves, answered_preserves}
+use Rattle.aml_laws.proofs.LocatedRegions.{meant}
 use Rattle.aml_laws.proofs.OperandsAndCallsPreserve.{field_read_preserves, stored_to_preserves, invoked_preserves_from}
 use Rattle.aml_laws.proofs.RulesPreserve.{meaning_parts_lead, meaning_preserves, list_preserves}
 use Rattle.aml_laws.proofs.TablesRead.{table_read, table_not_loaded}
@@ -41,7 +42,8 @@ arities_relation accesses = record {
   slots_written = λ w frames is. refl;
   frame_closed = λ w v vs h. h;
   names_removed = λ u w q at h. h;
-  region_accessed = λ u w region s stands r h. h;
+  told = false;
+  region_accessed = λ u w region space s stands at r h. h;
   bridge_asked = λ u w at width wide asks h. h;
   loads = false;
   arities_set = λ loads w list. never_set list w.arities loads;
@@ -57,7 +59,7 @@ module _ {S : Type 0} (accesses : Accesses S) where
   list_keeps_arities scope depth ts s = (list_preserves {relation = arities_relation accesses} scope depth ts).preserves s
 
   pub call_keeps_arities : (depth : ℕ) (p : List Seg) (body : List ℕ) (arguments : List Value) (s : State S × ℕ) → (invoked (meaning accesses) depth p body arguments s).1.0.arities ≡ s.0.arities
-  call_keeps_arities depth p body arguments s = (invoked_preserves_from {relation = arities_relation accesses} (meaning accesses) meaning_preserves s.0 depth p body arguments (λ v h. h)).preserves_from s refl
+  call_keeps_arities depth p body arguments s = (invoked_preserves_from {relation = arities_relation accesses} (meaning accesses) meaning_preserves (λ told. meant) s.0 depth p body arguments (λ v h. h)).preserves_from s refl
 
   pub field_keeps_arities : (depth : ℕ) (f : Field) (s : State S × ℕ) → (field_read accesses (meaning accesses) depth f s).1.0.arities ≡ s.0.arities
   field_keeps_arities depth f s = (field_read_preserves {levels = always (arities_relation accesses)} (meaning accesses) (meaning_parts_lead (always (arities_relation accesses))) {level = depth} depth f).preserves s

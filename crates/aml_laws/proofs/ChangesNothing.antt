@@ -1,5 +1,5 @@
 -- Making a reference, reading through one and finding a PCI function change nothing.
-use Rattle.std.specs.Prelude.{◌≡◌, List, Ok, Err, refl}
+use Rattle.std.specs.Prelude.{◌≡◌, ℕ, List, Ok, Err, refl}
 use Rattle.std.proofs.Common.{◌∙◌}
 use Rattle.ar_space.specs.Outcome.{Outcome}
 use Rattle.ar_space.specs.Change.{Change, give, stop, settle, go_on, ◌>>=◌}
@@ -15,6 +15,7 @@ use Rattle.aml_meaning.specs.declared.store_target.StoreTarget.TheVariants as ta
 use Rattle.aml_meaning.specs.State.{State, on_objects}
 use Rattle.aml_meaning.specs.PciFunctions.{nearest, behind_asked, pci_function}
 use Rattle.aml_meaning.specs.Readings.{entry_found}
+use Rattle.aml_meaning.specs.Regions.{region_declared}
 use Rattle.aml_meaning.specs.StoreTargets.{latest_frame, frame_found, slot_held, declaration, declared_once, value_once, slot_once, name_once, element_once, held_once, byte_once, dereferenced, frame_number, slot_reference, declared_number, name_reference, reference_of}
 
 module _ {S : Type 0} where
@@ -30,6 +31,10 @@ module _ {S : Type 0} where
   pub pci_function_changes_nothing : (scope : List Seg) (w : State S) → (pci_function scope w).1 ≡ w
   unfolding pci_function nearest behind_asked settle give
   pci_function_changes_nothing scope = then_changes_nothing _ _ (λ w. refl) (λ near. then_changes_nothing _ _ (λ w. refl) (λ q. then_changes_nothing _ _ (λ w. refl) (λ bridge. then_changes_nothing _ _ (λ w. refl) (λ reached w. refl))))
+
+  pub region_declared_changes_nothing : (n : ℕ) (w : State S) → (region_declared n w).1 ≡ w
+  unfolding region_declared declaration settle give
+  region_declared_changes_nothing n = then_changes_nothing _ _ (λ w. refl) (λ e. then_changes_nothing _ _ (λ w. refl) (λ r w. refl))
 
   value_once_changes_nothing : (v : Value) (w : State S) → (value_once v w).1 ≡ w
   unfolding value_once settle give

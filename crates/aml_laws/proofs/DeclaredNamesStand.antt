@@ -53,6 +53,7 @@ use Rattle.aml_laws.proofs.ListsGoOn.{refused_done, rest_of, item_passed, item_p
 use Rattle.aml_laws.proofs.NamesStay.{names_relation}
 use Rattle.aml_laws.proofs.NotesKept.{counted_rises, counts_one, goes_on_reflexive, goes_on_relation}
 use Rattle.aml_laws.proofs.ProfileKept.{profile_relation}
+use Rattle.aml_laws.proofs.LocatedRegions.{meant}
 use Rattle.aml_laws.proofs.OperandsAndCallsPreserve.{after_item_preserves, operand_value_preserves, value_at_preserves, two_values_preserves}
 use Rattle.aml_laws.proofs.RulesPreserve.{meaning_preserves, list_preserves}
 
@@ -146,7 +147,7 @@ module _ {S : Type 0} (accesses : Accesses S) (scope : List Seg) (depth : ℕ) (
 
   name_rule_declares_name : name_of (operand_of t 0) ≡ Ok n → resolved n scope ≡ Ok p → DeclaresName (name_rule (meaning accesses) scope depth t) p
   unfolding name_rule
-  name_rule_declares_name named at = second_declares_name accesses _ _ p (run_settle_preserves _) (λ datum. second_declares_name accesses _ _ p (operand_value_preserves (meaning accesses) meaning_preserves scope depth datum) (λ v. declaring_declares_name _ _ named at))
+  name_rule_declares_name named at = second_declares_name accesses _ _ p (run_settle_preserves _) (λ datum. second_declares_name accesses _ _ p (operand_value_preserves (meaning accesses) meaning_preserves (λ told. meant) scope depth datum) (λ v. declaring_declares_name _ _ named at))
 
   alias_rule_declares_name : name_of (operand_of t 1) ≡ Ok n → resolved n scope ≡ Ok p → DeclaresName (alias_rule (meaning accesses) scope depth t) p
   unfolding alias_rule
@@ -176,13 +177,13 @@ module _ {S : Type 0} (accesses : Accesses S) (scope : List Seg) (depth : ℕ) (
   region_term_rule_declares_name : (k : RegionKind) (i : ℕ) → region_place k ≡ Some i → name_of (operand_of t i) ≡ Ok n → resolved n scope ≡ Ok p → DeclaresName (region_term_rule (meaning accesses) k scope depth t) p
   unfolding region_rule sized_field_rule bits_field_rule
   region_term_rule_declares_name regions.OperationRegion i e named at =
-      second_declares_name accesses _ _ p (run_settle_preserves _) (λ space. second_declares_name accesses _ _ p (value_at_preserves (meaning accesses) meaning_preserves scope depth t 2) (λ offset. second_declares_name accesses _ _ p (value_at_preserves (meaning accesses) meaning_preserves scope depth t 3) (λ size. second_declares_name accesses _ _ p (lift_preserves _ (integer_in_preserves offset)) (λ x. second_declares_name accesses _ _ p (lift_preserves _ (integer_in_preserves size)) (λ y. declaring_declares_name _ _ (named_at_place t n i 0 e named) at)))))
+      second_declares_name accesses _ _ p (run_settle_preserves _) (λ space. second_declares_name accesses _ _ p (value_at_preserves (meaning accesses) meaning_preserves (λ told. meant) scope depth t 2) (λ offset. second_declares_name accesses _ _ p (value_at_preserves (meaning accesses) meaning_preserves (λ told. meant) scope depth t 3) (λ size. second_declares_name accesses _ _ p (lift_preserves _ (integer_in_preserves offset)) (λ x. second_declares_name accesses _ _ p (lift_preserves _ (integer_in_preserves size)) (λ y. declaring_declares_name _ _ (named_at_place t n i 0 e named) at)))))
   region_term_rule_declares_name regions.Field i e named at = absurd (cc e)
   region_term_rule_declares_name regions.IndexField i e named at = absurd (cc e)
   region_term_rule_declares_name (regions.SizedBufferField size) i e named at =
-      second_declares_name accesses _ _ p (two_values_preserves (meaning accesses) meaning_preserves scope depth t) (λ x. second_declares_name accesses _ _ p (run_settle_preserves _) (λ o. second_declares_name accesses _ _ p (lift_preserves _ (integer_in_preserves x.1)) (λ j. second_declares_name accesses _ _ p (lift_preserves _ (on_objects_preserves _ (new_buffer_field_keeps_kinds o _ _))) (λ b. declaring_declares_name _ _ (named_at_place t n i 2 e named) at))))
+      second_declares_name accesses _ _ p (two_values_preserves (meaning accesses) meaning_preserves (λ told. meant) scope depth t) (λ x. second_declares_name accesses _ _ p (run_settle_preserves _) (λ o. second_declares_name accesses _ _ p (lift_preserves _ (integer_in_preserves x.1)) (λ j. second_declares_name accesses _ _ p (lift_preserves _ (on_objects_preserves _ (new_buffer_field_keeps_kinds o _ _))) (λ b. declaring_declares_name _ _ (named_at_place t n i 2 e named) at))))
   region_term_rule_declares_name regions.BufferField i e named at =
-      second_declares_name accesses _ _ p (value_at_preserves (meaning accesses) meaning_preserves scope depth t 0) (λ source. second_declares_name accesses _ _ p (value_at_preserves (meaning accesses) meaning_preserves scope depth t 1) (λ index. second_declares_name accesses _ _ p (value_at_preserves (meaning accesses) meaning_preserves scope depth t 2) (λ count.
+      second_declares_name accesses _ _ p (value_at_preserves (meaning accesses) meaning_preserves (λ told. meant) scope depth t 0) (λ source. second_declares_name accesses _ _ p (value_at_preserves (meaning accesses) meaning_preserves (λ told. meant) scope depth t 1) (λ index. second_declares_name accesses _ _ p (value_at_preserves (meaning accesses) meaning_preserves (λ told. meant) scope depth t 2) (λ count.
       second_declares_name accesses _ _ p (run_settle_preserves _) (λ o. second_declares_name accesses _ _ p (lift_preserves _ (integer_in_preserves index)) (λ j. second_declares_name accesses _ _ p (lift_preserves _ (integer_in_preserves count)) (λ k. second_declares_name accesses _ _ p (run_settle_preserves _) (λ bits.
       second_declares_name accesses _ _ p (lift_preserves _ (on_objects_preserves _ (new_buffer_field_keeps_kinds o j bits))) (λ b. declaring_declares_name _ _ (named_at_place t n i 3 e named) at))))))))
 
@@ -265,7 +266,7 @@ module _ {S : Type 0} (accesses : Accesses S) (scope : List Seg) (depth : ℕ) w
 
   rest_goes_on : (us : Trees) (r : Outcome Flow) (s : State S × ℕ) → GoesOn s.0.passed (go_on r s (rest_of accesses scope depth us)).1.0.passed
   unfolding go_on
-  rest_goes_on us (Ok f) s = (after_item_preserves (meaning accesses) (meaning_preserves {relation = goes_on_relation accesses}) (goes_on f) f _ (list_preserves {relation = goes_on_relation accesses} scope depth us)).preserves s
+  rest_goes_on us (Ok f) s = (after_item_preserves (meaning accesses) (meaning_preserves {relation = goes_on_relation accesses}) (λ told. meant) (goes_on f) f _ (list_preserves {relation = goes_on_relation accesses} scope depth us)).preserves s
   rest_goes_on us (Err e) s = goes_on_reflexive s.0.passed
 
   -- a list of which nothing is passed over
@@ -302,7 +303,7 @@ unfolding ◌>>=◌
 list_ends_with_name accesses scope depth t ts p (first us) d = record {
   ends_with_name = λ s nothing o is.
       let same = list_is_plain accesses scope depth t us s nothing in
-      let h = first_declares_name accesses (meaning accesses (task scope depth t)) _ p (meaning_preserves _) (meaning_declares_name accesses scope depth t p d) (λ f. after_item_preserves (meaning accesses) meaning_preserves (goes_on f) f _ (list_preserves scope depth us)) in
+      let h = first_declares_name accesses (meaning accesses (task scope depth t)) _ p (meaning_preserves _) (meaning_declares_name accesses scope depth t p d) (λ f. after_item_preserves (meaning accesses) meaning_preserves (λ told. meant) (goes_on f) f _ (list_preserves scope depth us)) in
       subst (λ a. Stands a.1.0 p) (sym same) (h.declares_name s flow.Next o (ap (λ a. a.0) (sym same) ∙ is));
 }
 list_ends_with_name accesses scope depth t ts p (later u us i) d = record {

@@ -17,7 +17,7 @@ use Rattle.aml_meaning.specs.Predefined as predefined
 use Rattle.aml_meaning.specs.Calling.{with_steps, in_frame, terms_kept, table_terms, at_root, table_run, loaded, value_of, called, evaluated, invocation_exported, answer_exported, answered}
 use Rattle.aml_laws.specs.Becomes.{Becomes, same, term, list, table, value, answer, passed}
 use Rattle.aml_laws.proofs.FieldsPreserve.{field_given_preserves}
-use Rattle.aml_laws.proofs.OperandsAndCallsPreserve.{called_at_preserves}
+use Rattle.aml_laws.proofs.OperandsAndCallsPreserve.{called_at_preserves, called_at_asks}
 use Rattle.aml_laws.proofs.ObjectKinds.{make_string_keeps_kinds}
 use Rattle.aml_laws.proofs.WorldRelations.{Levels, always, WorldRelation, WorldRelationOf, Preserves, RunPreserves, RunPreservesFrom, CalledMethodStands, settle_preserves, then_preserves, on_objects_preserves, declared_preserves, in_frame_preserves, with_steps_preserves, counted_preserves, ending_preserves, run_give_preserves, lift_preserves, run_then_preserves, found_then_preserves, run_preserves_from, then_preserves_from}
 use Rattle.aml_laws.proofs.ChangesPreserve.{invocation_found_finds_invocation, osi_answered_preserves}
@@ -71,7 +71,7 @@ module _ {S : Type 0} {accesses : Accesses S} (levels : Levels accesses) where
 
   invocation_exported_preserves_from : (u : State S) (i : Invocation) (arguments : List Value) → CalledMethodStands u i → RunPreservesFrom (levels.at 1) u (invocation_exported accesses i arguments)
   invocation_exported_preserves_from u (invocations.Value v) arguments at = then_preserves_from u _ _ (value_of_preserves_from u (invocations.Value v) arguments at) (λ v. run_preserves_from u _ (exported_preserves levels v))
-  invocation_exported_preserves_from u (invocations.Field f) arguments at = run_preserves_from u _ (field_given_preserves _ (called_at_preserves _ (meaning_parts_lead levels) {level = 1} 1) f)
+  invocation_exported_preserves_from u (invocations.Field f) arguments at = run_preserves_from u _ (field_given_preserves _ (called_at_preserves _ (meaning_parts_lead levels) {level = 1} 1) (called_at_asks _ (meaning_parts_lead levels) {level = 1} 1) f)
   invocation_exported_preserves_from u (invocations.Method q body) arguments at = then_preserves_from u _ _ (value_of_preserves_from u (invocations.Method q body) arguments at) (λ v. run_preserves_from u _ (exported_preserves levels v))
   invocation_exported_preserves_from u invocations.Osi arguments at = then_preserves_from u _ _ (value_of_preserves_from u invocations.Osi arguments at) (λ v. run_preserves_from u _ (exported_preserves levels v))
 

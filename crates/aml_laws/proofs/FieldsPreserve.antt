@@ -47,7 +47,7 @@ use Rattle.aml_laws.proofs.Preorders.{either_branch, bits_read_respects, write_u
 use Rattle.aml_laws.proofs.ObjectKinds.{make_buffer_keeps_kinds, read_buffer_field_keeps_kinds, write_buffer_field_keeps_kinds}
 use Rattle.aml_laws.proofs.BridgesAsked.{secondary_bus_leads, MayAsk, function_may_ask}
 use Rattle.aml_laws.proofs.ChangesNothing.{pci_function_changes_nothing}
-use Rattle.aml_laws.proofs.LocatedRegions.{LocatedIn, located_in}
+use Rattle.aml_laws.proofs.LocatedRegions.{LocatedIn, AsksObjects, IsLocated, located_in}
 use Rattle.aml_laws.proofs.RegisterAccesses.{IsRegion, OnlyWithin, read_field_only_within, write_field_only_within, read_unit_only_within, write_whole_only_within}
 use Rattle.aml_laws.proofs.WorldRelations.{WorldRelationOf, Preserves, RunPreserves, RunPreservesFrom, run_preserves_from, then_preserves_from, respects_preserves, preserves_respects, unchanged_preserves, give_preserves, stop_preserves, settle_preserves, then_preserves, on_objects_preserves, run_give_preserves, run_stop_preserves, run_settle_preserves, lift_preserves, run_then_preserves}
 use Rattle.aml_laws.proofs.ChangesPreserve.{entry_found_preserves, new_name_preserves}
@@ -155,7 +155,7 @@ module _ {S : Type 0} {listed : Bool} {accesses : Accesses S} {relation : WorldR
 
 -- ---- field units
 
-module _ {S : Type 0} {listed : Bool} {accesses : Accesses S} {relation : WorldRelationOf listed accesses} (call : List Seg → Run S ℕ) (each : (q : List Seg) → RunPreserves relation (call q)) where
+module _ {S : Type 0} {listed : Bool} {accesses : Accesses S} {relation : WorldRelationOf listed accesses} (call : List Seg → Run S ℕ) (each : (q : List Seg) → RunPreserves relation (call q)) (asks : relation.told ≡ true → AsksObjects accesses call) where
   part_in_preserves : (s : Seg) (o : Option (List Seg)) → RunPreserves relation (part_in accesses call s o)
   part_in_preserves s None = run_give_preserves _
   part_in_preserves s (Some q) = each _
@@ -218,14 +218,17 @@ module _ {S : Type 0} {listed : Bool} {accesses : Accesses S} {relation : WorldR
   unfolding located
   located_preserves n = run_then_preserves _ _ (lift_preserves _ (region_declared_preserves n)) (λ d. run_then_preserves _ _ (space_at_preserves _ d.0) (λ space. run_give_preserves _))
 
+  located_so : (u : State S) (r : Region) (at : LocatedIn accesses call u r) → relation.told ≡ true → IsLocated accesses u at.stands.path r.space
+  located_so u r at told = record { call = call; asks = asks told; answers = at.answers }
+
   -- a region is accessed as it was declared when it was located
-  accessed_by_cases : {A : Type 0} (u : State S) (x : Outcome Region) (s : State S × ℕ) (m : Region → Change S A) → ((d : OperationRegion) (r : Region) → IsRegion d r → OnlyWithin accesses d (m r)) → ((r : Region) → x ≡ Ok r → LocatedIn u r) → relation.Leads u s.0
+  accessed_by_cases : {A : Type 0} (u : State S) (x : Outcome Region) (s : State S × ℕ) (m : Region → Change S A) → ((d : OperationRegion) (r : Region) → IsRegion d r → OnlyWithin accesses d r.space (m r)) → ((r : Region) → x ≡ Ok r → LocatedIn accesses call u r) → relation.Leads u s.0
       → relation.Leads u (go_on x s (λ r. lift (on_space (m r)))).1.0
   unfolding go_on lift on_space
-  accessed_by_cases u (Ok r) s m each_within at h = let d = at r refl in relation.region_accessed u s.0 d.declared _ d.stands ((each_within d.declared r d.is).respects s.0.space) h
+  accessed_by_cases u (Ok r) s m each_within at h = let d = at r refl in relation.region_accessed u s.0 d.declared r.space _ d.stands (located_so u r d) ((each_within d.declared r d.is).respects s.0.space) h
   accessed_by_cases u (Err e) s m each_within at h = h
 
-  located_then_preserves : {A : Type 0} (n : ℕ) (m : Region → Change S A) → ((d : OperationRegion) (r : Region) → IsRegion d r → OnlyWithin accesses d (m r)) → RunPreserves relation (located accesses call n >>= (λ r. lift (on_space (m r))))
+  located_then_preserves : {A : Type 0} (n : ℕ) (m : Region → Change S A) → ((d : OperationRegion) (r : Region) → IsRegion d r → OnlyWithin accesses d r.space (m r)) → RunPreserves relation (located accesses call n >>= (λ r. lift (on_space (m r))))
   unfolding ◌>>=◌
   located_then_preserves n m each_within = record { preserves = λ s. accessed_by_cases s.0 (located accesses call n s).0 (located accesses call n s).1 m each_within (located_in accesses call n s) ((located_preserves n).preserves s) }
 
@@ -254,16 +257,16 @@ module _ {S : Type 0} {listed : Bool} {accesses : Accesses S} {relation : WorldR
   run_from : {A : Type 0} (u : State S) (m : Run S A) → RunPreserves relation m → Respects (from_preorder u) m
   run_from u m h = record { respects = λ s l. (run_preserves_from u m h).preserves_from s l }
 
-  space_from : {A : Type 0} (u : State S) (r : Region) (at : LocatedIn u r) (m : Change S A) → OnlyWithin accesses at.declared m → Respects (from_preorder u) (lift (on_space m))
+  space_from : {A : Type 0} (u : State S) (r : Region) (at : LocatedIn accesses call u r) (m : Change S A) → OnlyWithin accesses at.declared r.space m → Respects (from_preorder u) (lift (on_space m))
   unfolding lift on_space
-  space_from u r at m only = record { respects = λ s l. relation.region_accessed u s.0 at.declared _ at.stands (only.respects s.0.space) l }
+  space_from u r at m only = record { respects = λ s l. relation.region_accessed u s.0 at.declared r.space _ at.stands (located_so u r at) (only.respects s.0.space) l }
 
   located_by_cases : {A : Type 0} (u : State S) (x : Outcome Region) (s : State S × ℕ) (m : Region → Run S A) → ((r : Region) → x ≡ Ok r → Respects (from_preorder u) (m r)) → relation.Leads u s.0 → relation.Leads u (go_on x s m).1.0
   unfolding go_on
   located_by_cases u (Ok r) s m each_from h = (each_from r refl).respects s h
   located_by_cases u (Err e) s m each_from h = h
 
-  located_from : {A : Type 0} (n : ℕ) (m : Region → Run S A) → ((u : State S) (r : Region) → LocatedIn u r → Respects (from_preorder u) (m r)) → RunPreserves relation (located accesses call n >>= m)
+  located_from : {A : Type 0} (n : ℕ) (m : Region → Run S A) → ((u : State S) (r : Region) → LocatedIn accesses call u r → Respects (from_preorder u) (m r)) → RunPreserves relation (located accesses call n >>= m)
   unfolding ◌>>=◌
   located_from n m each_from = record { preserves = λ s. located_by_cases s.0 (located accesses call n s).0 (located accesses call n s).1 m (λ r e. each_from s.0 r (located_in accesses call n s r e)) ((located_preserves n).preserves s) }
 
@@ -271,11 +274,11 @@ module _ {S : Type 0} {listed : Bool} {accesses : Accesses S} {relation : WorldR
   unfolding bank_selected
   bank_selected_preserves bank value = run_then_preserves _ _ (run_settle_preserves _) (λ held. region_written_preserves bank _)
 
-  bank_unit_from : (u : State S) (r : Region) (at : LocatedIn u r) (bank : RegionField) (value : ℕ) (w : Width) (x : Access) → Respects (from_preorder u) (bank_unit accesses call bank value r w x)
+  bank_unit_from : (u : State S) (r : Region) (at : LocatedIn accesses call u r) (bank : RegionField) (value : ℕ) (w : Width) (x : Access) → Respects (from_preorder u) (bank_unit accesses call bank value r w x)
   unfolding bank_unit
   bank_unit_from u r at bank value w x = then_respects _ _ (run_from u _ (bank_selected_preserves bank value)) (λ selected. space_from u r at _ (read_unit_only_within accesses at.declared r at.is w x))
 
-  bank_unit_written_from : (u : State S) (r : Region) (at : LocatedIn u r) (bank : RegionField) (value : ℕ) (f : FieldUnit) (bytes : List ℕ) (x : Access) → Respects (from_preorder u) (bank_unit_written accesses call bank value r f bytes x)
+  bank_unit_written_from : (u : State S) (r : Region) (at : LocatedIn accesses call u r) (bank : RegionField) (value : ℕ) (f : FieldUnit) (bytes : List ℕ) (x : Access) → Respects (from_preorder u) (bank_unit_written accesses call bank value r f bytes x)
   unfolding bank_unit_written
   bank_unit_written_from u r at bank value f bytes x = then_respects _ _ (kept_respects f x _ (bank_unit_from u r at bank value f.access x)) (λ old. then_respects _ _ (run_from u _ (bank_selected_preserves bank value)) (λ selected. space_from u r at _ (write_whole_only_within accesses at.declared r at.is f.access x.offset _)))
 

@@ -150,7 +150,7 @@ module _ {S T : Type 0} {accesses : Accesses S} {accesses2 : Accesses T} {side :
   bus_behind_all_together seg bus [] = give_together _
   bus_behind_all_together seg bus (q ∷ qs) = then_together (bus_behind_together seg bus q) (λ behind. bus_behind_all_together seg behind qs)
 
-  pci_address_together : (scope : List Seg) → Together side runs (pci_address accesses call scope) (pci_address accesses2 call2 scope)
+  pub pci_address_together : (scope : List Seg) → Together side runs (pci_address accesses call scope) (pci_address accesses2 call2 scope)
   unfolding pci_address
   pci_address_together scope = then_together (lift_together (pci_function_together scope)) (λ q. then_together (lift_together (bridges_above_together q)) (λ bridges. then_together (inherited_together _ q) (λ seg. then_together (inherited_together _ q) (λ bus. then_together (bus_behind_all_together seg bus bridges) (λ behind. then_together (each _) (λ address. settle_together _))))))
 

@@ -24,6 +24,7 @@ use Rattle.aml_meaning.specs.Predefined.{fresh_as, predefined}
 use Rattle.aml_laws.specs.Numbers.{numbers_of, RiseTo}
 use Rattle.aml_laws.proofs.WorldRelations.{WorldRelation, in_new_frame}
 use Rattle.aml_laws.proofs.NumbersRise.{next_frame_rises}
+use Rattle.aml_laws.proofs.LocatedRegions.{meant}
 use Rattle.aml_laws.proofs.OperandsAndCallsPreserve.{invoked_preserves_from}
 use Rattle.aml_laws.proofs.RulesPreserve.{meaning_preserves, list_preserves}
 use Rattle.aml_laws.proofs.EvaluationsPreserve.{becomes_preserves, predefined_preserves}
@@ -63,7 +64,8 @@ frame_numbers_relation accesses = record {
   slots_written = λ w frames is. is;
   frame_closed = λ w v vs h. numbers_of_closed v.frames (numbers_of w.frames) w.started (h ∙ numbers_pushed w.frames _);
   names_removed = λ u w q at h. h;
-  region_accessed = λ u w region s stands r h. h;
+  told = false;
+  region_accessed = λ u w region space s stands at r h. h;
   bridge_asked = λ u w at width wide asks h. h;
   loads = true;
   arities_set = λ loads w list. refl;
@@ -76,7 +78,7 @@ frames_are_balanced accesses w v h = becomes_preserves (frame_numbers_relation a
 
 -- after a call too
 pub call_is_balanced : {S : Type 0} (accesses : Accesses S) (depth : ℕ) (p : List Seg) (body : List ℕ) (arguments : List Value) (s : State S × ℕ) → numbers_of (invoked (meaning accesses) depth p body arguments s).1.0.frames ≡ numbers_of s.0.frames
-call_is_balanced accesses depth p body arguments s = (invoked_preserves_from {relation = frame_numbers_relation accesses} (meaning accesses) meaning_preserves s.0 depth p body arguments (λ v h. h)).preserves_from s refl
+call_is_balanced accesses depth p body arguments s = (invoked_preserves_from {relation = frame_numbers_relation accesses} (meaning accesses) meaning_preserves (λ told. meant) s.0 depth p body arguments (λ v h. h)).preserves_from s refl
 
 pub term_is_balanced : {S : Type 0} (accesses : Accesses S) (t : Task) (s : State S × ℕ) → numbers_of (meaning accesses t s).1.0.frames ≡ numbers_of s.0.frames
 term_is_balanced accesses t s = (meaning_preserves {relation = frame_numbers_relation accesses} t).preserves s

@@ -9,6 +9,8 @@
 -- `x_unnoted` (noting the accesses of x changes nothing), `x_respects`, `x_keeps_kinds`, `x_fits`, `x_stands`;
 -- a lemma that goes through the cases for another ends with `_by_cases`.
 pub mod AddressObjects
+pub mod AddressesAnswered
+pub mod AddressesAsMeant
 pub mod AddressesRefused
 pub mod AnswersEnded
 pub mod AnswersTogether

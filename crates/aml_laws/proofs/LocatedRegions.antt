@@ -14,14 +14,19 @@ use Rattle.aml_fields.specs.declared.region.AddressSpace.{AddressSpace}
 use Rattle.aml_fields.specs.declared.region.AddressSpace.TheVariants as spaces
 use Rattle.aml_fields.specs.declared.region.Region.{Region}
 use Rattle.aml_namespace.proofs.Numbering.{numbered_stands}
-use Rattle.aml_namespace.specs.Namespace.{numbered}
+use Rattle.aml_namespace.specs.Namespace.{numbered, above}
+use Rattle.aml_meaning.specs.declared.flow.Flow.{Flow}
 use Rattle.aml_meaning.specs.State.{State}
 use Rattle.aml_meaning.specs.Run.{Run, lift}
 use Rattle.aml_meaning.specs.StoreTargets.{or_gone, declaration}
 use Rattle.aml_meaning.specs.Regions.{space_numbered, region_of_object, region_declared}
 use Rattle.aml_meaning.specs.Fields.{pci_address, space_at, located}
+use Rattle.aml_meaning.specs.FieldCalls.{called_at}
+use Rattle.aml_meaning.specs.Meaning.{evaluated_within, meaning}
+use Rattle.aml_meaning.specs.Tasks.{Task}
 use Rattle.aml_meaning.specs.declared.regions.RegionSpace.TheVariants as kinds
 use Rattle.aml_laws.specs.Histories.{numbered_entry, RegionStands}
+use Rattle.aml_laws.proofs.ChangesNothing.{region_declared_changes_nothing}
 use Rattle.aml_laws.proofs.RegisterAccesses.{number_of_space, pci_space_numbered, IsRegion}
 
 -- ---- what changes one after another give
@@ -64,21 +69,58 @@ region_object : (o : NamedObject) (region : OperationRegion) → region_of_objec
 region_object (object.OperationRegion r) region h = let same : r ≡ region = cc h in ap object.OperationRegion same
 region_object _ region h = absurd (cc h)
 
-region_stands : {S : Type 0} (w : State S) (n : ℕ) (x : List Seg × OperationRegion) → (region_declared n w).0 ≡ Ok x → RegionStands w.names.map x.1
+-- a region stands, and its scope is this one
+record StandsIn {S : Type 0} (w : State S) (scope : List Seg) (region : OperationRegion) : Type 0 where
+  stands : RegionStands w.names.map region
+  scoped : scope ≡ above stands.path
+
+region_stands : {S : Type 0} (w : State S) (n : ℕ) (x : List Seg × OperationRegion) → (region_declared n w).0 ≡ Ok x → StandsIn w x.0 x.1
 unfolding region_declared declaration settle give
 region_stands w n x h =
     let both = gave_both (declaration n) _ w x h in
     let at = numbered_stands w.names.map n both.first (declaration_found (numbered n w.names.map) both.first both.gave) in
     let rest = gave_both (settle (region_of_object both.first.1.object)) _ w x both.then_gave in
     let is = region_object both.first.1.object rest.first rest.gave in
-    let same : rest.first ≡ x.1 = cc rest.then_gave in
-    subst (RegionStands w.names.map) same (record { path = both.first.0; number = both.first.1.number; there = at ∙ ap (λ o. Some (numbered_entry both.first.1.number o)) is })
+    let same : (above both.first.0, rest.first) ≡ x = cc rest.then_gave in
+    record {
+      stands = record {
+        path = both.first.0;
+        number = both.first.1.number;
+        there = at ∙ ap (λ o. Some (numbered_entry both.first.1.number o)) is ∙ ap (λ (y : List Seg × OperationRegion). Some (numbered_entry both.first.1.number (object.OperationRegion y.1))) same;
+      };
+      scoped = sym (ap (λ (y : List Seg × OperationRegion). y.0) same);
+    }
+
+-- how the address space of a region was found, by its path: of PCI_Config its scope was asked
+pub data SpaceAnswers {S : Type 0} (accesses : Accesses S) (call : List Seg → Run S ℕ) (w : State S) (path : List Seg) : AddressSpace → Type 0 where
+  memory : SpaceAnswers accesses call w path spaces.Memory
+  io : SpaceAnswers accesses call w path spaces.Io
+  asked : (space : AddressSpace) (steps : ℕ) → (pci_address accesses call (above path) (w, steps)).0 ≡ Ok space → SpaceAnswers accesses call w path space
 
 -- what was located in a world
-pub record LocatedIn {S : Type 0} (w : State S) (region : Region) : Type 0 where
+pub record LocatedIn {S : Type 0} (accesses : Accesses S) (call : List Seg → Run S ℕ) (w : State S) (region : Region) : Type 0 where
   pub declared : OperationRegion
   pub stands : RegionStands w.names.map declared
   pub is : IsRegion declared region
+  pub answers : SpaceAnswers accesses call w stands.path region.space
+
+-- parts of terms are evaluated as they mean, or so with some number of steps at most
+pub data IsAsMeant {S : Type 0} (accesses : Accesses S) : (Task → Run S Flow) → Type 0 where
+  meant : IsAsMeant accesses (meaning accesses)
+  bounded : (n : ℕ) → IsAsMeant accesses (evaluated_within accesses n)
+
+-- so the objects of an address are asked, inside some number of calls
+pub record AsksObjects {S : Type 0} (accesses : Accesses S) (call : List Seg → Run S ℕ) : Type 0 where
+  pub depth : ℕ
+  pub ev : Task → Run S Flow
+  pub as_meant : IsAsMeant accesses ev
+  pub is : call ≡ called_at accesses ev depth
+
+-- how the address space of a region was found, and how objects were asked then
+pub record IsLocated {S : Type 0} (accesses : Accesses S) (w : State S) (path : List Seg) (space : AddressSpace) : Type 0 where
+  pub call : List Seg → Run S ℕ
+  pub asks : AsksObjects accesses call
+  pub answers : SpaceAnswers accesses call w path space
 
 -- ---- its address space
 
@@ -101,9 +143,22 @@ module _ {S : Type 0} (accesses : Accesses S) (call : List Seg → Run S ℕ) wh
   space_numbered_by_cases n scope false false true is so too = pci_numbered n (sym (eqb-true n 2 too)) scope
   space_numbered_by_cases n scope false false false is so too = record { gives = λ s space e. absurd (cc e) }
 
+  -- ---- how it was found
+
+  abbrev Found : State S → List Seg → AddressSpace → Type 0
+  Found w path space = SpaceAnswers accesses call w path space
+
+  space_answers_by_cases : (s : State S × ℕ) (path : List Seg) (space : AddressSpace) (a b c : Bool) → (space_at accesses call (if a then kinds.SystemMemory else (if b then kinds.SystemIo else (if c then kinds.PciConfig else kinds.Other))) (above path) s).0 ≡ Ok space
+      → Found s.0 path space
+  unfolding give stop
+  space_answers_by_cases s path space true b c e = let same : spaces.Memory ≡ space = cc e in subst (Found s.0 path) same memory
+  space_answers_by_cases s path space false true c e = let same : spaces.Io ≡ space = cc e in subst (Found s.0 path) same io
+  space_answers_by_cases s path space false false true e = asked space s.1 e
+  space_answers_by_cases s path space false false false e = absurd (cc e)
+
   -- ---- both
 
-  pub located_in : (n : ℕ) (s : State S × ℕ) (region : Region) → (located accesses call n s).0 ≡ Ok region → LocatedIn s.0 region
+  pub located_in : (n : ℕ) (s : State S × ℕ) (region : Region) → (located accesses call n s).0 ≡ Ok region → LocatedIn accesses call s.0 region
   unfolding located lift give
   located_in n s region h =
       let both = gave_both (lift (region_declared n)) _ s region h in
@@ -112,4 +167,13 @@ module _ {S : Type 0} (accesses : Accesses S) (call : List Seg → Run S ℕ) wh
       let rest = gave_both (space_at accesses call (space_numbered d.1.space) d.0) _ found region both.then_gave in
       let numbered = (space_numbered_by_cases d.1.space d.0 (d.1.space == 0) (d.1.space == 1) (d.1.space == 2) refl refl refl).gives found rest.first rest.gave in
       let same : record { space = rest.first; offset = d.1.offset; length = d.1.length } ≡ region = cc rest.then_gave in
-      record { declared = d.1; stands = region_stands s.0 n d both.gave; is = subst (IsRegion d.1) same (record { space = numbered; offset = refl; length = refl }) }
+      let at = region_stands s.0 n d both.gave in
+      let scope_asked : (space_at accesses call (space_numbered d.1.space) (above at.stands.path) s).0 ≡ Ok rest.first =
+      ap (λ p. (space_at accesses call (space_numbered d.1.space) p s).0) (sym at.scoped) ∙ ap (λ (w : State S). (space_at accesses call (space_numbered d.1.space) d.0 (w, s.1)).0) (sym (region_declared_changes_nothing n s.0)) ∙ rest.gave in
+      let found_so = space_answers_by_cases s at.stands.path rest.first (d.1.space == 0) (d.1.space == 1) (d.1.space == 2) scope_asked in
+      record {
+        declared = d.1;
+        stands = at.stands;
+        is = subst (IsRegion d.1) same (record { space = numbered; offset = refl; length = refl });
+        answers = subst (λ (r : Region). Found s.0 at.stands.path r.space) same found_so;
+      }

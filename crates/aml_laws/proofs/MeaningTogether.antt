@@ -77,7 +77,7 @@ module _ {S T : Type 0} {accesses : Accesses S} {accesses2 : Accesses T} (side :
   -- ---- in the same profile
 
   module _ (same : (p : Profile) → side.raise.0 p ≡ p) (unpassed : (e : Refusal) → is_passable e ≡ true → side.Ends e → ⊥) (is : side.passes ≡ inl (same, unpassed)) where
-    alike_parts : (ev : Task → Run S Flow) (ev2 : Task → Run T Flow) → ((t : Task) → Together (level side t.depth) runs (ev t) (ev2 t)) → PartsTogether side ev ev2
+    pub alike_parts : (ev : Task → Run S Flow) (ev2 : Task → Run T Flow) → ((t : Task) → Together (level side t.depth) runs (ev t) (ev2 t)) → PartsTogether side ev ev2
     alike_parts ev ev2 h = record { part = h; item_of = items_alike side ev ev2 h same unpassed is }
 
     pub bounded_together : (n m : ℕ) → Fits side n m → (task : Task) → Together (level side task.depth) runs (evaluated_within accesses n task) (evaluated_within accesses2 m task)

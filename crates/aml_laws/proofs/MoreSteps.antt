@@ -34,7 +34,7 @@ out_of_steps : {A : Type 0} (r : Outcome A) → IsEnded Spends r → IsOutOfStep
 out_of_steps (Ok a) h = absurd h
 out_of_steps (Err e) h = ap (λ x. Err x) h
 
-never_passed : (e : Refusal) → is_passable e ≡ true → Spends e → ⊥
+pub never_passed : (e : Refusal) → is_passable e ≡ true → Spends e → ⊥
 never_passed e holds h = absurd (cc (sym holds ∙ ap is_passable h))
 
 unless : {A B : Type 0} → A ⊎ B → (A → ⊥) → B
@@ -49,7 +49,7 @@ more_rest (Ok v) rest k w = refl
 more_rest (Err e) rest k w = refl
 
 module _ {S : Type 0} (accesses : Accesses S) (k : ℕ) where
-  unfoldable lengthening : Sides accesses accesses
+  unfoldable pub lengthening : Sides accesses accesses
   lengthening = record {
     beside = same_space accesses;
     raise = (λ p. p, λ d. d);
@@ -63,7 +63,7 @@ module _ {S : Type 0} (accesses : Accesses S) (k : ℕ) where
     passes = inl (λ p. refl, never_passed);
   }
 
-  one : {X Y A : Type 0} {shape : Shape S S X Y} {m : Change X A} {n : Change Y A} (depth : ℕ) → Together (level lengthening depth) shape m n → Together lengthening shape m n
+  pub one : {X Y A : Type 0} {shape : Shape S S X Y} {m : Change X A} {n : Change Y A} (depth : ℕ) → Together (level lengthening depth) shape m n → Together lengthening shape m n
   unfolding lengthening
   one depth h = in_one_profile lengthening depth (λ p. refl) never_passed refl h
 
@@ -73,7 +73,7 @@ module _ {S : Type 0} (accesses : Accesses S) (k : ℕ) where
   world_comes p q (inr (inl ended)) = inl (out_of_steps p.0 ended)
   world_comes p q (inr (inr (t, same, i))) = inr (same ∙ ap (λ s. (p.0, world_over (λ r. r, λ d. d) p.1 s)) i)
 
-  run_comes : {A : Type 0} (p q : Outcome A × (State S × ℕ)) → Comes lengthening runs p q → IsOutOfSteps p.0 ⊎ (q ≡ with_more_left k p)
+  pub run_comes : {A : Type 0} (p q : Outcome A × (State S × ℕ)) → Comes lengthening runs p q → IsOutOfSteps p.0 ⊎ (q ≡ with_more_left k p)
   unfolding lengthening same_space
   run_comes p q (inl parted) = absurd parted
   run_comes p q (inr (inl ended)) = inl (out_of_steps p.0 ended)

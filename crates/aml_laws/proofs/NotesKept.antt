@@ -111,7 +111,8 @@ module _ {S : Type 0} (accesses : Accesses S) where
     slots_written = λ w frames is. same w.passed;
     frame_closed = λ w v vs h. h;
     names_removed = λ u w q at h. h;
-    region_accessed = λ u w region s stands r h. h;
+    told = false;
+    region_accessed = λ u w region space s stands at r h. h;
     bridge_asked = λ u w at width wide asks h. h;
     loads = true;
     arities_set = λ loads w list. same w.passed;

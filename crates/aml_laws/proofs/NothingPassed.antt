@@ -1,5 +1,5 @@
 -- The core profile passes nothing over.
-use Rattle.std.specs.Prelude.{◌≡◌, true, refl}
+use Rattle.std.specs.Prelude.{◌≡◌, true, false, refl}
 use Rattle.std.proofs.Common.{sym, ◌∙◌}
 use Rattle.ar_space.specs.Accesses.{Accesses}
 use Rattle.aml_meaning.specs.declared.profile.Profile.TheVariants as profiles
@@ -36,7 +36,8 @@ core_relation accesses = record {
   slots_written = λ w frames is. stays_core w _ refl refl;
   frame_closed = λ w v vs h core. record { core = (h core).core; same = (h core).same };
   names_removed = λ u w q at h. then_core u w _ refl refl h;
-  region_accessed = λ u w region s stands r h. then_core u w _ refl refl h;
+  told = false;
+  region_accessed = λ u w region space s stands at r h. then_core u w _ refl refl h;
   bridge_asked = λ u w at width wide asks h. then_core u w _ refl refl h;
   loads = true;
   arities_set = λ loads w list. stays_core w _ refl refl;

@@ -1,5 +1,5 @@
 -- Numbers of declarations and of frames never fall.
-use Rattle.std.specs.Prelude.{◌≤◌, true, refl}
+use Rattle.std.specs.Prelude.{◌≤◌, true, false, refl}
 use Rattle.std.proofs.Common.{arith}
 use Rattle.ar_space.specs.Accesses.{Accesses}
 use Rattle.aml_namespace.specs.Namespace.{without_below, mutexes_released}
@@ -30,7 +30,8 @@ numbers_rise_relation accesses = record {
   slots_written = λ w frames is. record { next = omega arith; started = omega arith };
   frame_closed = λ w v vs h. let a = h.next in let b = h.started in record { next = a; started = omega arith };
   names_removed = λ u w q at h. record { next = h.next; started = h.started };
-  region_accessed = λ u w region s stands r h. record { next = h.next; started = h.started };
+  told = false;
+  region_accessed = λ u w region space s stands at r h. record { next = h.next; started = h.started };
   bridge_asked = λ u w at width wide asks h. record { next = h.next; started = h.started };
   loads = true;
   arities_set = λ loads w list. record { next = omega arith; started = omega arith };

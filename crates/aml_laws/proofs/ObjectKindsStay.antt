@@ -1,5 +1,5 @@
 -- After every evaluation objects have their numbers and their kinds.
-use Rattle.std.specs.Prelude.{true, refl}
+use Rattle.std.specs.Prelude.{true, false, refl}
 use Rattle.ar_space.specs.Accesses.{Accesses}
 use Rattle.aml_meaning.specs.State.{State}
 use Rattle.aml_laws.specs.Becomes.{Becomes}
@@ -19,7 +19,8 @@ object_kinds_relation accesses = record {
   slots_written = λ w frames is. kinds_reflexive w.objects;
   frame_closed = λ w v vs h. h;
   names_removed = λ u w q at h. h;
-  region_accessed = λ u w region s stands r h. h;
+  told = false;
+  region_accessed = λ u w region space s stands at r h. h;
   bridge_asked = λ u w at width wide asks h. h;
   loads = true;
   arities_set = λ loads w list. kinds_reflexive w.objects;

@@ -1,5 +1,6 @@
 -- Operands, lists of terms, calls of control methods and fields preserve every world relation, where the parts of a term do.
-use Rattle.std.specs.Prelude.{ℕ, zero, suc, List, Bool, true, false, refl, if◌then◌else◌}
+use Rattle.std.specs.Prelude.{◌≡◌, ◌≤◌, ◌-◌, ℕ, zero, suc, List, Bool, true, false, refl, if◌then◌else◌}
+use Rattle.std.proofs.Common.{arith, ap}
 use Rattle.ar_space.specs.Accesses.{Accesses}
 use Rattle.ar_space.specs.Change.{give}
 use Rattle.aml_path.specs.declared.segment.Seg.{Seg}
@@ -24,6 +25,7 @@ use Rattle.aml_meaning.specs.FieldCalls.{called_at, asked, method_integer, answe
 use Rattle.aml_laws.proofs.ItemsOfLists.{item_preserves}
 use Rattle.aml_laws.proofs.FieldsPreserve.{field_value_preserves, field_integer_preserves, field_part_preserves, field_referent_preserves, field_stored_preserves}
 use Rattle.aml_laws.proofs.FoundNamesStand.{MethodStandsAt}
+use Rattle.aml_laws.proofs.LocatedRegions.{IsAsMeant, AsksObjects}
 use Rattle.aml_laws.proofs.WorldRelations.{PartsLead, WorldRelation, Levels, always, deeper_preserves, RunPreserves, RunPreservesFrom, CalledMethodStands, MayRemoveBelow, run_give_preserves, run_stop_preserves, run_settle_preserves, lift_preserves, run_then_preserves, found_then_preserves, run_preserves_from, then_preserves_from, body_preserves_from}
 use Rattle.aml_laws.proofs.ChangesPreserve.{invocation_found_finds_invocation, integer_in_preserves, body_terms_preserves, call_allowed_preserves}
 use Rattle.aml_laws.proofs.StoreTargetsPreserve.{stored_preserves}
@@ -70,38 +72,48 @@ module _ {S : Type 0} {accesses : Accesses S} {levels : Levels accesses} (ev : T
   unfolding asked
   asked_preserves answer each q = found_then_preserves _ _ (invocation_found_finds_invocation _ _ _) each
 
-  answer_over_preserves_from : {level : ℕ} (k : ℕ) (call : List Seg → Run S ℕ) → ((q : List Seg) → RunPreserves (levels.at level) (call q)) → (u : State S) (i : Invocation) → CalledMethodStands u i → RunPreservesFrom (levels.at level) u (answer_over accesses ev k call i)
+  answer_over_preserves_from : {level : ℕ} (k : ℕ) (call : List Seg → Run S ℕ) → ((q : List Seg) → RunPreserves (levels.at level) (call q)) → ((levels.at level).told ≡ true → AsksObjects accesses call) → (u : State S) (i : Invocation) → CalledMethodStands u i → RunPreservesFrom (levels.at level) u (answer_over accesses ev k call i)
   unfolding method_integer
-  answer_over_preserves_from k call each u (invocations.Value v) at = run_preserves_from u _ (run_settle_preserves _)
-  answer_over_preserves_from k call each u (invocations.Field f) at = run_preserves_from u _ (field_part_preserves call each f)
-  answer_over_preserves_from k call each u (invocations.Method q body) at = then_preserves_from u _ _ (method_value_preserves_from u _ q body _ (at q body refl)) (λ v. run_preserves_from u _ (run_settle_preserves _))
-  answer_over_preserves_from k call each u invocations.Osi at = run_preserves_from u _ (run_stop_preserves _)
+  answer_over_preserves_from k call each asks u (invocations.Value v) at = run_preserves_from u _ (run_settle_preserves _)
+  answer_over_preserves_from k call each asks u (invocations.Field f) at = run_preserves_from u _ (field_part_preserves call each asks f)
+  answer_over_preserves_from k call each asks u (invocations.Method q body) at = then_preserves_from u _ _ (method_value_preserves_from u _ q body _ (at q body refl)) (λ v. run_preserves_from u _ (run_settle_preserves _))
+  answer_over_preserves_from k call each asks u invocations.Osi at = run_preserves_from u _ (run_stop_preserves _)
 
-  answer_within_preserves_from : {level : ℕ} (k : ℕ) (u : State S) (i : Invocation) → CalledMethodStands u i → RunPreservesFrom (levels.at level) u (answer_within accesses ev k i)
+  -- so many calls may still be made inside some
+  asks_within : {level : ℕ} (k : ℕ) → k ≤ 32 → (levels.at level).told ≡ true → AsksObjects accesses (asked (answer_within accesses ev k))
+  asks_within {level = level} k few told =
+      let left : k ≡ 32 - (32 - k) = omega (arith, few) in
+      record { depth = 32 - k; ev = ev; as_meant = parts.as_meant level told; is = ap (λ j. asked (answer_within accesses ev j)) left }
+
+  answer_within_preserves_from : {level : ℕ} (k : ℕ) → k ≤ 32 → (u : State S) (i : Invocation) → CalledMethodStands u i → RunPreservesFrom (levels.at level) u (answer_within accesses ev k i)
   unfolding answer_within
-  answer_within_preserves_from zero u i at = run_preserves_from u _ (run_stop_preserves _)
-  answer_within_preserves_from (suc k) u i at =
-      then_preserves_from u _ _ (run_preserves_from u _ (lift_preserves _ (call_allowed_preserves _))) (λ few. answer_over_preserves_from k _ (asked_preserves _ (answer_within_preserves_from k)) u i at)
+  answer_within_preserves_from zero few u i at = run_preserves_from u _ (run_stop_preserves _)
+  answer_within_preserves_from {level = level} (suc k) few u i at =
+      let fewer : k ≤ 32 = omega (arith, few) in
+      then_preserves_from u _ _ (run_preserves_from u _ (lift_preserves _ (call_allowed_preserves _))) (λ allowed. answer_over_preserves_from k _ (asked_preserves _ (answer_within_preserves_from k fewer)) (asks_within {level = level} k fewer) u i at)
 
   pub called_at_preserves : {level : ℕ} (depth : ℕ) (q : List Seg) → RunPreserves (levels.at level) (called_at accesses ev depth q)
-  called_at_preserves depth q = asked_preserves _ (answer_within_preserves_from _) q
+  called_at_preserves depth q = asked_preserves _ (answer_within_preserves_from (32 - depth) (omega arith)) q
+
+  pub called_at_asks : {level : ℕ} (depth : ℕ) → (levels.at level).told ≡ true → AsksObjects accesses (called_at accesses ev depth)
+  called_at_asks {level = level} depth told = record { depth = depth; ev = ev; as_meant = parts.as_meant level told; is = refl }
 
   pub field_read_preserves : {level : ℕ} (depth : ℕ) (u : Field) → RunPreserves (levels.at level) (field_read accesses ev depth u)
-  field_read_preserves depth u = field_value_preserves _ (called_at_preserves depth) u
+  field_read_preserves depth u = field_value_preserves _ (called_at_preserves depth) (called_at_asks depth) u
 
   pub held_integer_preserves : {level : ℕ} (depth : ℕ) (h : Held) → RunPreserves (levels.at level) (held_integer accesses ev depth h)
   held_integer_preserves depth (held.Value v) = lift_preserves _ (integer_in_preserves v)
-  held_integer_preserves depth (held.Field u) = field_integer_preserves _ (called_at_preserves depth) u
+  held_integer_preserves depth (held.Field u) = field_integer_preserves _ (called_at_preserves depth) (called_at_asks depth) u
 
   pub referent_read_preserves : {level : ℕ} (depth : ℕ) (r : Referent) → RunPreserves (levels.at level) (referent_read accesses ev depth r)
   referent_read_preserves depth (referent.Value v) = run_give_preserves _
   referent_read_preserves depth (referent.Object t) = run_give_preserves _
-  referent_read_preserves depth (referent.Field u) = field_referent_preserves _ (called_at_preserves depth) u
+  referent_read_preserves depth (referent.Field u) = field_referent_preserves _ (called_at_preserves depth) (called_at_asks depth) u
   referent_read_preserves depth (referent.Bytes n) = run_give_preserves _
 
   pub completed_preserves : {level : ℕ} (depth : ℕ) (s : Stored) (v : Value) → RunPreserves (levels.at level) (completed accesses ev depth s v)
   completed_preserves depth store.Done v = run_give_preserves _
-  completed_preserves depth (store.Field u) v = field_stored_preserves _ (called_at_preserves depth) u v
+  completed_preserves depth (store.Field u) v = field_stored_preserves _ (called_at_preserves depth) (called_at_asks depth) u v
 
   pub stored_to_preserves : {level : ℕ} (depth : ℕ) (q : StoreTarget) (v : Value) → RunPreserves (levels.at level) (stored_to accesses ev depth q v)
   unfolding stored_to
@@ -114,16 +126,16 @@ module _ {S : Type 0} {accesses : Accesses S} {levels : Levels accesses} (ev : T
   back_to_preserves : {level : ℕ} (b : Bool) (depth : ℕ) (h : Held) (q : StoreTarget) (v : Value) → RunPreserves (levels.at level) (back_to accesses ev b depth h q v)
   back_to_preserves true depth h q v = stored_to_preserves depth q v
   back_to_preserves false depth (held.Value old) q v = stored_to_preserves depth q v
-  back_to_preserves false depth (held.Field u) q v = field_stored_preserves _ (called_at_preserves depth) u v
+  back_to_preserves false depth (held.Field u) q v = field_stored_preserves _ (called_at_preserves depth) (called_at_asks depth) u v
 
   pub stored_back_preserves : {level : ℕ} (depth : ℕ) (h : Held) (q : StoreTarget) (v : Value) → RunPreserves (levels.at level) (stored_back accesses ev depth h q v)
   stored_back_preserves depth h q v = back_to_preserves (is_element q) depth h q v
 
 -- ---- the same at all depths
 
-module _ {S : Type 0} {accesses : Accesses S} {relation : WorldRelation accesses} (ev : Task → Run S Flow) (parts : (t : Task) → RunPreserves relation (ev t)) where
+module _ {S : Type 0} {accesses : Accesses S} {relation : WorldRelation accesses} (ev : Task → Run S Flow) (parts : (t : Task) → RunPreserves relation (ev t)) (as_meant : relation.told ≡ true → IsAsMeant accesses ev) where
   pub at_all_depths : PartsLead (always relation) ev
-  at_all_depths = record { part = λ t. record { preserves = (parts t).preserves } }
+  at_all_depths = record { part = λ t. record { preserves = (parts t).preserves }; as_meant = λ level told. as_meant told }
 
   pub operand_value_preserves : (scope : List Seg) (depth : ℕ) (t : Tree) → RunPreserves relation (operand_value ev scope depth t)
   operand_value_preserves scope depth t = record { preserves = (operand_value_leads {levels = always relation} ev at_all_depths scope depth t).preserves }

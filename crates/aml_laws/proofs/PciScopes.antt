@@ -60,10 +60,10 @@ module _ (names : Map) where
   pub in_scope : (p : List Seg) (s : Seg) → has names p s ≡ true → StandsIn names s p
   in_scope p s h = let e = some_found (get names (p ++ s ∷ [])) h in record { entry = e.0; stands = e.1 }
 
-  function_tested : (p : List Seg) → IsFunctionAt names p → is_function names p ≡ true
+  pub function_tested : (p : List Seg) → IsFunctionAt names p → is_function names p ≡ true
   function_tested p is = ap (λ o. is_device o && has names p adr) is.stands ∙ ap (λ o. is_device_object o && has names p adr) is.device ∙ has_it p adr is.address
 
-  function_is : (p : List Seg) → is_function names p ≡ true → IsFunctionAt names p
+  pub function_is : (p : List Seg) → is_function names p ≡ true → IsFunctionAt names p
   function_is p h =
       let parts = both_hold (is_device (get names p)) (has names p adr) h in
       let d = device_found (get names p) parts.0 in

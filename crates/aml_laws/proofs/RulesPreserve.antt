@@ -1,5 +1,5 @@
 -- The rule of each term preserves every world relation, where its parts do; so every evaluation does.
-use Rattle.std.specs.Prelude.{ℕ, zero, suc, List, Bool, true, false, Option, Some, None, refl}
+use Rattle.std.specs.Prelude.{◌≡◌, ℕ, zero, suc, List, Bool, true, false, Option, Some, None, refl}
 use Rattle.ar_space.specs.Accesses.{Accesses}
 use Rattle.aml_path.specs.declared.segment.Seg.{Seg}
 use Rattle.aml_grammar.specs.declared.opcode.Opcode.{Opcode}
@@ -50,6 +50,7 @@ use Rattle.aml_meaning.specs.Evaluation.{kind_rule, code_rule, rule}
 use Rattle.aml_meaning.specs.Meaning.{meaning, evaluated_within}
 use Rattle.aml_laws.proofs.ObjectKinds.{make_string_keeps_kinds, new_buffer_field_keeps_kinds}
 use Rattle.aml_laws.proofs.FoundNamesStand.{MethodStandsAt}
+use Rattle.aml_laws.proofs.LocatedRegions.{IsAsMeant, meant, bounded}
 use Rattle.aml_laws.proofs.WorldRelations.{PartsLead, Levels, always, WorldRelation, RunPreserves, RunPreservesFrom, CalledMethodStands, on_objects_preserves, run_give_preserves, run_stop_preserves, run_settle_preserves, lift_preserves, charge_preserves, run_then_preserves, found_then_preserves, run_preserves_from, then_preserves_from}
 use Rattle.aml_laws.proofs.ChangesPreserve.{integer_kept_preserves, integer_in_preserves, path_found_preserves, scope_found_preserves, target_named_preserves, within_preserves, new_buffer_preserves, new_package_preserves, new_name_preserves, new_method_preserves, divided_in_preserves, turned_preserves, size_in_preserves, result_of_two_preserves, result_of_one_preserves, result_of_test_preserves, counted_by_preserves, osi_answered_preserves, invocation_found_finds_invocation, call_allowed_preserves}
 use Rattle.aml_laws.proofs.StoreTargetsPreserve.{slot_read_preserves, tested_preserves, dereferenced_preserves, target_read_preserves, reference_of_preserves, if_initialized_preserves, reference_if_found_preserves, target_referent_preserves, value_referent_preserves, copied_to_preserves, acquired_at_preserves, given_back_at_preserves}
@@ -488,14 +489,14 @@ module _ {S : Type 0} {accesses : Accesses S} (levels : Levels accesses) where
   unfolding evaluated_within
   evaluated_within_leads zero t w b = (levels.at t.depth).reflexive w
   evaluated_within_leads (suc n) t w zero = (levels.at t.depth).reflexive w
-  evaluated_within_leads (suc n) t w (suc b) = (rule_leads {levels = levels} (evaluated_within accesses n) (record { part = λ u. record { preserves = λ s. evaluated_within_leads n u s.0 s.1 } }) t).preserves (w, b)
+  evaluated_within_leads (suc n) t w (suc b) = (rule_leads {levels = levels} (evaluated_within accesses n) (record { part = λ u. record { preserves = λ s. evaluated_within_leads n u s.0 s.1 }; as_meant = λ level told. bounded n }) t).preserves (w, b)
 
   meaning_leads : (t : Task) → RunPreserves (levels.at t.depth) (meaning accesses t)
   unfolding meaning
   meaning_leads t = record { preserves = λ s. evaluated_within_leads s.1 t s.0 s.1 }
 
   pub meaning_parts_lead : PartsLead levels (meaning accesses)
-  meaning_parts_lead = record { part = meaning_leads }
+  meaning_parts_lead = record { part = meaning_leads; as_meant = λ level told. meant }
 
   pub list_leads : (scope : List Seg) (depth : ℕ) (ts : Trees) → RunPreserves (levels.at depth) (in_turn (meaning accesses) scope depth ts)
   list_leads scope depth ts = in_turn_leads _ meaning_parts_lead scope depth ts
@@ -505,8 +506,8 @@ pub evaluated_within_preserves : {S : Type 0} {accesses : Accesses S} (relation 
 evaluated_within_preserves relation n t w b = evaluated_within_leads (always relation) n t w b
 
 module _ {S : Type 0} {accesses : Accesses S} {relation : WorldRelation accesses} where
-  pub rule_preserves : (ev : Task → Run S Flow) → ((t : Task) → RunPreserves relation (ev t)) → (t : Task) → RunPreserves relation (rule accesses ev t)
-  rule_preserves ev parts t = record { preserves = (rule_leads {levels = always relation} ev (at_all_depths ev parts) t).preserves }
+  pub rule_preserves : (ev : Task → Run S Flow) → ((t : Task) → RunPreserves relation (ev t)) → (relation.told ≡ true → IsAsMeant accesses ev) → (t : Task) → RunPreserves relation (rule accesses ev t)
+  rule_preserves ev parts as_meant t = record { preserves = (rule_leads {levels = always relation} ev (at_all_depths ev parts as_meant) t).preserves }
 
   pub meaning_preserves : (t : Task) → RunPreserves relation (meaning accesses t)
   meaning_preserves t = record { preserves = (meaning_leads (always relation) t).preserves }

@@ -2,7 +2,7 @@
 use Rattle.ar_space.specs.Accesses.{Accesses}
 use Rattle.aml_meaning.specs.State.{State}
 use Rattle.aml_laws.specs.Becomes.{Becomes}
-use Rattle.std.specs.Prelude.{◌≡◌, Bool, true, refl}
+use Rattle.std.specs.Prelude.{◌≡◌, Bool, true, false, refl}
 use Rattle.aml_laws.specs.Reached.{Reached, none, read, written, KeptByAccesses}
 use Rattle.aml_laws.proofs.RegisterAccesses.{reached_transitive, reached_anyhow}
 use Rattle.aml_laws.proofs.WorldRelations.{WorldRelation}
@@ -19,7 +19,8 @@ reached_relation accesses = record {
   slots_written = λ w frames is. none;
   frame_closed = λ w v vs h. h;
   names_removed = λ u w q at h. h;
-  region_accessed = λ u w region s stands r h. reached_transitive u.space w.space s h (reached_anyhow region w.space s r);
+  told = false;
+  region_accessed = λ u w region space s stands at r h. reached_transitive u.space w.space s h (reached_anyhow region space w.space s r);
   bridge_asked = λ u w at width wide asks h. read w.space at width h;
   loads = true;
   arities_set = λ loads w list. none;

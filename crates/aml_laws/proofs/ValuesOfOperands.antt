@@ -57,7 +57,7 @@ use Rattle.aml_laws.proofs.Claims.{Claim, IntegerFits, ValueFits, GivenFits, Are
 use Rattle.aml_laws.proofs.FrameNumbers.{numbers_pushed, frame_numbers_relation}
 use Rattle.aml_laws.proofs.OperandsAndCallsPreserve.{invoked_preserves_from}
 use Rattle.aml_laws.proofs.Preorders.{either_branch}
-use Rattle.aml_laws.proofs.WorldRelations.{in_new_frame}
+use Rattle.aml_laws.proofs.WorldRelations.{in_new_frame, never_told}
 use Rattle.aml_laws.proofs.ValuesOfWorlds.{WorldWithin, fewer_names_fit, read_as_fits, integer_in_maintains, arguments_found_maintains}
 use Rattle.aml_laws.proofs.ValuesOfTargets.{TargetFits, HeldFits, StoredFits, ReferentFits, stored_maintains}
 
@@ -296,7 +296,7 @@ module _ (S : Type 0) (claim : Claim) (accesses : Accesses S) (ev : Task → Run
   call_maintains depth q body vs h f = then_maintains _ _ (call_allowed_maintains depth) (λ few u. then_maintains _ _ (body_terms_maintains S claim q body h) (λ ts g. body_maintains S claim q _ _ (frame_arguments_fit claim vs f) (in_turn_maintains q _ ts g)))
 
   call_is_balanced : (depth : ℕ) (q : List Seg) (body : List ℕ) (vs : List Value) (s : State S × ℕ) → numbers_of (invoked ev depth q body vs s).1.0.frames ≡ numbers_of s.0.frames
-  call_is_balanced depth q body vs s = (invoked_preserves_from {relation = frame_numbers_relation accesses} ev (λ t. record { preserves = parts.balanced t }) s.0 depth q body vs (λ v h. h)).preserves_from s refl
+  call_is_balanced depth q body vs s = (invoked_preserves_from {relation = frame_numbers_relation accesses} ev (λ t. record { preserves = parts.balanced t }) never_told s.0 depth q body vs (λ v h. h)).preserves_from s refl
 
   -- where it is, it is so again: the same frames stand
   pub invoked_maintains : (depth : ℕ) (q : List Seg) (body : List ℕ) (vs : List Value) → AreClaimedBytes claim body → Each (ValueFits claim) vs → Maintains (RunWithin S claim) (FlowFits claim) (invoked ev depth q body vs)

@@ -14,6 +14,7 @@ use Rattle.aml_objects.specs.declared.entry.Entry.{Entry}
 use Rattle.aml_objects.specs.declared.entry.NamedObject.{NamedObject}
 use Rattle.aml_objects.specs.declared.entry.NamedObject.TheVariants as object
 use Rattle.aml_objects.specs.declared.entry.OperationRegion.{OperationRegion}
+use Rattle.aml_fields.specs.declared.region.AddressSpace.{AddressSpace}
 use Rattle.aml_namespace.specs.Namespace.{Map, Namespace, with_object, without_below, released, entry_released, mutexes_released}
 use Rattle.aml_namespace.proofs.Paths.{path_total}
 use Rattle.aml_namespace.proofs.Changes.{released_at}
@@ -25,7 +26,9 @@ use Rattle.aml_laws.specs.Noted.{WithNotes, noted}
 use Rattle.aml_laws.specs.Histories.{numbered_entry, RegionStands, NothingNew, History, same, changed, declared, read, written, bridge_asked, IsDeclared, asks, IsExplained, NotesExplained}
 use Rattle.aml_laws.specs.RegionAccesses.{ReachedWithin}
 use Rattle.aml_laws.specs.RegionAccesses as within
+use Rattle.aml_laws.proofs.AddressesAsMeant.{at_function}
 use Rattle.aml_laws.proofs.EvaluationsPreserve.{becomes_preserves}
+use Rattle.aml_laws.proofs.LocatedRegions.{IsLocated}
 use Rattle.aml_laws.proofs.NumbersKept.{still_there}
 use Rattle.aml_laws.proofs.WorldRelations.{WorldRelation, is_method_or_region, in_new_frame}
 
@@ -77,23 +80,26 @@ module _ {S : Type 0} (accesses : Accesses S) where
   history_transitive u v w h (same _) = h
   history_transitive u v w h (changed _ z _ i n) = changed u z w (history_transitive u v z h i) n
   history_transitive u v w h (declared _ z path o i free) = declared u z path o (history_transitive u v z h i) free
-  history_transitive u v w h (read _ l z region at width i stands j lies) = read u l z region at width (history_transitive u v l h i) stands j lies
-  history_transitive u v w h (written _ l z region at width value i stands j lies) = written u l z region at width value (history_transitive u v l h i) stands j lies
+  history_transitive u v w h (read _ l z region at width i stands j lies is) = read u l z region at width (history_transitive u v l h i) stands j lies is
+  history_transitive u v w h (written _ l z region at width value i stands j lies is) = written u l z region at width value (history_transitive u v l h i) stands j lies is
   history_transitive u v w h (bridge_asked _ z at width i wide is) = bridge_asked u z at width (history_transitive u v z h i) wide is
 
   history_profile : (w v : State S) → History accesses w v → v.profile ≡ w.profile
   history_profile w v (same _) = refl
   history_profile w v (changed _ u _ h n) = n.profile ∙ history_profile w u h
   history_profile w v (declared _ u path o h free) = history_profile w u h
-  history_profile w v (read _ l u region at width h stands i lies) = history_profile l u i ∙ history_profile w l h
-  history_profile w v (written _ l u region at width value h stands i lies) = history_profile l u i ∙ history_profile w l h
+  history_profile w v (read _ l u region at width h stands i lies is) = history_profile l u i ∙ history_profile w l h
+  history_profile w v (written _ l u region at width value h stands i lies is) = history_profile l u i ∙ history_profile w l h
   history_profile w v (bridge_asked _ u at width h wide is) = history_profile w u h
 
   -- accesses of a region that stood in one world, made in another one that it has become
-  after_accesses : (u w : State S) (region : OperationRegion) (s : S) → RegionStands u.names.map region → ReachedWithin accesses region w.space s → History accesses u w → History accesses u (record w { space = s })
-  after_accesses u w region s stands within.none h = h
-  after_accesses u w region s stands (within.read t at width lies r) h = read u u (record w { space = t }) region at width (same u) stands (after_accesses u w region t stands r h) lies
-  after_accesses u w region s stands (within.written t at width value lies r) h = written u u (record w { space = t }) region at width value (same u) stands (after_accesses u w region t stands r h) lies
+  after_accesses : (u w : State S) (region : OperationRegion) (space : AddressSpace) (s : S) (stands : RegionStands u.names.map region) → IsLocated accesses u stands.path space → ReachedWithin accesses region space w.space s → History accesses u w
+      → History accesses u (record w { space = s })
+  after_accesses u w region space s stands located within.none h = h
+  after_accesses u w region space s stands located (within.read t at width lies is r) h =
+      read u u (record w { space = t }) region at width (same u) stands (after_accesses u w region space t stands located r h) lies (at_function accesses u stands.path space at located is)
+  after_accesses u w region space s stands located (within.written t at width value lies is r) h =
+      written u u (record w { space = t }) region at width value (same u) stands (after_accesses u w region space t stands located r h) lies (at_function accesses u stands.path space at located is)
 
   abbrev history_relation : WorldRelation accesses
   history_relation = record {
@@ -106,7 +112,8 @@ module _ {S : Type 0} (accesses : Accesses S) where
     slots_written = λ w frames is. changed w w _ (same w) (names_alike w _ refl refl refl);
     frame_closed = λ w v vs h. changed w v _ (history_transitive w (in_new_frame vs w) v (changed w w _ (same w) (names_alike w _ refl refl refl)) h) (names_alike v _ refl refl refl);
     names_removed = λ u w q at h. changed u w _ h (names_gone w q);
-    region_accessed = after_accesses;
+    told = true;
+    region_accessed = λ u w region space s stands at r h. after_accesses u w region space s stands (at refl) r h;
     bridge_asked = λ u w at width wide is h. bridge_asked u w at width h (history_profile u w h ∙ wide) is;
     loads = true;
     arities_set = λ loads w list. changed w w _ (same w) (names_alike w _ refl refl refl);
@@ -121,8 +128,8 @@ module _ {S : Type 0} (accesses : Accesses S) where
   history_numbers w v (same _) = omega arith
   history_numbers w v (changed _ u _ h n) = let a = history_numbers w u h in let b = n.next in omega (arith, a, b)
   history_numbers w v (declared _ u path o h free) = let a = history_numbers w u h in omega (arith, a)
-  history_numbers w v (read _ l u region at width h stands i lies) = let a = history_numbers w l h in let b = history_numbers l u i in omega (arith, a, b)
-  history_numbers w v (written _ l u region at width value h stands i lies) = let a = history_numbers w l h in let b = history_numbers l u i in omega (arith, a, b)
+  history_numbers w v (read _ l u region at width h stands i lies is) = let a = history_numbers w l h in let b = history_numbers l u i in omega (arith, a, b)
+  history_numbers w v (written _ l u region at width value h stands i lies is) = let a = history_numbers w l h in let b = history_numbers l u i in omega (arith, a, b)
   history_numbers w v (bridge_asked _ u at width h wide is) = history_numbers w u h
 
 -- ---- where no name is declared
@@ -175,11 +182,11 @@ module _ {S : Type 0} (accesses : Accesses S) (profile : Profile) where
         notes = subst (NotesExplained profile w.names.map w.space) (sym n.space) a.notes;
       }
   follows w v (declared _ u path o h free) e p = let a = history_numbers (noted accesses) w u h in absurd (omega (arith, a, e))
-  follows w v (read _ l u region at width h stands i lies) e p =
+  follows w v (read _ l u region at width h stands i lies is) e p =
       let a = history_numbers (noted accesses) w l h in
       let b = history_numbers (noted accesses) l u i in
       follows_access w l u _ region (note.Read at width (accesses.reads u.space.0 at width).0) stands (follows w l h (omega (arith, a, b, e)) p) (follows l u i (omega (arith, a, b, e)) (history_profile (noted accesses) w l h ∙ p)) refl refl (λ st. record { region = region; stands = st; within = lies })
-  follows w v (written _ l u region at width value h stands i lies) e p =
+  follows w v (written _ l u region at width value h stands i lies is) e p =
       let a = history_numbers (noted accesses) w l h in
       let b = history_numbers (noted accesses) l u i in
       follows_access w l u _ region (note.Write at width value (accesses.writes u.space.0 at width value).0) stands (follows w l h (omega (arith, a, b, e)) p) (follows l u i (omega (arith, a, b, e)) (history_profile (noted accesses) w l h ∙ p)) refl refl (λ st. record { region = region; stands = st; within = lies })

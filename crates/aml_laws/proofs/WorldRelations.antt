@@ -21,6 +21,7 @@ use Rattle.aml_objects.specs.declared.entry.NamedObject.{NamedObject}
 use Rattle.aml_objects.specs.declared.entry.NamedObject.TheVariants as object
 use Rattle.aml_objects.specs.declared.entry.OperationRegion.{OperationRegion}
 use Rattle.aml_objects.specs.declared.entry.Entry.{Entry}
+use Rattle.aml_fields.specs.declared.region.AddressSpace.{AddressSpace}
 use Rattle.aml_namespace.specs.Namespace.{Namespace, declared, replaced, replaced_in, with_object, without_below, above}
 use Rattle.aml_meaning.specs.declared.flow.Flow.{Flow}
 use Rattle.aml_meaning.specs.declared.frame.Frame.{Frame}
@@ -40,6 +41,7 @@ use Rattle.aml_laws.specs.Kinds.{KeepsKinds}
 use Rattle.aml_laws.specs.Numbers.{numbers_of}
 use Rattle.aml_laws.specs.RegionAccesses.{AsksBridge, ReachedWithin}
 use Rattle.aml_laws.proofs.FoundNamesStand.{MethodStandsAt}
+use Rattle.aml_laws.proofs.LocatedRegions.{IsAsMeant, IsLocated}
 use Rattle.aml_laws.proofs.Preorders.{Preorder, Respects, either_branch}
 use Rattle.aml_laws.proofs.ObjectKinds.{KeepsObjectKinds}
 
@@ -70,7 +72,10 @@ pub record WorldRelationOf {S : Type 0} (listed : Bool) (accesses : Accesses S) 
   -- at the end of a call the names below a control method that stood when it was found are removed
   pub names_removed : (u w : State S) (q : List Seg) → MethodStandsAt u.names.map q → Leads u w → Leads u (record w { names = without_below q w.names })
   -- registers of an operation region that stood when it was located are read and written
-  pub region_accessed : (u w : State S) (region : OperationRegion) (s : S) → RegionStands u.names.map region → ReachedWithin accesses region w.space s → Leads u w → Leads u (record w { space = s })
+  -- told: whether it is told how the region was located; then the parts of terms are evaluated as they mean
+  pub told : Bool
+  pub region_accessed : (u w : State S) (region : OperationRegion) (space : AddressSpace) (s : S) → (stands : RegionStands u.names.map region) → (told ≡ true → IsLocated accesses u stands.path space) → ReachedWithin accesses region space w.space s → Leads u w
+      → Leads u (record w { space = s })
   -- in the wide profile a bridge is asked for the bus behind it
   pub bridge_asked : (u w : State S) (at : Place) (width : Width) → u.profile ≡ profiles.Wide → AsksBridge at width → Leads u w → Leads u (record w { space = (accesses.reads w.space at width).1 })
   -- a table tells how many arguments names take, and all mutexes are free after it
@@ -102,6 +107,7 @@ always relation = record {
     slots_written = relation.slots_written;
     frame_closed = relation.frame_closed;
     names_removed = relation.names_removed;
+    told = relation.told;
     region_accessed = relation.region_accessed;
     bridge_asked = relation.bridge_asked;
     loads = relation.loads;
@@ -111,6 +117,10 @@ always relation = record {
   };
   deeper = λ depth d w v h. h;
 }
+
+-- where it is told of no region
+pub never_told : {A : Type 0} → false ≡ true → A
+never_told e = absurd (cc e)
 
 -- a change that leads each world to a related one; an evaluation that does, and one that does so from where one world has come
 pub record Preserves {S A : Type 0} {listed : Bool} {accesses : Accesses S} (relation : WorldRelationOf listed accesses) (m : Change (State S) A) : Type 0 where
@@ -125,6 +135,7 @@ pub record RunPreservesFrom {S A : Type 0} {listed : Bool} {accesses : Accesses 
 -- the parts of terms do, each by its depth
 pub record PartsLead {S : Type 0} {accesses : Accesses S} (levels : Levels accesses) (ev : Task → Run S Flow) : Type 0 where
   pub part : (t : Task) → RunPreserves (levels.at t.depth) (ev t)
+  pub as_meant : (level : ℕ) → (levels.at level).told ≡ true → IsAsMeant accesses ev
 
 -- as a relation of worlds with the steps that are left
 abbrev pub run_preorder : {S : Type 0} {listed : Bool} {accesses : Accesses S} → WorldRelationOf listed accesses → Preorder (State S × ℕ)

@@ -1,5 +1,5 @@
 -- What becomes of the operation regions and of the register space in an evaluation, change by change (ACPI 6.5, 5.5.2.4).
-use Rattle.std.specs.Prelude.{◌≡◌, ◌⊎◌, ℕ, ◌+◌, List, ◌++◌, Result, Some, false}
+use Rattle.std.specs.Prelude.{◌≡◌, ◌⊎◌, ℕ, ◌+◌, ◌-◌, List, ◌++◌, length, take, Result, Some, false}
 use Rattle.std.specs.List.{All}
 use Rattle.std.specs.FinMap.{get, insert, contains_key}
 use Rattle.ar_space.specs.declared.refusal.SpaceFault.{SpaceFault}
@@ -19,6 +19,7 @@ use Rattle.aml_meaning.specs.declared.profile.Profile.TheVariants as profiles
 use Rattle.aml_meaning.specs.State.{State}
 use Rattle.aml_laws.specs.Noted.{WithNotes}
 use Rattle.aml_laws.specs.RegionAccesses.{LiesWithin, AsksBridge}
+use Rattle.aml_laws.specs.RegionFunctions.{IsAtFunction}
 
 -- what was declared under a number
 abbrev pub numbered_entry : ℕ → NamedObject → Entry
@@ -37,6 +38,10 @@ pub record RegionStands (names : Map) (region : OperationRegion) : Type 0 where
   pub number : ℕ
   pub there : RegionAt names path number region
 
+-- the scope that something at a path stands in: all segments of the path but the last
+abbrev pub scope_of : List Seg → List Seg
+scope_of path = take (length path - 1) path
+
 -- whatever else changes: no register is accessed, no number is taken, the profile stays, and each operation region stood before, at its
 -- path and under its number
 pub record NothingNew {S : Type 0} (before after : State S) : Type 0 where
@@ -47,18 +52,21 @@ pub record NothingNew {S : Type 0} (before after : State S) : Type 0 where
       → RegionAt before.names.map path number region
 
 -- From a world to another one, change by change. A name is declared where none stands, and takes the next number. A register is accessed
--- within an operation region that stood in one of the worlds before the access: behind the world in which a region is located, the objects
--- of a PCI address are asked. In the wide profile alone a byte of a PCI-to-PCI bridge is read that no operation region need hold.
+-- within an operation region that stood in one of the worlds before the access, and in PCI_Config at the function whose address the
+-- region's scope has in that very world: behind the world in which a region is located, the objects of a PCI address are asked. In the wide
+-- profile alone a byte of a PCI-to-PCI bridge is read that no operation region need hold.
 pub data History {S : Type 0} (accesses : Accesses S) : State S → State S → Type 0 where
   same : (w : State S) → History accesses w w
   changed : (w u v : State S) → History accesses w u → NothingNew u v → History accesses w v
   declared : (w u : State S) (path : List Seg) (o : NamedObject) → History accesses w u → contains_key u.names.map path ≡ false
       → History accesses w (record u { names = with_declaration path o u.names })
   read : (w located u : State S) (region : OperationRegion) (at : Place) (width : Width) → History accesses w located
-      → RegionStands located.names.map region → History accesses located u → LiesWithin region at width
+      → (stands : RegionStands located.names.map region) → History accesses located u → LiesWithin region at width
+      → IsAtFunction accesses located (scope_of stands.path) at
       → History accesses w (record u { space = (accesses.reads u.space at width).1 })
   written : (w located u : State S) (region : OperationRegion) (at : Place) (width : Width) (value : ℕ) → History accesses w located
-      → RegionStands located.names.map region → History accesses located u → LiesWithin region at width
+      → (stands : RegionStands located.names.map region) → History accesses located u → LiesWithin region at width
+      → IsAtFunction accesses located (scope_of stands.path) at
       → History accesses w (record u { space = (accesses.writes u.space at width value).1 })
   bridge_asked : (w u : State S) (at : Place) (width : Width) → History accesses w u → u.profile ≡ profiles.Wide → AsksBridge at width
       → History accesses w (record u { space = (accesses.reads u.space at width).1 })

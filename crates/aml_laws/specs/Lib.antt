@@ -81,6 +81,7 @@ pub mod ReferencesOfTargets
 pub mod ReferringTargets
 pub mod ReferringTerms
 pub mod RegionAccesses
+pub mod RegionFunctions
 pub mod RegionTerms
 pub mod ResourceLists
 pub mod SpaceFaults

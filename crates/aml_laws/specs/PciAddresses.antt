@@ -17,7 +17,7 @@ use Rattle.aml_meaning.specs.State.{State}
 use Rattle.aml_meaning.specs.Run.{Run}
 use Rattle.aml_meaning.specs.Bridges.{bridges_to}
 use Rattle.aml_meaning.specs.PciFunctions.{adr, segment_group, base_bus}
-use Rattle.aml_laws.specs.PciScopes.{StandsIn, IsNearestSuch, NoneSuch}
+use Rattle.aml_laws.specs.PciScopes.{StandsIn, IsFunctionAt, IsNearestSuch, NoneSuch}
 
 -- ---- the numbers of a function
 
@@ -91,3 +91,10 @@ pub data AddressAnswers {S : Type 0} (accesses : Accesses S) (call : List Seg �
   in_range : (seg bus end dev func : ℕ) (t u v after : State S × ℕ) → PartAnswers call segment_group path s (Ok seg) t → PartAnswers call base_bus path t (Ok bus) u
       → BridgesLead accesses call seg bus (bridges_to s.0.names.map path) u (Ok end) v → call (path ++ adr ∷ []) v ≡ (Ok (dev * 65536 + func), after) → MayBeFunction seg end dev func
       → AddressAnswers accesses call path s (Ok (spaces.Pci seg end dev func)) after
+
+-- A scope's address, and the world then: that of the nearest device with an `_ADR`, of the scope itself and those above it, as the objects
+-- of the address answer.
+pub record AddressFound {S : Type 0} (accesses : Accesses S) (call : List Seg → Run S ℕ) (scope : List Seg) (s : State S × ℕ) (space : AddressSpace) (after : State S × ℕ) : Type 0 where
+  pub segments : ℕ
+  pub nearest : IsNearestSuch (IsFunctionAt s.0.names.map) scope segments
+  pub answers : AddressAnswers accesses call (take segments scope) s (Ok space) after

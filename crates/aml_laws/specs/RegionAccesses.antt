@@ -6,6 +6,8 @@ use Rattle.ar_space.specs.declared.space.Place.{Place}
 use Rattle.ar_space.specs.declared.space.Place.TheVariants as place
 use Rattle.ar_space.specs.Accesses.{Accesses, byte_count}
 use Rattle.aml_objects.specs.declared.entry.OperationRegion.{OperationRegion}
+use Rattle.aml_fields.specs.declared.region.AddressSpace.{AddressSpace}
+use Rattle.aml_fields.specs.declared.region.AddressSpace.TheVariants as spaces
 
 -- the address space of a place, as AML numbers it, and the address, port or register there
 abbrev pub space_of : Place → ℕ
@@ -24,16 +26,22 @@ pub record LiesWithin (region : OperationRegion) (at : Place) (width : Width) : 
   pub begins : region.offset ≤ address_of at
   pub ends : address_of at + byte_count width ≤ region.offset + region.length
 
+-- a place is one of memory, of the ports, or of the registers of a PCI function
+pub data IsPlaceOf : AddressSpace → Place → Type 0 where
+  is_address : (n : ℕ) → IsPlaceOf spaces.Memory (place.Memory n)
+  is_port : (n : ℕ) → IsPlaceOf spaces.Io (place.Io n)
+  is_register : (seg bus dev func n : ℕ) → IsPlaceOf (spaces.Pci seg bus dev func) (place.Pci seg bus dev func n)
+
 -- one byte of the configuration header of a PCI function: its header type, or its secondary bus number (PCI-to-PCI Bridge Architecture
 -- 1.2, 3.2)
 pub data AsksBridge : Place → Width → Type 0 where
   header_type : (seg bus dev func : ℕ) → AsksBridge (place.Pci seg bus dev func 14) W8
   secondary_bus : (seg bus dev func : ℕ) → AsksBridge (place.Pci seg bus dev func 25) W8
 
--- the space before, and what any number of reads and writes that lie within a region makes of it, one after another
-pub data ReachedWithin {S : Type 0} (accesses : Accesses S) (region : OperationRegion) (before : S) : S → Type 0 where
-  none : ReachedWithin accesses region before before
-  read : (s : S) (at : Place) (width : Width) → LiesWithin region at width → ReachedWithin accesses region before s
-      → ReachedWithin accesses region before (accesses.reads s at width).1
-  written : (s : S) (at : Place) (width : Width) (value : ℕ) → LiesWithin region at width → ReachedWithin accesses region before s
-      → ReachedWithin accesses region before (accesses.writes s at width value).1
+-- the space before, and what any number of reads and writes that lie within a region in an address space makes of it, one after another
+pub data ReachedWithin {S : Type 0} (accesses : Accesses S) (region : OperationRegion) (space : AddressSpace) (before : S) : S → Type 0 where
+  none : ReachedWithin accesses region space before before
+  read : (s : S) (at : Place) (width : Width) → LiesWithin region at width → IsPlaceOf space at → ReachedWithin accesses region space before s
+      → ReachedWithin accesses region space before (accesses.reads s at width).1
+  written : (s : S) (at : Place) (width : Width) (value : ℕ) → LiesWithin region at width → IsPlaceOf space at → ReachedWithin accesses region space before s
+      → ReachedWithin accesses region space before (accesses.writes s at width value).1

@@ -33,7 +33,7 @@ ghost use Rattle.aml_laws.specs.PciScopes.{StandsIn, IsFunctionAt, IsBridgeAt, I
 ghost use Rattle.aml_laws.specs.BusesFound.{BusesFound, TellsNumber, TellAddresses, TellsPart};
 ghost use Rattle.aml_laws.specs.PciScopes.{IsAskedBridge, IsAmong, GrowFrom};
 ghost use Rattle.aml_laws.specs.PciRegions.{RegionStandsIn, located_at};
-ghost use Rattle.aml_laws.specs.PciAddresses.{BridgeTells, AddressAnswers, PartAnswers, BridgesLead};
+ghost use Rattle.aml_laws.specs.PciAddresses.{BridgeTells, AddressAnswers, PartAnswers, BridgesLead, AddressFound};
 ghost use Rattle.aml_laws.specs.AddressObjects.{HoldsNoValueAt, IsAskedAt, TakesNoArguments, ObjectAnswers};
 
 /// The objects that tell which function a scope belongs to and what its address is have these four names: `_ADR`, the
@@ -164,8 +164,9 @@ pub fn what_is_no_bridge_tells_no_bus<S>()
 /// at last the `_ADR` of the function (ACPI 6.5, 5.5.2.4, 6.1.1, 6.5.5 and 6.5.6). The first that is refused refuses
 /// the address, and nothing behind it is asked. The address is refused, too, where its segment group, bus, device or
 /// function is too great for one (RegionLimit). Where the scope belongs to no function it is refused so, and nothing is
-/// asked. Objects in another order, a refused `_BBN` that counts as 0, and all functions of a device that are taken for
-/// one, are refused by this.
+/// asked. There is no other way to an address: one that is told is that of the nearest device with an `_ADR`, whose
+/// objects answered so. Objects in another order, a refused `_BBN` that counts as 0, and all functions of a device that
+/// are taken for one, are refused by this.
 pub fn the_objects_of_a_pci_address_are_asked_in_turn<S>()
     ensures in_turn { (accesses : Accesses S) (call : List Seg → Run S ℕ) (w : State S) (steps : ℕ)
         (scope path : List Seg) (r : Outcome AddressSpace) (after : State S × ℕ) →
@@ -174,6 +175,9 @@ pub fn the_objects_of_a_pci_address_are_asked_in_turn<S>()
     ensures no_function { (accesses : Accesses S) (call : List Seg → Run S ℕ) (w : State S) (steps : ℕ)
         (scope : List Seg) (e : Refusal) → pci_function scope w ≡ (Err e, w) →
         pci_address accesses call scope (w, steps) ≡ (Err e, (w, steps)) }
+    ensures told { (accesses : Accesses S) (call : List Seg → Run S ℕ) (scope : List Seg) (s : State S × ℕ)
+        (space : AddressSpace) (after : State S × ℕ) → pci_address accesses call scope s ≡ (Ok space, after) →
+        AddressFound accesses call scope s space after }
 {}
 
 /// What is asked for an address answers an integer (ACPI 6.5, 6.1.1, 6.5.5 and 6.5.6): a name the one that it holds, a
