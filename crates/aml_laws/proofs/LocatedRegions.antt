@@ -70,11 +70,11 @@ region_object (object.OperationRegion r) region h = let same : r ≡ region = cc
 region_object _ region h = absurd (cc h)
 
 -- a region stands, and its scope is this one
-record StandsIn {S : Type 0} (w : State S) (scope : List Seg) (region : OperationRegion) : Type 0 where
+record RegionInScope {S : Type 0} (w : State S) (scope : List Seg) (region : OperationRegion) : Type 0 where
   stands : RegionStands w.names.map region
   scoped : scope ≡ above stands.path
 
-region_stands : {S : Type 0} (w : State S) (n : ℕ) (x : List Seg × OperationRegion) → (region_declared n w).0 ≡ Ok x → StandsIn w x.0 x.1
+region_stands : {S : Type 0} (w : State S) (n : ℕ) (x : List Seg × OperationRegion) → (region_declared n w).0 ≡ Ok x → RegionInScope w x.0 x.1
 unfolding region_declared declaration settle give
 region_stands w n x h =
     let both = gave_both (declaration n) _ w x h in
