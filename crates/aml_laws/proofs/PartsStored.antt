@@ -3,7 +3,7 @@ use Rattle.std.specs.Prelude.{◌≡◌, ◌≢◌, ◌<◌, ◌≤◌, ◌+◌,
 use Rattle.std.proofs.Common.{arith, ap, ◌∙◌}
 use Rattle.std.proofs.lemmas.Bool.Decides.{nat_tests}
 use Rattle.std.proofs.lemmas.Option.{slice_get-get_or}
-use Rattle.std.specs.FinMap.{get}
+use Rattle.std.specs.FinMap.{get, insert}
 use Rattle.ar_space.specs.Outcome.{Outcome}
 use Rattle.ar_space.specs.Change.{Change, give, stop, go_on, ◌>>=◌}
 use Rattle.ar_space.specs.declared.refusal.Refusal.{Refusal}
@@ -24,18 +24,19 @@ use Rattle.aml_objects.specs.declared.value.Slot.{Slot}
 use Rattle.aml_objects.specs.declared.value.Slot.TheVariants.{Argument}
 use Rattle.aml_objects.specs.declared.value.Value.{Value}
 use Rattle.aml_objects.specs.declared.value.Value.TheVariants as value
+use Rattle.aml_namespace.specs.Namespace.{replaced}
 use Rattle.aml_meaning.specs.declared.store_target.Holding.TheVariants as holding
 use Rattle.aml_meaning.specs.declared.store_target.StoreTarget.TheVariants as targets
 use Rattle.aml_meaning.specs.declared.frame.Frame.{Frame}
 use Rattle.aml_meaning.specs.declared.store_target.Stored.{Stored}
 use Rattle.aml_meaning.specs.declared.store_target.Stored.TheVariants as store
-use Rattle.aml_meaning.specs.State.{State, on_objects}
+use Rattle.aml_meaning.specs.State.{State, on_objects, on_names}
 use Rattle.aml_meaning.specs.Slots.{slot_in, frame_index}
 use Rattle.aml_meaning.specs.StoreTargets.{holding_of, held_at, latest_frame, frame_found, slot_held, most_references}
-use Rattle.aml_meaning.specs.Stores.{slot_put, copy_into_slot, copy_into_element, store_over_slot, store_in_frame, store_in_frame_numbered, store_in_slot, stored_through, store_byte, byte_in, store_in_name, copy_in_name, stored, copied_to}
+use Rattle.aml_meaning.specs.Stores.{slot_put, copy_into_slot, copy_into_name, copy_into_element, store_over_value, store_over_slot, store_in_frame, store_in_frame_numbered, store_in_slot, stored_through, store_byte, byte_in, store_in_name, copy_in_name, stored, copied_to}
 use Rattle.aml_laws.specs.Copyable.{IsCopyable}
 use Rattle.aml_laws.specs.StoredNames.{data_entry, with_object_numbered}
-use Rattle.aml_laws.specs.StoredParts.{CopyMade, TakesCopies, a_local, an_argument, SlotTakesCopy, ElementTakesCopy, GivesByte, of_integer, of_string, of_buffer, ByteTaken, in_string, in_buffer, IsNoData, uninitialized, a_package, a_reference, HoldsNothing, scope, device, processor, power_resource, thermal_zone, method, region, mutex, event}
+use Rattle.aml_laws.specs.StoredParts.{CopyMade, TakesCopies, a_local, an_argument, SlotTakesCopy, ElementTakesCopy, NameTakesCopy, TakesUnconverted, for_package, for_reference, for_no_value, GivesByte, of_integer, of_string, of_buffer, ByteTaken, in_string, in_buffer, IsNoData, uninitialized, a_package, a_reference, HoldsNothing, scope, device, processor, power_resource, thermal_zone, method, region, mutex, event}
 use Rattle.aml_laws.proofs.CopiesAnswered.{copy_answers}
 use Rattle.aml_laws.proofs.CopiesApart.{copy_is_apart, stays}
 
@@ -236,6 +237,53 @@ module _ {S : Type 0} (w : State S) (path : List Seg) where
   pub over_nothing : (e : Entry) (v : Value) → get w.names.map path ≡ Some e → HoldsNothing e.object → (stored (targets.Name path) v w ≡ (Err (refusal.Value WrongType), w)) × (copied_to (targets.Name path) v w ≡ (Err (refusal.Value WrongType), w))
   unfolding store_in_name copy_in_name held_at stop go_on ◌>>=◌
   over_nothing e v at is = (rw (at, nothing_held e.object is) refl, rw (at, nothing_held e.object is) refl)
+
+-- ---- names that take copies
+
+unconverted : {S : Type 0} (old v : Value) (path : List Seg) → TakesUnconverted old v → store_over_value {S = S} old path v ≡ copy_into_name path v
+unconverted _ _ path (for_package m o) = refl
+unconverted _ _ path (for_reference r v) = refl
+unconverted _ _ path (for_no_value v) = refl
+
+module _ {S : Type 0} (w : State S) (path : List Seg) (number : ℕ) (old v : Value) (at : get w.names.map path ≡ Some (data_entry number old)) where
+  copied_in_name : copied_to (targets.Name path) v w ≡ copy_into_name path v w
+  unfolding copy_in_name held_at go_on ◌>>=◌
+  copied_in_name = rw at refl
+
+  stored_in_name : TakesUnconverted old v → stored (targets.Name path) v w ≡ copy_into_name path v w
+  unfolding store_in_name held_at go_on ◌>>=◌
+  stored_in_name takes = rw at (ap (λ (change : Change (State S) Stored). change w) (unconverted old v path takes))
+
+  name_put_so : {count : ℕ} (m : Made w v count) → copy_into_name path v w ≡ (Ok store.Done, record w { names = record w.names { map = insert w.names.map path (data_entry number m.copy) }; objects = w.objects ++ m.made })
+  unfolding copy_into_name on_names replaced give go_on ◌>>=◌
+  name_put_so m = rw (m.answers, at) refl
+
+  name_refused : (e : Refusal) → (copied v w.objects).0 ≡ Err e → copy_into_name path v w ≡ (Err e, w)
+  unfolding copy_into_name go_on ◌>>=◌
+  name_refused e is = rw (not_copied w v e is) refl
+
+module _ {S : Type 0} (w : State S) (path : List Seg) (number : ℕ) (old v : Value) where
+  taken_by : (t : Outcome Stored × State S) (count : ℕ) → get w.names.map path ≡ Some (data_entry number old) → t ≡ copy_into_name path v w → IsCopyable w.objects 64 count v → length w.objects + count ≤ 262144
+      → (after : State S) × ((t ≡ (Ok store.Done, after)) × NameTakesCopy w after path number v count)
+  taken_by t count at by is room =
+      let m = made_there w v count is room in (
+        record w { names = record w.names { map = insert w.names.map path (data_entry number m.copy) }; objects = w.objects ++ m.made },
+        (by ∙ name_put_so w path number old v at m, record { copy = m.copy; made = m.made; copied = m.apart; put = refl }),
+      )
+
+  pub name_copied : (count : ℕ) → get w.names.map path ≡ Some (data_entry number old) → IsCopyable w.objects 64 count v → length w.objects + count ≤ 262144
+      → (after : State S) × ((copied_to (targets.Name path) v w ≡ (Ok store.Done, after)) × NameTakesCopy w after path number v count)
+  name_copied count at is room = taken_by (copied_to (targets.Name path) v w) count at (copied_in_name w path number old v at) is room
+
+  pub name_stored : (count : ℕ) → get w.names.map path ≡ Some (data_entry number old) → TakesUnconverted old v → IsCopyable w.objects 64 count v → length w.objects + count ≤ 262144
+      → (after : State S) × ((stored (targets.Name path) v w ≡ (Ok store.Done, after)) × NameTakesCopy w after path number v count)
+  name_stored count at takes is room = taken_by (stored (targets.Name path) v w) count at (stored_in_name w path number old v at takes) is room
+
+  pub name_refuses : (e : Refusal) → get w.names.map path ≡ Some (data_entry number old) → (copied v w.objects).0 ≡ Err e
+      → (copied_to (targets.Name path) v w ≡ (Err e, w)) × (TakesUnconverted old v → stored (targets.Name path) v w ≡ (Err e, w))
+  name_refuses e at is =
+      let refused = name_refused w path number old v at e is in
+      (copied_in_name w path number old v at ∙ refused, λ takes. stored_in_name w path number old v at takes ∙ refused)
 
 -- ---- no target
 

@@ -1,5 +1,6 @@
 -- Slots, elements of packages, bytes and names that values are stored to (ACPI 6.5, 19.3.5.8 and 19.6: Index, Store).
 use Rattle.std.specs.Prelude.{◌≡◌, ◌≢◌, ◌<◌, ◌%◌, ℕ, suc, List, ◌∷◌, ◌++◌, length, slice_get, slice_set, Some}
+use Rattle.std.specs.FinMap.{insert}
 use Rattle.aml_path.specs.declared.segment.Seg.{Seg}
 use Rattle.aml_objects.specs.Objects.{Objects}
 use Rattle.aml_objects.specs.declared.entry.BufferField.{BufferField}
@@ -26,6 +27,7 @@ use Rattle.aml_meaning.specs.State.{State}
 use Rattle.aml_meaning.specs.Slots.{slot_in}
 use Rattle.aml_meaning.specs.Stores.{slot_put}
 use Rattle.aml_laws.specs.Copied.{IsCopy}
+use Rattle.aml_laws.specs.StoredNames.{data_entry}
 
 -- ---- copies
 
@@ -60,6 +62,20 @@ pub record ElementTakesCopy {S : Type 0} (before after : State S) (o i : ℕ) (e
   pub made : Objects
   pub copied : CopyMade before.objects v copy count made
   pub put : after ≡ record before { objects = slice_set (before.objects ++ made) o (object.Package (slice_set es i (element.Value copy))) }
+
+-- a name holds a copy then, under the number of its declaration: nothing but the objects that were made and this name is another
+pub record NameTakesCopy {S : Type 0} (before after : State S) (path : List Seg) (number : ℕ) (v : Value) (count : ℕ) : Type 0 where
+  pub copy : Value
+  pub made : Objects
+  pub copied : CopyMade before.objects v copy count made
+  pub put : after ≡ record before { names = record before.names { map = insert before.names.map path (data_entry number copy) }; objects = before.objects ++ made }
+
+-- a name that holds the first value takes the second one from a Store as it is: a package in place of one, and anything in place of a
+-- reference or of no value
+pub data TakesUnconverted : Value → Value → Type 0 where
+  for_package : (m o : ℕ) → TakesUnconverted (value.Package m) (value.Package o)
+  for_reference : (r : Reference) (v : Value) → TakesUnconverted (value.Reference r) v
+  for_no_value : (v : Value) → TakesUnconverted value.Uninitialized v
 
 -- ---- bytes
 

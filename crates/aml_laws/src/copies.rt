@@ -61,8 +61,8 @@ pub fn what_is_beyond_the_limits_is_not_copied()
 /// What CopyObject leaves in a name that held a value, and what Store and CopyObject leave in a local, is a copy of
 /// the value, as `a_copy_is_the_same_apart_from_its_source` says. The name keeps the number of its declaration. Nothing
 /// else of the world changes but that objects stand behind all that were there before, among them those of the copy.
-/// When it is done, and that the copy's objects are the only ones, `slots_take_copies` says. A store that keeps the very
-/// object of its source, and one that declares the name anew, are refused by this.
+/// When it is done, and that the copy's objects are the only ones, `names_take_copies` and `slots_take_copies` say. A
+/// store that keeps the very object of its source, and one that declares the name anew, are refused by this.
 pub fn what_is_stored_is_a_copy<S>()
     ensures named { (before after : State S) (path : List Seg) (v : Value) →
         copied_to (targets.Name path) v before ≡ (Ok store.Done, after) → NameHoldsCopy before after path v }

@@ -281,6 +281,7 @@ pub use stored_parts::a_byte_takes_the_first_byte_of_a_value;
 pub use stored_parts::a_store_to_no_target_changes_nothing;
 pub use stored_parts::an_argument_stands_for_what_it_refers_to;
 pub use stored_parts::elements_take_copies;
+pub use stored_parts::names_take_copies;
 pub use stored_parts::slots_take_copies;
 pub use stored_parts::what_holds_no_data_takes_no_conversion;
 pub use stores::a_store_converts_to_what_its_name_holds;

@@ -1,4 +1,4 @@
-//! Stores to no target, to slots, to parts of objects, and to names that hold a reference or nothing.
+//! Stores and copies to no target, to slots, to parts of objects, and to names that take copies.
 ghost use Rattle.std.specs.Prelude.{◌≡◌, ◌≢◌, ◌<◌, ◌≤◌, ◌+◌, ℕ, suc, List, [], length, slice_get, Some, Ok, Err};
 ghost use Rattle.std.specs.FinMap.{get};
 ghost use Rattle.ar_space.specs.declared.refusal.Refusal.{Refusal};
@@ -25,7 +25,8 @@ ghost use Rattle.aml_meaning.specs.declared.store_target.Stored.TheVariants as s
 ghost use Rattle.aml_laws.specs.Copyable.{IsCopyable};
 ghost use Rattle.aml_laws.specs.Limits.{IsLink};
 ghost use Rattle.aml_laws.specs.StoredNames.{data_entry, with_object_numbered};
-ghost use Rattle.aml_laws.specs.StoredParts.{ArgumentHolds, TakesCopies, SlotTakesCopy, ElementTakesCopy, GivesByte, ByteTaken, IsNoData, HoldsNothing};
+ghost use Rattle.aml_laws.specs.StoredParts.{ArgumentHolds, TakesCopies, SlotTakesCopy, ElementTakesCopy, NameTakesCopy};
+ghost use Rattle.aml_laws.specs.StoredParts.{TakesUnconverted, GivesByte, ByteTaken, IsNoData, HoldsNothing};
 
 /// A Store and a CopyObject to no target, and to Debug, are done and change nothing, whatever the value is: none is
 /// refused, and no copy is made (ACPI 6.5, 19.6: Debug, and 20.2.2: Target). So an operator without a target gives what
@@ -82,13 +83,37 @@ pub fn elements_take_copies<S>()
         stored (targets.Refers (reference.Element o i)) v w ≡ (Err e, w) }
 {}
 
-/// A Store to an argument of the control method that runs that holds a reference goes to what this refers to, as
-/// CopyObject through the reference does: to that very name, slot, element or byte, and to a name without conversion
-/// (ACPI 6.5, 19.3.5.8.1). So does CopyObject to the argument, and a Store through a reference to an argument that
-/// holds a reference, of any control method that hasn't ended yet. Where CopyObject through a reference goes
-/// `a_reference_to_a_name_finds_its_declaration` says of names, `a_reference_to_a_slot_reads_that_slot` of locals, and
-/// `at_most_64_references_are_followed` of arguments that hold references. An argument that is overwritten, and a Store
-/// that converts, are refused by this.
+/// A CopyObject to a name that holds a value is done for each value that can be copied, and leaves a copy there, under the
+/// number of the name's declaration: as many objects are made as the value has, and the copy shares none with anything
+/// that was there before. So is a Store of a package to a name that holds one, and each Store to a name that holds a
+/// reference or no value. Nothing else of the world changes. Where the value can't be copied, they are refused as its
+/// copy is, and nothing changes. That a CopyObject and a Store through a reference to the name go to the name
+/// `a_reference_to_a_name_finds_its_declaration` and `a_reference_refers_to_its_target` say. A CopyObject to a name that
+/// is refused, and one that makes an object too many, are refused by this.
+pub fn names_take_copies<S>()
+    ensures copied { (before : State S) (path : List Seg) (number : ℕ) (old v : Value) (count : ℕ) →
+        get before.names.map path ≡ Some (data_entry number old) → IsCopyable before.objects 64 count v →
+        length before.objects + count ≤ 262144 → (after : State S) ×
+        ((copied_to (targets.Name path) v before ≡ (Ok store.Done, after)) ×
+        NameTakesCopy before after path number v count) }
+    ensures stored { (before : State S) (path : List Seg) (number : ℕ) (old v : Value) (count : ℕ) →
+        get before.names.map path ≡ Some (data_entry number old) → TakesUnconverted old v →
+        IsCopyable before.objects 64 count v → length before.objects + count ≤ 262144 → (after : State S) ×
+        ((stored (targets.Name path) v before ≡ (Ok store.Done, after)) ×
+        NameTakesCopy before after path number v count) }
+    ensures refused { (w : State S) (path : List Seg) (number : ℕ) (old v : Value) (e : Refusal) →
+        get w.names.map path ≡ Some (data_entry number old) → (copied v w.objects).0 ≡ Err e →
+        (copied_to (targets.Name path) v w ≡ (Err e, w)) ×
+        (TakesUnconverted old v → stored (targets.Name path) v w ≡ (Err e, w)) }
+{}
+
+/// A Store to an argument of the control method that runs that holds a reference goes where CopyObject through this
+/// reference goes: to what it refers to, and to a name without conversion (ACPI 6.5, 19.3.5.8.1). So does CopyObject to
+/// the argument, and a Store through a reference to an argument that holds a reference, of any control method that
+/// hasn't ended yet. Where CopyObject through a reference goes `a_reference_to_a_name_finds_its_declaration` says of
+/// names, `slots_take_copies` of locals and of arguments that hold no reference, and
+/// `at_most_64_references_are_followed` of arguments that hold references. An argument that is
+/// overwritten, and a Store that converts, are refused by this.
 pub fn an_argument_stands_for_what_it_refers_to<S>()
     ensures stored { (w : State S) (i last : ℕ) (r : Reference) (v : Value) →
         ArgumentHolds w i last (value.Reference r) →
