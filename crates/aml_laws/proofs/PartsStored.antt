@@ -285,6 +285,20 @@ module _ {S : Type 0} (w : State S) (path : List Seg) (number : ℕ) (old v : Va
       let refused = name_refused w path number old v at e is in
       (copied_in_name w path number old v at ∙ refused, λ takes. stored_in_name w path number old v at takes ∙ refused)
 
+-- ---- CopyObject to slots and parts
+
+module _ {S : Type 0} (w : State S) where
+  pub slot_copied : (slot : Slot) (v : Value) → copied_to (targets.Slot slot) v w ≡ stored (targets.Slot slot) v w
+  slot_copied slot v = refl
+
+  pub element_copied : (o i : ℕ) (v : Value) → copied_to (targets.Refers (reference.Element o i)) v w ≡ stored (targets.Refers (reference.Element o i)) v w
+  unfolding stored_through
+  element_copied o i v = refl
+
+  pub byte_copied : (o i : ℕ) (v : Value) → copied_to (targets.Refers (reference.Byte o i)) v w ≡ stored (targets.Refers (reference.Byte o i)) v w
+  unfolding stored_through
+  byte_copied o i v = refl
+
 -- ---- no target
 
 pub nowhere_stored : {S : Type 0} (w : State S) (v : Value) → stored targets.Nowhere v w ≡ (Ok store.Done, w)

@@ -280,6 +280,7 @@ pub use store_terms::stores_and_copies_give_their_source;
 pub use stored_parts::a_byte_takes_the_first_byte_of_a_value;
 pub use stored_parts::a_store_to_no_target_changes_nothing;
 pub use stored_parts::an_argument_stands_for_what_it_refers_to;
+pub use stored_parts::copies_to_slots_and_parts_are_stores;
 pub use stored_parts::elements_take_copies;
 pub use stored_parts::names_take_copies;
 pub use stored_parts::slots_take_copies;

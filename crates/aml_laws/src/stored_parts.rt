@@ -107,12 +107,26 @@ pub fn names_take_copies<S>()
         (TakesUnconverted old v → stored (targets.Name path) v w ≡ (Err e, w)) }
 {}
 
+/// CopyObject to a local or an argument, and through a reference to an element of a package or to a byte of a string or
+/// of a buffer, does what a Store does there, whatever comes of it: `slots_take_copies`, `elements_take_copies` and
+/// `a_byte_takes_the_first_byte_of_a_value` say it of both. So an argument that holds a reference to an element or a byte
+/// takes what is stored to it there (`an_argument_stands_for_what_it_refers_to`). A CopyObject to an element or a byte
+/// that is refused as a dead reference is refused by this.
+pub fn copies_to_slots_and_parts_are_stores<S>()
+    ensures slot { (w : State S) (slot : Slot) (v : Value) →
+        copied_to (targets.Slot slot) v w ≡ stored (targets.Slot slot) v w }
+    ensures element { (w : State S) (o i : ℕ) (v : Value) →
+        copied_to (targets.Refers (reference.Element o i)) v w ≡ stored (targets.Refers (reference.Element o i)) v w }
+    ensures byte { (w : State S) (o i : ℕ) (v : Value) →
+        copied_to (targets.Refers (reference.Byte o i)) v w ≡ stored (targets.Refers (reference.Byte o i)) v w }
+{}
+
 /// A Store to an argument of the control method that runs that holds a reference goes where CopyObject through this
 /// reference goes: to what it refers to, and to a name without conversion (ACPI 6.5, 19.3.5.8.1). So does CopyObject to
 /// the argument, and a Store through a reference to an argument that holds a reference, of any control method that
 /// hasn't ended yet. Where CopyObject through a reference goes `a_reference_to_a_name_finds_its_declaration` says of
-/// names, `slots_take_copies` of locals and of arguments that hold no reference, and
-/// `at_most_64_references_are_followed` of arguments that hold references. An argument that is
+/// names, `slots_take_copies` of locals and of arguments that hold no reference, `copies_to_slots_and_parts_are_stores`
+/// of elements and bytes, and `at_most_64_references_are_followed` of arguments that hold references. An argument that is
 /// overwritten, and a Store that converts, are refused by this.
 pub fn an_argument_stands_for_what_it_refers_to<S>()
     ensures stored { (w : State S) (i last : ℕ) (r : Reference) (v : Value) →
