@@ -163,6 +163,7 @@ pub mod NotesKept
 pub mod NothingLeft
 pub mod NothingPassed
 pub mod ObjectTermsDone
+pub mod ObjectsAnswered
 pub mod ObjectsAsked
 pub mod OperandsRefused
 pub mod OperandsStop

@@ -40,7 +40,7 @@ use Rattle.aml_laws.proofs.ArgumentsInTurn.{takes_none}
 use Rattle.aml_laws.proofs.TreesCost.{term_begins}
 use Rattle.aml_laws.proofs.Counting.{slot_gives}
 
-given_as : (number : ℕ) (v r : Value) → IsGivenBy number v r → read_as number v ≡ r
+pub given_as : (number : ℕ) (v r : Value) → IsGivenBy number v r → read_as number v ≡ r
 given_as number _ _ (an_integer n) = refl
 given_as number _ _ (a_string o) = refl
 given_as number _ _ (a_buffer o) = refl

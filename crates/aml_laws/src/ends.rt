@@ -1,19 +1,24 @@
 //! What tables, answers and calls leave where they end.
-ghost use Rattle.std.specs.Prelude.{◌≡◌, ◌<◌, ◌+◌, ◌-◌, ◌^◌, ◌%◌, ◌∷◌, ◌++◌, [], ℕ, List, length, Ok, Err};
+ghost use Rattle.std.specs.Prelude.{◌≡◌, ◌≤◌, ◌<◌, ◌+◌, ◌-◌, ◌^◌, ◌%◌, ◌∷◌, ◌++◌, [], ℕ, List, length, take, Ok, Err};
 ghost use Rattle.ar_space.specs.Accesses.{Accesses};
 ghost use Rattle.ar_space.specs.Outcome.{Outcome};
 ghost use Rattle.ar_space.specs.declared.refusal.Refusal.{Refusal};
 ghost use Rattle.ar_space.specs.declared.refusal.Refusal.TheVariants as refusal;
-ghost use Rattle.ar_space.specs.declared.refusal.EvaluationFault.TheVariants.{ObjectLimit};
+ghost use Rattle.ar_space.specs.declared.refusal.EvaluationFault.TheVariants.{ArityChanged, ObjectLimit};
 ghost use Rattle.aml_path.specs.declared.segment.Seg.{Seg};
 ghost use Rattle.aml_grammar.specs.Tree.{Trees};
 ghost use Rattle.aml_objects.specs.declared.entry.Entry.{Entry};
+ghost use Rattle.aml_objects.specs.declared.entry.Field.{Field};
 ghost use Rattle.aml_objects.specs.declared.entry.Method.{Method};
 ghost use Rattle.aml_objects.specs.declared.entry.NamedObject.TheVariants as named;
+ghost use Rattle.aml_objects.specs.declared.object.Object.TheVariants as object;
 ghost use Rattle.aml_objects.specs.declared.value.Value.{Value};
+ghost use Rattle.aml_objects.specs.declared.value.Value.TheVariants as value;
+ghost use Rattle.aml_convert.specs.Integers.{bits_of, bytes_of};
 ghost use Rattle.aml_namespace.specs.Search.{found};
 ghost use Rattle.aml_meaning.specs.Calling.{table_terms, loaded, called, evaluated, answer_exported, answered};
 ghost use Rattle.aml_meaning.specs.Exporting.{exported};
+ghost use Rattle.aml_meaning.specs.Given as given;
 ghost use Rattle.aml_meaning.specs.Given.{Given};
 ghost use Rattle.aml_meaning.specs.Importing.{imported};
 ghost use Rattle.aml_meaning.specs.Invocations.{body_terms, invoked, method_value};
@@ -21,9 +26,14 @@ ghost use Rattle.aml_meaning.specs.Meaning.{meaning};
 ghost use Rattle.aml_meaning.specs.State.{State};
 ghost use Rattle.aml_meaning.specs.Tasks.{in_turn};
 ghost use Rattle.aml_laws.specs.Calls.{body_frame};
-ghost use Rattle.aml_laws.specs.CallTerms.{method_entry, HandedInTurn};
+ghost use Rattle.aml_laws.specs.CallTerms.{method_entry, IsNoMethod, HandedInTurn};
 ghost use Rattle.aml_laws.specs.Ends.{EndsAs, IsCallLeft, TableEnds};
+ghost use Rattle.aml_laws.specs.FieldNames.{NamesField, bits_read_at};
+ghost use Rattle.aml_laws.specs.IntegersOfValues.{lowest_first};
+ghost use Rattle.aml_laws.specs.JoinedTerms.{with_object, Fits};
+ghost use Rattle.aml_laws.specs.NamesUsed.{IsGivenBy};
 ghost use Rattle.aml_laws.specs.NamesWritten.{from_root};
+ghost use Rattle.aml_laws.specs.StoredNames.{data_entry};
 
 /// A table whose terms are read comes to what they come to, evaluated in turn at the root and in a frame of their own,
 /// whose slots hold nothing, and leaves the world that they left, whether it succeeds or is refused: only this frame
@@ -43,9 +53,10 @@ pub fn a_table_leaves_what_its_terms_left<S>()
 /// the world is the one that this left, whether it succeeds or is refused: a value is told with the steps that are
 /// left, and where an answer ends, all mutexes are free. So the value of a control method is what it gives, called
 /// with these arguments, and what it answers is this value handed out, or the refusal of either. Of an object that is
-/// no control method this says only that its answer ends as its evaluation does; where none is found at its path
-/// `a_name_that_is_not_found_is_refused` says it. One that succeeds and leaves nothing behind, and one that has a step
-/// less than it was given, are refused by this.
+/// no control method this says only that its answer ends as its evaluation does; what that is
+/// `an_object_that_is_no_control_method_answers_what_it_holds` says, and of a path where none is found
+/// `a_name_that_is_not_found_is_refused`. One that succeeds and leaves nothing behind, and one that has a step less than
+/// it was given, are refused by this.
 pub fn an_answer_leaves_what_its_evaluation_left<S>()
     ensures value { (accesses : Accesses S) (p : List Seg) (vs : List Value) (w after : State S) (steps rest : ℕ)
         (v : Value) → called accesses p vs (w, steps) ≡ (Ok v, (after, rest)) →
@@ -72,6 +83,54 @@ pub fn an_answer_leaves_what_its_evaluation_left<S>()
         (vs : List Value) (inside : State S) (end : State S × ℕ) (e : Refusal) → HandedInTurn gs w vs inside →
         method_value (meaning accesses) 0 path body vs (inside, steps) ≡ (Err e, end) →
         EndsAs (Err e, end) (answered accesses p gs steps w) }
+{}
+
+/// An object that is no control method takes no arguments: with any it is refused as `ArityChanged`, before anything is
+/// handed in. A name that holds an integer, a string, a buffer or a package has this as its value, and one that holds a
+/// reference a reference to itself; it takes no step and changes nothing, and what it answers is this value handed out.
+/// A field is read, as inside one call: its bits are an integer where they are no more than an integer has, else they
+/// are a new buffer, and bytes where they are handed out, of which no object is made. What refuses the field refuses
+/// both. A name whose value is lost, a field that is read as outside of calls, and arguments that are passed over are
+/// refused by this.
+pub fn an_object_that_is_no_control_method_answers_what_it_holds<S>()
+    ensures value { (accesses : Accesses S) (p : List Seg) (w : State S) (steps : ℕ) (path : List Seg) (number : ℕ)
+        (v r : Value) → found w.names.map [] (from_root p) ≡ Ok (path, data_entry number v) → IsGivenBy number v r →
+        called accesses p [] (w, steps) ≡ (Ok r, (w, steps)) }
+    ensures answer { (accesses : Accesses S) (p : List Seg) (w : State S) (steps : ℕ) (path : List Seg) (number : ℕ)
+        (v r : Value) (out : Outcome Given) (end : State S × ℕ) →
+        found w.names.map [] (from_root p) ≡ Ok (path, data_entry number v) → IsGivenBy number v r →
+        exported accesses r (w, steps) ≡ (out, end) → EndsAs (out, end) (answered accesses p [] steps w) }
+    ensures integer { (accesses : Accesses S) (p : List Seg) (w : State S) (steps : ℕ) (f : Field) (bits : ℕ) →
+        NamesField w [] (from_root p) f bits → (b : ℕ) (bytes : List ℕ) (after : State S × ℕ) →
+        bits_read_at accesses 1 f (w, steps) ≡ (Ok (b ∷ bytes), after) → bits ≤ bits_of after.0.width →
+        (called accesses p [] (w, steps) ≡
+        (Ok (value.Integer (lowest_first (take (bytes_of after.0.width) (b ∷ bytes)))), after)) ×
+        EndsAs (Ok (given.Integer (lowest_first (take (bytes_of after.0.width) (b ∷ bytes)))), after)
+        (answered accesses p [] steps w) }
+    ensures buffer { (accesses : Accesses S) (p : List Seg) (w : State S) (steps : ℕ) (f : Field) (bits : ℕ) →
+        NamesField w [] (from_root p) f bits → (bytes : List ℕ) (after : State S × ℕ) →
+        bits_read_at accesses 1 f (w, steps) ≡ (Ok bytes, after) → bits_of after.0.width < bits → Fits after.0 bytes →
+        called accesses p [] (w, steps) ≡ (
+          Ok (value.Buffer (length after.0.objects)),
+          (
+            with_object after.0 (object.Buffer bytes),
+            after.1,
+          ),
+        ) }
+    ensures bytes { (accesses : Accesses S) (p : List Seg) (w : State S) (steps : ℕ) (f : Field) (bits : ℕ) →
+        NamesField w [] (from_root p) f bits → (bytes : List ℕ) (after : State S × ℕ) →
+        bits_read_at accesses 1 f (w, steps) ≡ (Ok bytes, after) → bits_of after.0.width < bits →
+        EndsAs (Ok (given.Bytes bytes), after) (answered accesses p [] steps w) }
+    ensures refused { (accesses : Accesses S) (p : List Seg) (w : State S) (steps : ℕ) (f : Field) (bits : ℕ) →
+        NamesField w [] (from_root p) f bits → (e : Refusal) (after : State S × ℕ) →
+        bits_read_at accesses 1 f (w, steps) ≡ (Err e, after) →
+        (called accesses p [] (w, steps) ≡ (Err e, after)) ×
+        EndsAs (Err e, after) (answered accesses p [] steps w) }
+    ensures arguments { (accesses : Accesses S) (p : List Seg) (w : State S) (steps : ℕ) (path : List Seg)
+        (e : Entry) → found w.names.map [] (from_root p) ≡ Ok (path, e) → IsNoMethod e.object → (v : Value)
+        (vs : List Value) (g : Given) (gs : List Given) →
+        (called accesses p (v ∷ vs) (w, steps) ≡ (Err (refusal.Evaluation ArityChanged), (w, steps))) ×
+        EndsAs (Err (refusal.Evaluation ArityChanged), (w, steps)) (answered accesses p (g ∷ gs) steps w) }
 {}
 
 /// The first argument that can't be handed in refuses the call, and nothing is evaluated: the world is the one that

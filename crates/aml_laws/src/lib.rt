@@ -129,6 +129,7 @@ pub use dereferences::references_without_an_end_are_dead;
 pub use dereferences::sizes_and_types_are_refused_as_searches_are;
 pub use ends::a_table_leaves_what_its_terms_left;
 pub use ends::an_answer_leaves_what_its_evaluation_left;
+pub use ends::an_object_that_is_no_control_method_answers_what_it_holds;
 pub use ends::the_end_of_a_call_takes_its_frame_and_names_away;
 pub use ends::the_first_argument_that_is_refused_refuses_the_call;
 pub use events::a_wait_takes_a_signal;
