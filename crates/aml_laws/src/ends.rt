@@ -51,12 +51,12 @@ pub fn a_table_leaves_what_its_terms_left<S>()
 
 /// The value of an object, and what it answers to a caller, is what its evaluation comes to with the same steps, and
 /// the world is the one that this left, whether it succeeds or is refused: a value is told with the steps that are
-/// left, and where an answer ends, all mutexes are free. So the value of a control method is what it gives, called
-/// with these arguments, and what it answers is this value handed out, or the refusal of either. Of an object that is
-/// no control method this says only that its answer ends as its evaluation does; what that is
+/// left, and where an answer ends, all mutexes are free. So the value of a control method is what it gives, called with
+/// these arguments, and what it answers is this value handed out, or the refusal of either. Of an object that is no
+/// control method this says only that its answer ends as its evaluation does; what that is
 /// `an_object_that_is_no_control_method_answers_what_it_holds` says, and of a path where none is found
-/// `a_name_that_is_not_found_is_refused`. One that succeeds and leaves nothing behind, and one that has a step less than
-/// it was given, are refused by this.
+/// `a_name_that_is_not_found_is_refused`. One that succeeds and leaves nothing behind, and one that has a step less
+/// than it was given, are refused by this.
 pub fn an_answer_leaves_what_its_evaluation_left<S>()
     ensures value { (accesses : Accesses S) (p : List Seg) (vs : List Value) (w after : State S) (steps rest : ℕ)
         (v : Value) → called accesses p vs (w, steps) ≡ (Ok v, (after, rest)) →
@@ -136,8 +136,8 @@ pub fn an_object_that_is_no_control_method_answers_what_it_holds<S>()
 /// The first argument that can't be handed in refuses the call, and nothing is evaluated: the world is the one that
 /// this argument left, in which all mutexes are free. It is looked at where the control method takes as many arguments
 /// as there are. Which can't be handed in `a_reference_without_a_path_is_not_handed_in`,
-/// `a_path_is_handed_in_as_a_reference_to_what_it_finds` and the laws of limits say. One that is handed in as nothing is
-/// refused by this.
+/// `a_path_is_handed_in_as_a_reference_to_what_it_finds` and the laws of limits say. One that is handed in as nothing
+/// is refused by this.
 pub fn the_first_argument_that_is_refused_refuses_the_call<S>()
     ensures { (accesses : Accesses S) (p path : List Seg) (front others : List Given) (g : Given) (w : State S)
         (entry : Entry) (m : Method) (steps : ℕ) → found w.names.map [] (from_root p) ≡ Ok (path, entry) →

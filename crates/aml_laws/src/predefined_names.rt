@@ -28,8 +28,8 @@ pub fn predefined_names_stand<S>()
 {}
 
 /// Before any table is loaded nothing stands but the root, which is a scope, and the names of which
-/// `predefined_names_stand` tells. No other path takes a number of arguments, and no frame stands. So a table may declare
-/// any other name. A name too many is refused by this, and so is one that takes arguments before it stands.
+/// `predefined_names_stand` tells. No other path takes a number of arguments, and no frame stands. So a table may
+/// declare any other name. A name too many is refused by this, and so is one that takes arguments before it stands.
 pub fn nothing_else_stands_before_any_table<S>()
     ensures names { (settings : EvaluationSettings) (width : IntegerWidth) (osi : List (List ℕ)) (space : S)
         (w : State S) → predefined (fresh_as settings width osi space) ≡ (Ok tt, w) → (path : List Seg) (e : Entry) →
