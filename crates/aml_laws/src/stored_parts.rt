@@ -30,8 +30,8 @@ ghost use Rattle.aml_laws.specs.StoredParts.{TakesUnconverted, GivesByte, ByteTa
 
 /// A Store and a CopyObject to no target, and to Debug, are done and change nothing, whatever the value is: none is
 /// refused, and no copy is made (ACPI 6.5, 19.6: Debug, and 20.2.2: Target). So an operator without a target gives what
-/// it formed, and costs no object more. A store to Debug that refuses strings, and one that makes an object, are refused
-/// by this.
+/// it formed, and costs no object more. A store to Debug that refuses strings, and one that makes an object, are
+/// refused by this.
 pub fn a_store_to_no_target_changes_nothing<S>()
     ensures stored { (w : State S) (v : Value) → stored targets.Nowhere v w ≡ (Ok store.Done, w) }
     ensures copied { (w : State S) (v : Value) → copied_to targets.Nowhere v w ≡ (Ok store.Done, w) }
@@ -40,11 +40,11 @@ pub fn a_store_to_no_target_changes_nothing<S>()
 /// A Store and a CopyObject to a local, and to an argument that holds no reference, of the control method that runs are
 /// done for each value that can be copied (`what_is_within_the_limits_is_copied`), and leave a copy in that very slot:
 /// as many objects are made as the value has, and the copy shares none with anything that was there before. So it is
-/// through a reference to such a slot of any control method that hasn't ended: it is the slot of that one that takes the
-/// copy, also where it is a caller. Nothing else of the world changes (`a_store_changes_its_slot_alone`). Where the value
-/// can't be copied, they are refused as its copy is, and nothing changes. A Store to a local that is refused, one to an
-/// argument that does nothing, and one through a reference to a local of the caller that changes a local of the control
-/// method that runs, are refused by this.
+/// through a reference to such a slot of any control method that hasn't ended: it is the slot of that one that takes
+/// the copy, also where it is a caller. Nothing else of the world changes (`a_store_changes_its_slot_alone`). Where the
+/// value can't be copied, they are refused as its copy is, and nothing changes. A Store to a local that is refused, one
+/// to an argument that does nothing, and one through a reference to a local of the caller that changes a local of the
+/// control method that runs, are refused by this.
 pub fn slots_take_copies<S>()
     ensures latest { (before : State S) (last : ℕ) (f : Frame) (slot : Slot) (v : Value) (count : ℕ) →
         length before.frames ≡ suc last → slice_get before.frames last ≡ Some f → TakesCopies f slot →
@@ -70,8 +70,8 @@ pub fn slots_take_copies<S>()
 
 /// A Store to an element of a package takes a copy of each value that can be copied, of as many objects as the value
 /// has, which shares none with anything that was there before; nothing else of the world changes. Where the value can't
-/// be copied, it is refused as its copy is, and nothing changes. A Store that does nothing, and one that shares a string,
-/// a buffer or a package, are refused by this.
+/// be copied, it is refused as its copy is, and nothing changes. A Store that does nothing, and one that shares a
+/// string, a buffer or a package, are refused by this.
 pub fn elements_take_copies<S>()
     ensures part { (before : State S) (o i : ℕ) (es : List Element) →
         slice_get before.objects o ≡ Some (object.Package es) → i < length es → (v : Value) (count : ℕ) →
@@ -83,13 +83,13 @@ pub fn elements_take_copies<S>()
         stored (targets.Refers (reference.Element o i)) v w ≡ (Err e, w) }
 {}
 
-/// A CopyObject to a name that holds a value is done for each value that can be copied, and leaves a copy there, under the
-/// number of the name's declaration: as many objects are made as the value has, and the copy shares none with anything
-/// that was there before. So is a Store of a package to a name that holds one, and each Store to a name that holds a
-/// reference or no value. Nothing else of the world changes. Where the value can't be copied, they are refused as its
-/// copy is, and nothing changes. That a CopyObject and a Store through a reference to the name go to the name
-/// `a_reference_to_a_name_finds_its_declaration` and `a_reference_refers_to_its_target` say. A CopyObject to a name that
-/// is refused, and one that makes an object too many, are refused by this.
+/// A CopyObject to a name that holds a value is done for each value that can be copied, and leaves a copy there, under
+/// the number of the name's declaration: as many objects are made as the value has, and the copy shares none with
+/// anything that was there before. So is a Store of a package to a name that holds one, and each Store to a name that
+/// holds a reference or no value. Nothing else of the world changes. Where the value can't be copied, they are refused
+/// as its copy is, and nothing changes. That a CopyObject and a Store through a reference to the name go to the name
+/// `a_reference_to_a_name_finds_its_declaration` and `a_reference_refers_to_its_target` say. A CopyObject to a name
+/// that is refused, and one that makes an object too many, are refused by this.
 pub fn names_take_copies<S>()
     ensures copied { (before : State S) (path : List Seg) (number : ℕ) (old v : Value) (count : ℕ) →
         get before.names.map path ≡ Some (data_entry number old) → IsCopyable before.objects 64 count v →
@@ -109,9 +109,9 @@ pub fn names_take_copies<S>()
 
 /// CopyObject to a local or an argument, and through a reference to an element of a package or to a byte of a string or
 /// of a buffer, does what a Store does there, whatever comes of it: `slots_take_copies`, `elements_take_copies` and
-/// `a_byte_takes_the_first_byte_of_a_value` say it of both. So an argument that holds a reference to an element or a byte
-/// takes what is stored to it there (`an_argument_stands_for_what_it_refers_to`). A CopyObject to an element or a byte
-/// that is refused as a dead reference is refused by this.
+/// `a_byte_takes_the_first_byte_of_a_value` say it of both. So an argument that holds a reference to an element or a
+/// byte takes what is stored to it there (`an_argument_stands_for_what_it_refers_to`). A CopyObject to an element or a
+/// byte that is refused as a dead reference is refused by this.
 pub fn copies_to_slots_and_parts_are_stores<S>()
     ensures slot { (w : State S) (slot : Slot) (v : Value) →
         copied_to (targets.Slot slot) v w ≡ stored (targets.Slot slot) v w }
@@ -126,8 +126,8 @@ pub fn copies_to_slots_and_parts_are_stores<S>()
 /// the argument, and a Store through a reference to an argument that holds a reference, of any control method that
 /// hasn't ended yet. Where CopyObject through a reference goes `a_reference_to_a_name_finds_its_declaration` says of
 /// names, `slots_take_copies` of locals and of arguments that hold no reference, `copies_to_slots_and_parts_are_stores`
-/// of elements and bytes, and `at_most_64_references_are_followed` of arguments that hold references. An argument that is
-/// overwritten, and a Store that converts, are refused by this.
+/// of elements and bytes, and `at_most_64_references_are_followed` of arguments that hold references. An argument that
+/// is overwritten, and a Store that converts, are refused by this.
 pub fn an_argument_stands_for_what_it_refers_to<S>()
     ensures stored { (w : State S) (i last : ℕ) (r : Reference) (v : Value) →
         ArgumentHolds w i last (value.Reference r) →

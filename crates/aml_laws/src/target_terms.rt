@@ -30,8 +30,8 @@ ghost use Rattle.aml_laws.specs.PutIntoTargets.{PutsBy, PutsWhatItGives, IsTaken
 /// Target). Where a field stands, as a name finds it or a reference refers to it, the value is converted to bytes, and
 /// these are written as its bits. This is said of each term that gives a value without a target, and its value is that
 /// one: what no target takes `a_store_to_no_target_changes_nothing` says. Where the target isn't found or doesn't take
-/// the value, or its field can't be written, the term is refused so. A term that stores nothing through a reference, one
-/// that writes no field that is reached so, and one that is done where its target refuses, are refused by this.
+/// the value, or its field can't be written, the term is refused so. A term that stores nothing through a reference,
+/// one that writes no field that is reached so, and one that is done where its target refuses, are refused by this.
 pub fn a_term_puts_what_it_gives_into_its_target<S>()
     ensures { (put : StoreTarget → Value → Change (State S) Stored) (t : Part → Tree) → PutsBy put t →
         PutsWhatItGives S put t }
