@@ -9,7 +9,6 @@ use Rattle.ar_space.specs.Outcome.{Outcome}
 use Rattle.ar_space.specs.Change.{Change, settle, go_on, ◌>>=◌}
 use Rattle.aml_path.specs.declared.segment.Seg.{Seg}
 use Rattle.aml_objects.specs.declared.entry.Bank.{Bank}
-use Rattle.aml_objects.specs.declared.entry.FieldSource.TheVariants as sources
 use Rattle.aml_objects.specs.declared.entry.FieldUnit.{FieldUnit}
 use Rattle.aml_objects.specs.declared.entry.UpdateRule.{UpdateRule}
 use Rattle.aml_objects.specs.declared.entry.UpdateRule.TheVariants.{Preserve, WriteAsOnes, WriteAsZeros}
@@ -18,13 +17,13 @@ use Rattle.aml_fields.specs.declared.field_units.Unit.{Unit as Access}
 use Rattle.aml_fields.specs.Units.{units_of}
 use Rattle.aml_fields.specs.UnitByUnit.{kept_by, kept, bits_read, write_units}
 use Rattle.aml_fields.specs.Regions.{read_unit, write_access, write_whole}
-use Rattle.aml_meaning.specs.PlainRegions.{IsPlainRegion}
 use Rattle.aml_meaning.specs.Regions.{bank_held}
 use Rattle.aml_meaning.specs.State.{State, on_space}
 use Rattle.aml_meaning.specs.Run.{Run, lift}
 use Rattle.aml_meaning.specs.Fields.{unit_bytes, region_written, bank_selected, bank_unit, bank_unit_written, bank_bits, bank_written}
 use Rattle.aml_laws.specs.IndexRegisters.{Register, IsRegister}
 use Rattle.aml_laws.specs.BankRegisters.{selected_and_read, selected_and_written}
+use Rattle.aml_laws.specs.PlainRegions.{IsPlainRegion}
 use Rattle.aml_laws.proofs.IndexedFields.{Over, with_space, over, then_over, space_over, bits_read_over, write_units_over, located_over, declared_over, chosen_over}
 
 -- a register as wide as this holds the value
@@ -46,7 +45,7 @@ module _ {S : Type 0} (w : State S) (steps : ℕ) where
   unfolding kept
   kept_over f u m k h = kept_or_over f.update (u.count == bit_count f.access) m k h
 
-module _ {S : Type 0} (w : State S) (steps : ℕ) (accesses : Accesses S) (call : List Seg → Run S ℕ) (n : ℕ) (b : Bank) (register : Register) (region : Region) (is : IsRegister w b.field register) (plain : IsPlainRegion w (sources.Region n) region) (fits : b.value < 2 ^ bit_count register.width) where
+module _ {S : Type 0} (w : State S) (steps : ℕ) (accesses : Accesses S) (call : List Seg → Run S ℕ) (n : ℕ) (b : Bank) (register : Register) (region : Region) (is : IsRegister w b.field register) (plain : IsPlainRegion w n region) (fits : b.value < 2 ^ bit_count register.width) where
   selected_over : Over w steps (bank_selected accesses call is.field b.value) (write_access accesses register.at register.width b.value)
   unfolding bank_selected settle ◌>>=◌ go_on
   selected_over = record {

@@ -11,7 +11,6 @@ use Rattle.ar_space.specs.Outcome.{Outcome}
 use Rattle.ar_space.specs.Change.{Change, settle, go_on, ◌>>=◌}
 use Rattle.aml_path.specs.declared.segment.Seg.{Seg}
 use Rattle.aml_objects.specs.declared.entry.Bank.{Bank}
-use Rattle.aml_objects.specs.declared.entry.FieldSource.TheVariants as sources
 use Rattle.aml_objects.specs.declared.entry.FieldUnit.{FieldUnit}
 use Rattle.aml_objects.specs.declared.entry.UpdateRule.{UpdateRule}
 use Rattle.aml_objects.specs.declared.entry.UpdateRule.TheVariants.{Preserve, WriteAsOnes, WriteAsZeros}
@@ -23,15 +22,15 @@ use Rattle.aml_fields.specs.UnitByUnit.{kept_by, kept, read_units, bits_read, wr
 use Rattle.aml_fields.specs.Regions.{read_unit, write_field, write_whole}
 use Rattle.aml_fields.proofs.Covers.{units_cover}
 use Rattle.aml_meaning.specs.declared.regions.RegionField.{RegionField}
-use Rattle.aml_meaning.specs.PlainRegions.{IsPlainRegion}
 use Rattle.aml_meaning.specs.Regions.{bank_held, field_declared}
 use Rattle.aml_meaning.specs.StoreTargets.{declaration}
 use Rattle.aml_meaning.specs.State.{State, on_space}
 use Rattle.aml_meaning.specs.Run.{Run, lift}
 use Rattle.aml_meaning.specs.Fields.{unit_bytes, located, region_written, bank_selected, bank_unit, bank_unit_written, bank_bits, bank_written}
 use Rattle.aml_laws.specs.BankFields.{IsFieldUnit, eight_bytes, read_in_its_bank, written_in_its_bank}
+use Rattle.aml_laws.specs.PlainRegions.{IsPlainRegion}
 use Rattle.aml_laws.proofs.BankedFields.{kept_over}
-use Rattle.aml_laws.proofs.IndexedFields.{Over, with_space, then_over, space_over, bits_read_over, write_units_over, located_over, located_is}
+use Rattle.aml_laws.proofs.IndexedFields.{Over, with_space, then_over, space_over, bits_read_over, write_units_over, located_over, located_is, unit_found}
 
 -- ---- a bank field is written
 
@@ -49,7 +48,7 @@ value_held bank value fits = held (nat_lt value (2 ^ bank.unit.bits)) _ (lt-ltb 
 value_not_held : (bank : RegionField) (value : ℕ) → 2 ^ bank.unit.bits ≤ value → bank_held bank value ≡ Err (refusal.Field RegionLimit)
 value_not_held bank value large = not_held (nat_lt value (2 ^ bank.unit.bits)) _ (le-ltb value (2 ^ bank.unit.bits) large)
 
-module _ {S : Type 0} (w : State S) (steps : ℕ) (accesses : Accesses S) (call : List Seg → Run S ℕ) (bank : RegionField) (value : ℕ) (at : Region) (plain : IsPlainRegion w (sources.Region bank.region) at) (fits : value < 2 ^ bank.unit.bits) where
+module _ {S : Type 0} (w : State S) (steps : ℕ) (accesses : Accesses S) (call : List Seg → Run S ℕ) (bank : RegionField) (value : ℕ) (at : Region) (plain : IsPlainRegion w bank.region at) (fits : value < 2 ^ bank.unit.bits) where
   selected_over : Over w steps (bank_selected accesses call bank value) (write_field accesses at bank.unit (eight_bytes value))
   unfolding bank_selected region_written settle ◌>>=◌ go_on
   selected_over = record {
@@ -78,9 +77,9 @@ module _ {S : Type 0} (w : State S) (steps : ℕ) (accesses : Accesses S) (call 
 module _ {S : Type 0} (w : State S) (steps : ℕ) (accesses : Accesses S) (call : List Seg → Run S ℕ) (n : ℕ) (b : Bank) (bank : RegionField) (is : IsFieldUnit w b.field bank) where
   declared_over : {A : Type 0} (m : RegionField → Run S A) (k : Change S A) → Over w steps (m bank) k → Over w steps (lift (field_declared b.field) >>= m) k
   unfolding field_declared declaration lift settle ◌>>=◌ go_on
-  declared_over m k h = record { over_is = λ s. rw (is.stands, is.declared) (h.over_is s) }
+  declared_over m k h = let found = unit_found is.entry.1.object bank is.declared is.source in record { over_is = λ s. rw (is.stands, found) (h.over_is s) }
 
-  module _ (at region : Region) (lies : IsPlainRegion w (sources.Region bank.region) at) (plain : IsPlainRegion w (sources.Region n) region) (fits : b.value < 2 ^ bank.unit.bits) where
+  module _ (at region : Region) (lies : IsPlainRegion w bank.region at) (plain : IsPlainRegion w n region) (fits : b.value < 2 ^ bank.unit.bits) where
     pub read_in_any_bank : (f : FieldUnit) → bank_bits accesses call n b f (w, steps) ≡ lift (on_space (bits_read (read_in_its_bank accesses at bank.unit b.value region f.access) f)) (w, steps)
     unfolding bank_bits lift on_space
     read_in_any_bank f = (declared_over _ _ (located_over w steps accesses call n region _ _ plain (bits_read_over w steps _ _ (unit_read_over w steps accesses call bank b.value at lies fits region f.access) f))).over_is w.space
@@ -137,12 +136,12 @@ module _ {S : Type 0} (accesses : Accesses S) (call : List Seg → Run S ℕ) (n
   -- once the bank field is found
   pub read_where : (f : FieldUnit) (region : Outcome Region) (after : State S × ℕ) → located accesses call n s ≡ (region, after) → bank_bits accesses call n b f s ≡ go_on region after (λ r. bits_read (bank_unit accesses call bank b.value r f.access) f)
   unfolding bank_bits field_declared declaration lift settle ◌>>=◌ go_on
-  read_where f region after there = rw (is.stands, is.declared, there) refl
+  read_where f region after there = rw (is.stands, is.declared, is.source, there) refl
 
   pub written_where : (f : FieldUnit) (bytes : List ℕ) (region : Outcome Region) (after : State S × ℕ) → located accesses call n s ≡ (region, after)
       → bank_written accesses call n b f bytes s ≡ go_on region after (λ r. write_units (bank_unit_written accesses call bank b.value r f bytes) (units_of f.bit_offset f.bits f.access))
   unfolding bank_written field_declared declaration lift settle ◌>>=◌ go_on
-  written_where f bytes region after there = rw (is.stands, is.declared, there) refl
+  written_where f bytes region after there = rw (is.stands, is.declared, is.source, there) refl
 
   -- the region isn't located
   pub nowhere_read : (after : State S × ℕ) (e : Refusal) → located accesses call n s ≡ (Err e, after) → (f : FieldUnit) → bank_bits accesses call n b f s ≡ (Err e, after)
@@ -164,7 +163,7 @@ module _ {S : Type 0} (accesses : Accesses S) (call : List Seg → Run S ℕ) (n
     large_written bytes = written_where f bytes (Ok region) after there ∙ write_refused after _ _ (λ u. unit_write_refused accesses call bank b.value large after region f bytes u) f some
 
 -- in a region of SystemMemory or SystemIO
-module _ {S : Type 0} (w : State S) (steps : ℕ) (accesses : Accesses S) (call : List Seg → Run S ℕ) (n : ℕ) (b : Bank) (bank : RegionField) (region : Region) (is : IsFieldUnit w b.field bank) (plain : IsPlainRegion w (sources.Region n) region) (large : 2 ^ bank.unit.bits ≤ b.value) (f : FieldUnit) (some : 0 < f.bits) where
+module _ {S : Type 0} (w : State S) (steps : ℕ) (accesses : Accesses S) (call : List Seg → Run S ℕ) (n : ℕ) (b : Bank) (bank : RegionField) (region : Region) (is : IsFieldUnit w b.field bank) (plain : IsPlainRegion w n region) (large : 2 ^ bank.unit.bits ≤ b.value) (f : FieldUnit) (some : 0 < f.bits) where
   pub too_large_read : bank_bits accesses call n b f (w, steps) ≡ (Err (refusal.Field RegionLimit), (w, steps))
   too_large_read = large_read accesses call n b bank (w, steps) is (w, steps) region (located_is accesses call w steps n region plain) large f some
 

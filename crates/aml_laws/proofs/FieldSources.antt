@@ -6,17 +6,19 @@ use Rattle.ar_space.specs.Change.{go_on, ◌>>=◌}
 use Rattle.ar_space.specs.declared.refusal.Refusal.{Refusal}
 use Rattle.aml_path.specs.declared.segment.Seg.{Seg}
 use Rattle.aml_objects.specs.declared.entry.Bank.{Bank}
+use Rattle.aml_objects.specs.declared.entry.BufferField.{BufferField}
 use Rattle.aml_objects.specs.declared.entry.Field.TheVariants as field
 use Rattle.aml_objects.specs.declared.entry.FieldSource.{FieldSource}
 use Rattle.aml_objects.specs.declared.entry.FieldSource.TheVariants as sources
 use Rattle.aml_objects.specs.declared.entry.FieldUnit.{FieldUnit}
 use Rattle.aml_fields.specs.declared.region.Region.{Region}
+use Rattle.aml_fields.specs.BufferFields.{read_buffer_field, write_buffer_field}
 use Rattle.aml_fields.specs.Regions.{read_field, write_field}
-use Rattle.aml_meaning.specs.PlainRegions.{IsPlainRegion}
 use Rattle.aml_meaning.specs.Regions.{field_declared}
-use Rattle.aml_meaning.specs.State.{State, on_space}
+use Rattle.aml_meaning.specs.State.{State, on_objects, on_space}
 use Rattle.aml_meaning.specs.Run.{Run, lift}
 use Rattle.aml_meaning.specs.Fields.{bits_in, written_in, located, field_unit_bits, field_unit_written, region_bits, region_written, index_bits, index_written, bank_bits, bank_written}
+use Rattle.aml_laws.specs.PlainRegions.{IsPlainRegion}
 use Rattle.aml_laws.proofs.IndexedFields.{located_is}
 
 module _ {S : Type 0} (accesses : Accesses S) (call : List Seg → Run S ℕ) (f : FieldUnit) where
@@ -40,6 +42,11 @@ module _ {S : Type 0} (accesses : Accesses S) (call : List Seg → Run S ℕ) (f
   unfolding bank_written ◌>>=◌ go_on
   bank_gone_written n bank bytes s e h = rw h refl
 
+-- a field of a buffer: bits of the buffer
+module _ {S : Type 0} (accesses : Accesses S) (call : List Seg → Run S ℕ) (b : BufferField) where
+  pub in_buffer : (bits_in accesses call (field.Buffer b) ≡ lift (on_objects (read_buffer_field b))) × ((bytes : List ℕ) → written_in accesses call (field.Buffer b) bytes ≡ lift (on_objects (write_buffer_field b bytes)))
+  in_buffer = (refl, λ bytes. refl)
+
 -- ---- in a region, where it is located
 
 module _ {S : Type 0} (accesses : Accesses S) (call : List Seg → Run S ℕ) (f : FieldUnit) (n : ℕ) (source : f.source ≡ sources.Region n) (s after : State S × ℕ) where
@@ -59,13 +66,13 @@ module _ {S : Type 0} (accesses : Accesses S) (call : List Seg → Run S ℕ) (f
   unfolding region_written ◌>>=◌ go_on
   nowhere_written e bytes is = ap (λ m. m s) ((in_region accesses call f n source).1 bytes) ∙ rw is refl
 
-module _ {S : Type 0} (accesses : Accesses S) (call : List Seg → Run S ℕ) (f : FieldUnit) (n : ℕ) (w : State S) (steps : ℕ) (region : Region) (plain : IsPlainRegion w (sources.Region n) region) (source : f.source ≡ sources.Region n) where
+module _ {S : Type 0} (accesses : Accesses S) (call : List Seg → Run S ℕ) (f : FieldUnit) (n : ℕ) (w : State S) (steps : ℕ) (region : Region) (plain : IsPlainRegion w n region) (source : f.source ≡ sources.Region n) where
   pub plain_read : bits_in accesses call (field.Unit f) (w, steps) ≡ lift (on_space (read_field accesses region f)) (w, steps)
   plain_read = read_there accesses call f n source (w, steps) (w, steps) region (located_is accesses call w steps n region plain)
 
   pub plain_written : (bytes : List ℕ) → written_in accesses call (field.Unit f) bytes (w, steps) ≡ lift (on_space (write_field accesses region f bytes)) (w, steps)
   plain_written bytes = written_there accesses call f n source (w, steps) (w, steps) region bytes (located_is accesses call w steps n region plain)
 
-pub ruleset a_field_is_accessed_by_its_source = (in_region, by_index, in_bank)
+pub ruleset a_field_is_accessed_by_its_source = (in_region, by_index, in_bank, in_buffer)
 
-pub ruleset a_field_of_a_region_is_accessed_in_it = (plain_read, plain_written, read_there, written_there)
+pub ruleset a_field_of_a_region_is_accessed_in_it = (located_is, plain_read, plain_written, read_there, written_there)

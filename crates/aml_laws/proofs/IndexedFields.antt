@@ -1,22 +1,17 @@
 -- The units of a field behind an index register and a data register are read and written one after another.
-use Rattle.std.specs.Prelude.{◌≡◌, ◌≢◌, ℕ, ◌/◌, ◌%◌, ◌^◌, ◌==◌, Bool, true, false, List, [], ◌∷◌, Option, Some, None, Ok, Err, refl, if◌then◌else◌}
-use Rattle.std.specs.Option.{option_map}
+use Rattle.std.specs.Prelude.{◌≡◌, ◌≢◌, ℕ, ◌/◌, ◌%◌, ◌^◌, ◌==◌, Bool, true, false, List, [], ◌∷◌, Ok, Err, refl, if◌then◌else◌}
 use Rattle.std.proofs.Common.{arith, ap, sym, subst, ◌∙◌}
 use Rattle.ar_space.specs.declared.space.Width.{Width}
 use Rattle.ar_space.specs.Accesses.{Accesses, bit_count}
 use Rattle.ar_space.specs.Outcome.{Outcome}
 use Rattle.ar_space.specs.Change.{Change, give, settle, go_on, ◌>>=◌}
 use Rattle.aml_path.specs.declared.segment.Seg.{Seg}
-use Rattle.aml_objects.specs.declared.entry.Entry.{Entry}
 use Rattle.aml_objects.specs.declared.entry.FieldSource.TheVariants as sources
 use Rattle.aml_objects.specs.declared.entry.FieldUnit.{FieldUnit}
-use Rattle.aml_objects.specs.declared.entry.UpdateRule.{UpdateRule}
-use Rattle.aml_objects.specs.declared.entry.UpdateRule.TheVariants.{Preserve, WriteAsOnes, WriteAsZeros}
 use Rattle.aml_objects.specs.declared.entry.NamedObject.{NamedObject}
 use Rattle.aml_objects.specs.declared.entry.NamedObject.TheVariants as object
-use Rattle.aml_objects.specs.declared.entry.OperationRegion.{OperationRegion}
-use Rattle.aml_fields.specs.declared.region.AddressSpace.{AddressSpace}
-use Rattle.aml_fields.specs.declared.region.AddressSpace.TheVariants as spaces
+use Rattle.aml_objects.specs.declared.entry.UpdateRule.{UpdateRule}
+use Rattle.aml_objects.specs.declared.entry.UpdateRule.TheVariants.{Preserve, WriteAsOnes, WriteAsZeros}
 use Rattle.aml_fields.specs.declared.region.Region.{Region}
 use Rattle.aml_fields.specs.declared.field_units.Unit.{Unit as Access}
 use Rattle.aml_fields.specs.Bits.{field_bits, merged, rest_of_unit}
@@ -24,54 +19,33 @@ use Rattle.aml_fields.specs.Units.{units_of}
 use Rattle.aml_fields.specs.UnitByUnit.{kept_by, kept, read_units, bits_read, write_units}
 use Rattle.aml_fields.specs.Regions.{unit_place, read_access, write_access}
 use Rattle.aml_fields.proofs.OneUnit.{single_unit}
-use Rattle.aml_namespace.specs.Namespace.{numbered, above}
 use Rattle.aml_meaning.specs.declared.regions.RegionField.{RegionField}
-use Rattle.aml_meaning.specs.declared.regions.RegionSpace.TheVariants as kinds
-use Rattle.aml_meaning.specs.PlainRegions.{plain_space, plain_region, IsPlainRegion}
-use Rattle.aml_meaning.specs.Regions.{space_numbered, region_declared, field_declared}
+use Rattle.aml_meaning.specs.Regions.{region_declared, region_field, field_of_object, field_declared}
 use Rattle.aml_meaning.specs.StoreTargets.{declaration}
 use Rattle.aml_meaning.specs.State.{State, on_space}
 use Rattle.aml_meaning.specs.Run.{Run, lift}
-use Rattle.aml_meaning.specs.Fields.{unit_bytes, unit_of, space_at, located, region_bits, region_written, index_unit, index_unit_written, index_bits, index_written}
+use Rattle.aml_meaning.specs.Fields.{unit_bytes, unit_of, located, region_bits, region_written, index_unit, index_unit_written, index_bits, index_written}
 use Rattle.aml_laws.specs.IndexRegisters.{Register, IsRegister, chosen_and_read, chosen_and_written, kept_and_written}
+use Rattle.aml_laws.specs.PlainRegions.{IsPlainRegion, in_memory, among_ports}
 use Rattle.aml_laws.proofs.IndexRegisters.{IsWhole, register_written, register_read, bits_of_register, read_number, some_bits}
 
 -- ---- a region of SystemMemory or SystemIO
 
-record Plain (o : NamedObject) (q : Region) : Type 0 where
-  declared : OperationRegion
-  space : AddressSpace
-  is : o ≡ object.OperationRegion declared
-  numbered : plain_space declared.space ≡ Some space
-  makes : record { space = space; offset = declared.offset; length = declared.length } ≡ q
-
-plain_by : (r : OperationRegion) (q : Region) (x : Option AddressSpace) → plain_space r.space ≡ x → option_map (λ (s : AddressSpace). record { space = s; offset = r.offset; length = r.length }) x ≡ Some q → Plain (object.OperationRegion r) q
-plain_by r q None at is = absurd (cc is)
-plain_by r q (Some s) at is = record { declared = r; space = s; is = refl; numbered = at; makes = cc is }
-
-plain_is : (o : NamedObject) (q : Region) → plain_region o ≡ Some q → Plain o q
-plain_is (object.OperationRegion r) q is = plain_by r q (plain_space r.space) refl is
-plain_is o q is = absurd (cc is)
-
-stands_plain : (o : Option (List Seg × Entry)) (q : Region) → option_map (λ (e : List Seg × Entry). plain_region e.1.object) o ≡ Some (Some q) → (f : List Seg × Entry) × (o ≡ Some f) × (plain_region f.1.object ≡ Some q)
-stands_plain None q is = absurd (cc is)
-stands_plain (Some f) q is = (f, refl, cc is)
-
 module _ {S : Type 0} (accesses : Accesses S) (call : List Seg → Run S ℕ) where
-  space_by : (a b c : Bool) (s : AddressSpace) (scope : List Seg) (w : State S × ℕ) → (if a then Some spaces.Memory else (if b then Some spaces.Io else None)) ≡ Some s
-      → space_at accesses call (if a then kinds.SystemMemory else (if b then kinds.SystemIo else (if c then kinds.PciConfig else kinds.Other))) scope w ≡ (Ok s, w)
-  unfolding give
-  space_by true b c s scope w is = let same : ◌≡◌ {A = AddressSpace} spaces.Memory s = cc is in ap (λ (t : AddressSpace). (Ok t, w)) same
-  space_by false true c s scope w is = let same : ◌≡◌ {A = AddressSpace} spaces.Io s = cc is in ap (λ (t : AddressSpace). (Ok t, w)) same
-  space_by false false c s scope w is = absurd (cc is)
-
-  pub located_is : (w : State S) (steps n : ℕ) (q : Region) → IsPlainRegion w (sources.Region n) q → located accesses call n (w, steps) ≡ (Ok q, (w, steps))
+  pub located_is : (w : State S) (steps n : ℕ) (q : Region) → IsPlainRegion w n q → located accesses call n (w, steps) ≡ (Ok q, (w, steps))
   unfolding located region_declared declaration lift give settle ◌>>=◌ go_on
-  located_is w steps n q is =
-      let f = stands_plain (numbered n w.names.map) q is in
-      let p = plain_is f.0.1.object q f.2 in
-      let space : space_at accesses call (space_numbered p.declared.space) (above f.0.0) (w, steps) ≡ (Ok p.space, (w, steps)) = space_by (p.declared.space == 0) (p.declared.space == 1) (p.declared.space == 2) p.space (above f.0.0) (w, steps) p.numbered in
-      rw (f.1, p.is, space) (ap (λ (r : Region). (Ok r, (w, steps))) p.makes)
+  located_is w steps n q (in_memory entry r stands is space) = rw (stands, is, space) refl
+  located_is w steps n q (among_ports entry r stands is space) = rw (stands, is, space) refl
+
+-- and it is the same with another register space
+plain_with : {S : Type 0} (w : State S) (s : S) (n : ℕ) (q : Region) → IsPlainRegion w n q → IsPlainRegion (record w { space = s }) n q
+plain_with w s n q (in_memory entry r stands is space) = in_memory entry r stands is space
+plain_with w s n q (among_ports entry r stands is space) = among_ports entry r stands is space
+
+-- ---- a field unit of an operation region
+
+pub unit_found : (o : NamedObject) (field : RegionField) → o ≡ object.FieldUnit field.unit → field.unit.source ≡ sources.Region field.region → field_of_object o ≡ Ok field
+unit_found o field declared source = ap field_of_object declared ∙ ap (λ x. region_field x field.unit) source
 
 -- ---- evaluations that change the register space alone
 
@@ -120,13 +94,13 @@ module _ {S : Type 0} (w : State S) (steps : ℕ) where
   -- ---- registers
 
   module _ (accesses : Accesses S) (call : List Seg → Run S ℕ) where
-    pub located_over : {A : Type 0} (n : ℕ) (q : Region) (m : Region → Run S A) (k : Change S A) → IsPlainRegion w (sources.Region n) q → Over (m q) k → Over (located accesses call n >>= m) k
+    pub located_over : {A : Type 0} (n : ℕ) (q : Region) (m : Region → Run S A) (k : Change S A) → IsPlainRegion w n q → Over (m q) k → Over (located accesses call n >>= m) k
     unfolding ◌>>=◌ go_on
-    located_over n q m k is h = record { over_is = λ s. ap (λ (x : Outcome Region × (State S × ℕ)). go_on x.0 x.1 m) (located_is accesses call (record w { space = s }) steps n q is) ∙ h.over_is s }
+    located_over n q m k is h = record { over_is = λ s. ap (λ (x : Outcome Region × (State S × ℕ)). go_on x.0 x.1 m) (located_is accesses call (record w { space = s }) steps n q (plain_with w s n q is)) ∙ h.over_is s }
 
     pub declared_over : {A : Type 0} (n : ℕ) (register : Register) (is : IsRegister w n register) (m : RegionField → Run S A) (k : Change S A) → Over (m is.field) k → Over (lift (field_declared n) >>= m) k
     unfolding field_declared declaration lift settle ◌>>=◌ go_on
-    declared_over n register is m k h = record { over_is = λ s. rw (is.stands, is.declared) (h.over_is s) }
+    declared_over n register is m k h = let found = unit_found is.entry.1.object is.field is.declared is.source in record { over_is = λ s. rw (is.stands, found) (h.over_is s) }
 
     whole_register : (n : ℕ) (register : Register) (is : IsRegister w n register) → IsWhole is.region is.field.unit register
     whole_register n register is =

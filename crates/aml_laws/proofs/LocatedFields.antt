@@ -8,11 +8,8 @@ use Rattle.ar_space.specs.Change.{give, settle, go_on, ◌>>=◌}
 use Rattle.aml_path.specs.declared.segment.Seg.{Seg}
 use Rattle.aml_objects.specs.declared.entry.Bank.{Bank}
 use Rattle.aml_objects.specs.declared.entry.Field.TheVariants as fields
-use Rattle.aml_objects.specs.declared.entry.FieldSource.{FieldSource}
 use Rattle.aml_objects.specs.declared.entry.FieldSource.TheVariants as sources
 use Rattle.aml_objects.specs.declared.entry.FieldUnit.{FieldUnit}
-use Rattle.aml_objects.specs.declared.entry.NamedObject.{NamedObject}
-use Rattle.aml_objects.specs.declared.entry.NamedObject.TheVariants as object
 use Rattle.aml_objects.specs.declared.entry.UpdateRule.TheVariants.{WriteAsZeros}
 use Rattle.aml_fields.specs.declared.region.Region.{Region}
 use Rattle.aml_fields.specs.declared.field_units.Unit.{Unit as Access}
@@ -23,30 +20,18 @@ use Rattle.aml_fields.specs.Regions.{read_unit, write_whole}
 use Rattle.aml_fields.proofs.Putting.{length_extended}
 use Rattle.aml_fields.proofs.SpaceBits.{number_below, bits_again}
 use Rattle.aml_meaning.specs.declared.regions.RegionField.{RegionField}
-use Rattle.aml_meaning.specs.Regions.{region_field, field_of_object, field_declared}
+use Rattle.aml_meaning.specs.Regions.{field_declared}
 use Rattle.aml_meaning.specs.StoreTargets.{declaration}
 use Rattle.aml_meaning.specs.State.{State, on_space}
 use Rattle.aml_meaning.specs.Run.{Run, lift}
 use Rattle.aml_meaning.specs.Fields.{unit_bytes, unit_of, bits_in, written_in, located, region_bits, region_written, index_unit, index_unit_written, index_bits, index_written, bank_selected, bank_unit, bank_unit_written, bank_bits, bank_written}
-use Rattle.aml_laws.specs.BankFields.{IsFieldUnit, eight_bytes}
+use Rattle.aml_laws.specs.BankFields.{IsFieldUnit}
 use Rattle.aml_laws.specs.LocatedFields.{number_written, read_behind_bank_field, written_behind_bank_field, read_behind_index_field, written_behind_index_field}
 use Rattle.aml_laws.proofs.BanksSelected.{value_held, read_where, written_where}
 use Rattle.aml_laws.proofs.FieldSources.{in_region}
 use Rattle.aml_laws.proofs.IndexRegisters.{whole_merged}
 
 -- ---- a field of an operation region
-
-source_by_cases : (source : FieldSource) (u : FieldUnit) (field : RegionField) → u.source ≡ source → region_field source u ≡ Ok field → field.unit.source ≡ sources.Region field.region
-source_by_cases (sources.Region n) u field from is = let same : ◌≡◌ {A = RegionField} (record { region = n; unit = u }) field = cc is in subst (λ (f : RegionField). f.unit.source ≡ sources.Region f.region) same from
-source_by_cases (sources.Index i d) u field from is = absurd (cc is)
-source_by_cases (sources.Bank n b) u field from is = absurd (cc is)
-
-source_of : (o : NamedObject) (field : RegionField) → field_of_object o ≡ Ok field → field.unit.source ≡ sources.Region field.region
-source_of (object.FieldUnit u) field is = source_by_cases u.source u field refl is
-source_of _ field is = absurd (cc is)
-
-source_is : {S : Type 0} (w : State S) (n : ℕ) (field : RegionField) → IsFieldUnit w n field → field.unit.source ≡ sources.Region field.region
-source_is w n field is = source_of is.entry.1.object field is.declared
 
 module _ {S : Type 0} (accesses : Accesses S) (call : List Seg → Run S ℕ) (field : RegionField) (source : field.unit.source ≡ sources.Region field.region) where
   bits_are : region_bits accesses call field ≡ bits_in accesses call (fields.Unit field.unit)
@@ -82,13 +67,13 @@ module _ {S : Type 0} (s after : State S × ℕ) (accesses : Accesses S) (call :
   unfolding go_on
   read_there f =
       read_where accesses call n b bank s is f (Ok region) after there
-      ∙ ap (λ (read : Access → Run S ℕ). bits_read read f after) (λ i u. unit_read_is accesses call bank b.value (source_is s.0 b.field bank is) fits region f.access u i)
+      ∙ ap (λ (read : Access → Run S ℕ). bits_read read f after) (λ i u. unit_read_is accesses call bank b.value is.source fits region f.access u i)
 
   pub written_there : (f : FieldUnit) (bytes : List ℕ) → bank_written accesses call n b f bytes s ≡ write_units (written_behind_bank_field accesses call bank.unit b.value region f bytes) (units_of f.bit_offset f.bits f.access) after
   unfolding go_on
   written_there f bytes =
       written_where accesses call n b bank s is f bytes (Ok region) after there
-      ∙ ap (λ (write : Access → Run S (Unit {0})). write_units write (units_of f.bit_offset f.bits f.access) after) (λ i u. unit_written_is accesses call bank b.value (source_is s.0 b.field bank is) fits region f bytes u i)
+      ∙ ap (λ (write : Access → Run S (Unit {0})). write_units write (units_of f.bit_offset f.bits f.access) after) (λ i u. unit_written_is accesses call bank b.value is.source fits region f bytes u i)
 
 -- ---- behind an index field
 
@@ -120,18 +105,18 @@ module _ {S : Type 0} (accesses : Accesses S) (call : List Seg → Run S ℕ) (i
 module _ {S : Type 0} (s : State S × ℕ) (accesses : Accesses S) (call : List Seg → Run S ℕ) (i d : ℕ) (index behind : RegionField) (is : IsFieldUnit s.0 i index) (so : IsFieldUnit s.0 d behind) where
   found_read : (f : FieldUnit) → index_bits accesses call i d f s ≡ bits_read (index_unit accesses call index behind f.access) f s
   unfolding index_bits field_declared declaration lift settle ◌>>=◌ go_on
-  found_read f = rw (is.stands, is.declared, so.stands, so.declared) refl
+  found_read f = rw (is.stands, is.declared, is.source, so.stands, so.declared, so.source) refl
 
   found_written : (f : FieldUnit) (bytes : List ℕ) → index_written accesses call i d f bytes s ≡ write_units (index_unit_written accesses call index behind f bytes) (units_of f.bit_offset f.bits f.access) s
   unfolding index_written field_declared declaration lift settle ◌>>=◌ go_on
-  found_written f bytes = rw (is.stands, is.declared, so.stands, so.declared) refl
+  found_written f bytes = rw (is.stands, is.declared, is.source, so.stands, so.declared, so.source) refl
 
   pub chosen_read : (f : FieldUnit) → index_bits accesses call i d f s ≡ bits_read (read_behind_index_field accesses call index.unit behind.unit f.access) f s
   chosen_read f =
       found_read f
-      ∙ ap (λ (read : Access → Run S ℕ). bits_read read f s) (λ j u. unit_chosen_is accesses call index behind (source_is s.0 i index is) (source_is s.0 d behind so) f.access u j)
+      ∙ ap (λ (read : Access → Run S ℕ). bits_read read f s) (λ j u. unit_chosen_is accesses call index behind is.source so.source f.access u j)
 
   pub chosen_written : (f : FieldUnit) (bytes : List ℕ) → index_written accesses call i d f bytes s ≡ write_units (written_behind_index_field accesses call index.unit behind.unit f bytes) (units_of f.bit_offset f.bits f.access) s
   chosen_written f bytes =
       found_written f bytes
-      ∙ ap (λ (write : Access → Run S (Unit {0})). write_units write (units_of f.bit_offset f.bits f.access) s) (λ j u. unit_put_is accesses call index behind (source_is s.0 i index is) (source_is s.0 d behind so) f bytes u j)
+      ∙ ap (λ (write : Access → Run S (Unit {0})). write_units write (units_of f.bit_offset f.bits f.access) s) (λ j u. unit_put_is accesses call index behind is.source so.source f bytes u j)

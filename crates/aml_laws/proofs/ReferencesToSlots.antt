@@ -1,9 +1,9 @@
 -- The number of a frame that stands finds it, where the numbers of frames rise; so a reference to a slot of the control method that
 -- runs refers to that slot.
-use Rattle.std.specs.Prelude.{◌≡◌, ◌<◌, ◌==◌, ◌+◌, nat_lt, ℕ, zero, suc, List, [], ◌∷◌, length, cond, not, Option, Some, None, Ok, Err, slice_get, refl}
+use Rattle.std.specs.Prelude.{◌≡◌, ◌≢◌, ◌<◌, ◌==◌, ◌+◌, nat_lt, ℕ, zero, suc, List, [], ◌∷◌, length, cond, not, Option, Some, None, Ok, Err, slice_get, refl}
 use Rattle.std.specs.List.{position_or_len}
 use Rattle.std.proofs.Common.{arith, ap, sym, ◌∙◌, subst}
-use Rattle.std.proofs.lemmas.Bool.{eq-eqb, ne_eqb, lt-ltb}
+use Rattle.std.proofs.lemmas.Bool.{eq-eqb, ne_eqb, le-ltb, lt-ltb}
 use Rattle.std.proofs.lemmas.Option.{slice_get_within}
 use Rattle.ar_space.specs.Outcome.{Outcome}
 use Rattle.ar_space.specs.Change.{Change, give, settle, go_on, ◌>>=◌}
@@ -38,6 +38,17 @@ first_with_number next (x ∷ xs) (suc k) f rise at =
 pub frame_index_finds : (next : ℕ) (frames : List Frame) (k : ℕ) (f : Frame) → RiseTo next (numbers_of frames) → slice_get frames k ≡ Some f → frame_index f.number frames ≡ Some k
 frame_index_finds next frames k f rise at =
     ap (λ n. cond (nat_lt n (length frames)) (Some n) None) (first_with_number next frames k f rise at) ∙ ap (λ b. cond b (Some k) None) (lt-ltb k (length frames) (slice_get_within frames k f at))
+
+none_with_number : (n : ℕ) (frames : List Frame) → ((k : ℕ) (f : Frame) → slice_get frames k ≡ Some f → f.number ≢ n) → position_or_len (λ g. g.number == n) frames ≡ length frames
+none_with_number n [] other = refl
+none_with_number n (x ∷ xs) other =
+    ap (λ b. cond (not b) (1 + position_or_len (λ (g : Frame). g.number == n) xs) 0) (ne_eqb x.number n (other 0 x refl))
+    ∙ ap (λ k. 1 + k) (none_with_number n xs (λ k f at. other (suc k) f at)) ∙ omega arith
+
+-- and a number that none has finds none
+pub no_frame_index : (n : ℕ) (frames : List Frame) → ((k : ℕ) (f : Frame) → slice_get frames k ≡ Some f → f.number ≢ n) → frame_index n frames ≡ None
+no_frame_index n frames other =
+    ap (λ k. cond (nat_lt k (length frames)) (Some k) None) (none_with_number n frames other) ∙ ap (λ b. cond b (Some (length frames)) None) (le-ltb (length frames) (length frames) (omega arith))
 
 -- ---- a reference to a slot of the control method that runs
 

@@ -1,11 +1,13 @@
 -- Fields in a bank of an operation region, whatever field selects the bank (ACPI 6.5, 19.6: BankField).
-use Rattle.std.specs.Prelude.{◌≡◌, ℕ, List, Some, Ok}
+use Rattle.std.specs.Prelude.{◌≡◌, ℕ, List, Some}
 use Rattle.ar_space.specs.declared.space.Width.{Width}
 use Rattle.ar_space.specs.Accesses.{Accesses}
 use Rattle.ar_space.specs.Change.{Change, ◌>>=◌}
 use Rattle.aml_path.specs.declared.segment.Seg.{Seg}
 use Rattle.aml_objects.specs.declared.entry.Entry.{Entry}
+use Rattle.aml_objects.specs.declared.entry.FieldSource.TheVariants as sources
 use Rattle.aml_objects.specs.declared.entry.FieldUnit.{FieldUnit}
+use Rattle.aml_objects.specs.declared.entry.NamedObject.TheVariants as object
 use Rattle.aml_fields.specs.declared.region.Region.{Region}
 use Rattle.aml_fields.specs.declared.field_units.Unit.{Unit as Access}
 use Rattle.aml_fields.specs.Bits.{bits_from, bytes_within, field_bits, rest_of_unit, merged}
@@ -13,14 +15,14 @@ use Rattle.aml_fields.specs.Regions.{read_unit, write_field, write_whole}
 use Rattle.aml_fields.specs.UnitByUnit.{kept}
 use Rattle.aml_namespace.specs.Namespace.{numbered}
 use Rattle.aml_meaning.specs.declared.regions.RegionField.{RegionField}
-use Rattle.aml_meaning.specs.Regions.{field_of_object}
 use Rattle.aml_meaning.specs.State.{State}
 
--- the declaration with a number is this field unit of an operation region
+-- the declaration with a number is this field unit, which lies in the operation region with the number that it says
 pub record IsFieldUnit {S : Type 0} (w : State S) (number : ℕ) (field : RegionField) : Type 0 where
   pub entry : List Seg × Entry
   pub stands : numbered number w.names.map ≡ Some entry
-  pub declared : field_of_object entry.1.object ≡ Ok field
+  pub declared : entry.1.object ≡ object.FieldUnit field.unit
+  pub source : field.unit.source ≡ sources.Region field.region
 
 -- a number as eight bytes
 abbrev pub eight_bytes : ℕ → List ℕ

@@ -8,15 +8,15 @@ use Rattle.aml_path.specs.declared.segment.Seg.{Seg}
 use Rattle.aml_objects.specs.declared.entry.Entry.{Entry}
 use Rattle.aml_objects.specs.declared.entry.FieldSource.TheVariants as sources
 use Rattle.aml_objects.specs.declared.entry.FieldUnit.{FieldUnit}
+use Rattle.aml_objects.specs.declared.entry.NamedObject.TheVariants as object
 use Rattle.aml_fields.specs.declared.region.Region.{Region}
 use Rattle.aml_fields.specs.declared.field_units.Unit.{Unit as Access}
 use Rattle.aml_fields.specs.Bits.{field_bits, rest_of_unit, merged}
 use Rattle.aml_fields.specs.Regions.{unit_place, read_access, write_access}
 use Rattle.aml_namespace.specs.Namespace.{numbered}
 use Rattle.aml_meaning.specs.declared.regions.RegionField.{RegionField}
-use Rattle.aml_meaning.specs.PlainRegions.{IsPlainRegion}
-use Rattle.aml_meaning.specs.Regions.{field_of_object}
 use Rattle.aml_meaning.specs.State.{State}
+use Rattle.aml_laws.specs.PlainRegions.{IsPlainRegion}
 
 -- a register: its place, and how wide it is
 pub record Register : Type 0 where
@@ -28,9 +28,10 @@ pub record IsRegister {S : Type 0} (w : State S) (number : ℕ) (register : Regi
   pub entry : List Seg × Entry
   pub stands : numbered number w.names.map ≡ Some entry
   pub field : RegionField
-  pub declared : field_of_object entry.1.object ≡ Ok field
+  pub declared : entry.1.object ≡ object.FieldUnit field.unit
+  pub source : field.unit.source ≡ sources.Region field.region
   pub region : Region
-  pub plain : IsPlainRegion w (sources.Region field.region) region
+  pub plain : IsPlainRegion w field.region region
   pub width : field.unit.access ≡ register.width
   pub units_before : ℕ
   pub begins : field.unit.bit_offset ≡ units_before * bit_count register.width

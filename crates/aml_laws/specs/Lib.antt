@@ -73,6 +73,7 @@ pub mod PciAddresses
 pub mod PciRegions
 pub mod PciScopes
 pub mod Plain
+pub mod PlainRegions
 pub mod PredefinedNames
 pub mod ProfileTerms
 pub mod PutIntoTargets

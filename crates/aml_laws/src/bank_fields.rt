@@ -6,20 +6,19 @@ ghost use Rattle.ar_space.specs.declared.refusal.Refusal.{Refusal};
 ghost use Rattle.ar_space.specs.declared.refusal.Refusal.TheVariants as refusal;
 ghost use Rattle.aml_path.specs.declared.segment.Seg.{Seg};
 ghost use Rattle.aml_objects.specs.declared.entry.Bank.{Bank};
-ghost use Rattle.aml_objects.specs.declared.entry.FieldSource.TheVariants as sources;
 ghost use Rattle.aml_objects.specs.declared.entry.FieldUnit.{FieldUnit};
 ghost use Rattle.aml_fields.specs.UnitByUnit.{bits_read, write_units};
 ghost use Rattle.aml_fields.specs.Units.{units_of};
 ghost use Rattle.aml_fields.specs.Regions.{write_field};
 ghost use Rattle.aml_fields.specs.declared.region.Region.{Region};
 ghost use Rattle.aml_meaning.specs.declared.regions.RegionField.{RegionField};
-ghost use Rattle.aml_meaning.specs.PlainRegions.{IsPlainRegion};
 ghost use Rattle.aml_meaning.specs.State.{State, on_space};
 ghost use Rattle.aml_meaning.specs.Run.{Run, lift};
 ghost use Rattle.aml_meaning.specs.Fields.{bank_bits, bank_selected, bank_written, located};
 ghost use Rattle.aml_laws.specs.IndexRegisters.{Register, IsRegister};
 ghost use Rattle.aml_laws.specs.BankFields.{IsFieldUnit, eight_bytes, read_in_its_bank, written_in_its_bank};
 ghost use Rattle.aml_laws.specs.BankRegisters.{selected_and_read, selected_and_written};
+ghost use Rattle.aml_laws.specs.PlainRegions.{IsPlainRegion};
 
 /// A field in a bank of a region of SystemMemory or SystemIO, whose bank field is a register that holds the value, is
 /// read unit by unit, in the order of `units_are_accessed_lowest_first`: the value is written to the bank register, and
@@ -31,13 +30,13 @@ ghost use Rattle.aml_laws.specs.BankRegisters.{selected_and_read, selected_and_w
 pub fn a_bank_is_selected_before_each_unit<S>()
     ensures read { (w : State S) (steps : ℕ) (accesses : Accesses S) (call : List Seg → Run S ℕ) (n : ℕ) (bank : Bank)
         (register : Register) (region : Region) → IsRegister w bank.field register →
-        IsPlainRegion w (sources.Region n) region → bank.value < 2 ^ bit_count register.width →
+        IsPlainRegion w n region → bank.value < 2 ^ bit_count register.width →
         (field : FieldUnit) → bank_bits accesses call n bank field (w, steps) ≡
         lift (on_space (bits_read (selected_and_read accesses register bank.value region field.access) field))
         (w, steps) }
     ensures written { (w : State S) (steps : ℕ) (accesses : Accesses S) (call : List Seg → Run S ℕ) (n : ℕ)
         (bank : Bank) (register : Register) (region : Region) → IsRegister w bank.field register →
-        IsPlainRegion w (sources.Region n) region → bank.value < 2 ^ bit_count register.width →
+        IsPlainRegion w n region → bank.value < 2 ^ bit_count register.width →
         (field : FieldUnit) (source : List ℕ) → bank_written accesses call n bank field source (w, steps) ≡
         lift (on_space (write_units (selected_and_written accesses register bank.value region field source)
         (units_of field.bit_offset field.bits field.access))) (w, steps) }
@@ -52,18 +51,18 @@ pub fn a_bank_is_selected_before_each_unit<S>()
 #[tactic(auto, using(crate::proofs::BanksSelected::a_bank_is_selected_by_a_write_of_its_field))]
 pub fn a_bank_is_selected_by_a_write_of_its_field<S>()
     ensures selected { (w : State S) (steps : ℕ) (accesses : Accesses S) (call : List Seg → Run S ℕ)
-        (field : RegionField) (value : ℕ) (at : Region) → IsPlainRegion w (sources.Region field.region) at →
+        (field : RegionField) (value : ℕ) (at : Region) → IsPlainRegion w field.region at →
         value < 2 ^ field.unit.bits → bank_selected accesses call field value (w, steps) ≡
         lift (on_space (write_field accesses at field.unit (eight_bytes value))) (w, steps) }
     ensures read { (w : State S) (steps : ℕ) (accesses : Accesses S) (call : List Seg → Run S ℕ) (n : ℕ) (bank : Bank)
         (held : RegionField) → IsFieldUnit w bank.field held → (at region : Region) →
-        IsPlainRegion w (sources.Region held.region) at → IsPlainRegion w (sources.Region n) region →
+        IsPlainRegion w held.region at → IsPlainRegion w n region →
         bank.value < 2 ^ held.unit.bits → (field : FieldUnit) → bank_bits accesses call n bank field (w, steps) ≡
         lift (on_space (bits_read (read_in_its_bank accesses at held.unit bank.value region field.access) field))
         (w, steps) }
     ensures written { (w : State S) (steps : ℕ) (accesses : Accesses S) (call : List Seg → Run S ℕ) (n : ℕ)
         (bank : Bank) (held : RegionField) → IsFieldUnit w bank.field held → (at region : Region) →
-        IsPlainRegion w (sources.Region held.region) at → IsPlainRegion w (sources.Region n) region →
+        IsPlainRegion w held.region at → IsPlainRegion w n region →
         bank.value < 2 ^ held.unit.bits → (field : FieldUnit) (source : List ℕ) →
         bank_written accesses call n bank field source (w, steps) ≡
         lift (on_space (write_units (written_in_its_bank accesses at held.unit bank.value region field source)
@@ -76,12 +75,12 @@ pub fn a_bank_is_selected_by_a_write_of_its_field<S>()
 pub fn a_bank_that_its_field_cannot_hold_is_refused<S>()
     ensures read { (w : State S) (steps : ℕ) (accesses : Accesses S) (call : List Seg → Run S ℕ) (n : ℕ) (bank : Bank)
         (held : RegionField) (region : Region) → IsFieldUnit w bank.field held →
-        IsPlainRegion w (sources.Region n) region → 2 ^ held.unit.bits ≤ bank.value → (field : FieldUnit) →
+        IsPlainRegion w n region → 2 ^ held.unit.bits ≤ bank.value → (field : FieldUnit) →
         0 < field.bits → bank_bits accesses call n bank field (w, steps) ≡
         (Err (refusal.Field RegionLimit), (w, steps)) }
     ensures written { (w : State S) (steps : ℕ) (accesses : Accesses S) (call : List Seg → Run S ℕ) (n : ℕ)
         (bank : Bank) (held : RegionField) (region : Region) → IsFieldUnit w bank.field held →
-        IsPlainRegion w (sources.Region n) region → 2 ^ held.unit.bits ≤ bank.value → (field : FieldUnit) →
+        IsPlainRegion w n region → 2 ^ held.unit.bits ≤ bank.value → (field : FieldUnit) →
         0 < field.bits → (source : List ℕ) → bank_written accesses call n bank field source (w, steps) ≡
         (Err (refusal.Field RegionLimit), (w, steps)) }
     ensures read_anywhere { (s after : State S × ℕ) (accesses : Accesses S) (call : List Seg → Run S ℕ) (n : ℕ)

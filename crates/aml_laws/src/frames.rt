@@ -1,5 +1,6 @@
 //! Frames of control methods.
-ghost use Rattle.std.specs.Prelude.{◌≡◌, ◌≤◌, ◌<◌, ◌+◌, ◌-◌, ◌^◌, ◌++◌, ◌∷◌, [], ℕ, List, length, Ok, Err};
+ghost use Rattle.std.specs.Prelude.{◌≡◌, ◌≢◌, ◌≤◌, ◌<◌, ◌+◌, ◌-◌, ◌^◌, ◌++◌, ◌∷◌, [], ℕ, List, length, slice_get};
+ghost use Rattle.std.specs.Prelude.{Some, None, Ok, Err};
 ghost use Rattle.ar_space.specs.declared.refusal.Refusal.TheVariants.{Evaluation};
 ghost use Rattle.ar_space.specs.declared.refusal.EvaluationFault.TheVariants.{ObjectLimit};
 ghost use Rattle.ar_space.specs.Accesses.{Accesses};
@@ -7,11 +8,12 @@ ghost use Rattle.ar_space.specs.declared.integer_width.IntegerWidth.{IntegerWidt
 ghost use Rattle.aml_path.specs.declared.segment.Seg.{Seg};
 ghost use Rattle.aml_grammar.specs.Tree.{Trees};
 ghost use Rattle.aml_meaning.specs.declared.flow.Flow.{Flow};
+ghost use Rattle.aml_meaning.specs.declared.frame.Frame.{Frame};
 ghost use Rattle.aml_objects.specs.declared.value.Value.{Value};
 ghost use Rattle.aml_meaning.specs.declared.settings.EvaluationSettings.{EvaluationSettings};
 ghost use Rattle.aml_meaning.specs.State.{State};
 ghost use Rattle.aml_meaning.specs.Run.{Run};
-ghost use Rattle.aml_meaning.specs.Slots.{opened, closed};
+ghost use Rattle.aml_meaning.specs.Slots.{frame_index, opened, closed};
 ghost use Rattle.aml_meaning.specs.Invocations.{body_terms, invoked, left};
 ghost use Rattle.aml_meaning.specs.Tasks.{Task, in_turn};
 ghost use Rattle.aml_meaning.specs.Meaning.{meaning};
@@ -52,6 +54,17 @@ pub fn frame_numbers_are_given_once<S>()
         n < (invoked (meaning accesses) depth p body arguments s).1.0.started }
     ensures ended { (p : List Seg) (w : State S) → (left p w).started ≡ w.started }
     ensures closed { (w : State S) → (closed w).started ≡ w.started }
+{}
+
+/// While a frame stands its number finds it, the latest or that of any caller; and a number that no frame has finds none.
+/// So a reference to a slot of a caller is read and takes what is stored there, as `slots_take_copies` and
+/// `a_dereference_reads_what_its_operand_refers_to` say of a frame that is found. The numbers of frames rise, as
+/// `frame_numbers_are_given_once` says. A caller's frame that isn't found is refused by this.
+pub fn a_frame_that_stands_is_found_by_its_number<S>()
+    ensures stands { (w : State S) (k : ℕ) (f : Frame) → RiseTo w.started (numbers_of w.frames) →
+        slice_get w.frames k ≡ Some f → frame_index f.number w.frames ≡ Some k }
+    ensures ended { (w : State S) (n : ℕ) → ((k : ℕ) (f : Frame) → slice_get w.frames k ≡ Some f → f.number ≢ n) →
+        frame_index n w.frames ≡ None }
 {}
 
 /// A frame has for its number how many were started before it, where these are fewer than 2^64 - 1. Where so many were,

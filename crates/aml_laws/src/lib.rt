@@ -156,6 +156,7 @@ pub use fields_put::a_list_of_fields_asks_for_what_it_lies_in;
 pub use fields_put::fields_stand_where_names_may_stand;
 pub use fields_put::regions_and_buffer_fields_stand_where_names_may_stand;
 pub use frames::a_call_opens_one_frame;
+pub use frames::a_frame_that_stands_is_found_by_its_number;
 pub use frames::at_most_33_frames_stand_at_once;
 pub use frames::frame_numbers_are_given_once;
 pub use frames::frames_are_balanced;
