@@ -1,4 +1,5 @@
-//! Buffer fields.
+//! Buffer fields: bits of a buffer. Where a term reads or writes such a field, it is done so
+//! (`a_field_is_accessed_by_its_source`).
 ghost use Rattle.std.specs.Prelude.{◌≡◌, ◌≢◌, ◌⊎◌, ◌<◌, ◌≤◌, ◌+◌, ◌*◌};
 ghost use Rattle.std.specs.Prelude.{ℕ, List, false, length, get_or, slice_get, Some, Ok};
 ghost use Rattle.aml_objects.specs.Objects.{Objects, buffer_at};

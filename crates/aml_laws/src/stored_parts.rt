@@ -40,11 +40,12 @@ pub fn a_store_to_no_target_changes_nothing<S>()
 /// A Store and a CopyObject to a local, and to an argument that holds no reference, of the control method that runs are
 /// done for each value that can be copied (`what_is_within_the_limits_is_copied`), and leave a copy in that very slot:
 /// as many objects are made as the value has, and the copy shares none with anything that was there before. So it is
-/// through a reference to such a slot of any control method that hasn't ended: it is the slot of that one that takes
-/// the copy, also where it is a caller. Nothing else of the world changes (`a_store_changes_its_slot_alone`). Where the
-/// value can't be copied, they are refused as its copy is, and nothing changes. A Store to a local that is refused, one
-/// to an argument that does nothing, and one through a reference to a local of the caller that changes a local of the
-/// control method that runs, are refused by this.
+/// through a reference to such a slot of any control method that hasn't ended, whose frame is found by its number
+/// (`a_frame_that_stands_is_found_by_its_number`): it is the slot of that one that takes the copy, also where it is a
+/// caller. Nothing else of the world changes (`a_store_changes_its_slot_alone`). Where the value can't be copied, they
+/// are refused as its copy is, and nothing changes. A Store to a local that is refused, one to an argument that does
+/// nothing, and one through a reference to a local of the caller that changes a local of the control method that runs,
+/// are refused by this.
 pub fn slots_take_copies<S>()
     ensures latest { (before : State S) (last : ℕ) (f : Frame) (slot : Slot) (v : Value) (count : ℕ) →
         length before.frames ≡ suc last → slice_get before.frames last ≡ Some f → TakesCopies f slot →
