@@ -230,6 +230,7 @@ pub mod OperandsTogether
 pub mod OrderedValues
 pub mod OutOfSteps
 pub mod OutsideOfMethods
+pub mod PathsBelow
 pub mod PathsHandedIn
 pub mod PathsTaken
 pub mod PciAddresses
@@ -255,6 +256,7 @@ pub mod RuleByParts
 pub mod RulesPreserve
 pub mod RulesTogether
 pub mod RunsOut
+pub mod ScopesDeclared
 pub mod SignalsTaken
 pub mod SlotsPut
 pub mod SetDepths

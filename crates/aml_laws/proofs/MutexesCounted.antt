@@ -44,7 +44,10 @@ module _ {S : Type 0} (w : State S) (path : List Seg) (n : ℕ) where
   unfolding given_back mutex_count settle go_on ◌>>=◌
   free_refused at = rw at refl
 
-pub ruleset acquisitions_are_counted_one_by_one = (acquire_adds, full_refused, release_takes, free_refused)
+  pub by_its_name : (acquired_at (targets.Name path) w ≡ acquired path w) × (given_back_at (targets.Name path) w ≡ given_back path w)
+  by_its_name = (refl, refl)
+
+pub ruleset acquisitions_are_counted_one_by_one = (acquire_adds, full_refused, release_takes, free_refused, by_its_name)
 
 -- ---- what is no mutex
 

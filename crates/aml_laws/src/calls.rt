@@ -32,7 +32,7 @@ ghost use Rattle.aml_laws.specs.OperatorTerms.{GivesNothing, IsRefused};
 
 /// After a call of a control method no name stands below it, if its body began, however that ended; a call that is
 /// refused before leaves the world as it is. In either case the same frames stand as before. The end of a call
-/// removes no other name.
+/// removes no other name. Which paths are below a control method `a_path_is_below_its_shorter_fronts` says.
 #[tactic(auto, using(crate::proofs::EndOfCalls::none_below_after_call, crate::proofs::EndOfCalls::refused_call_changes_nothing, crate::proofs::EndOfCalls::other_names_stay, crate::proofs::FrameNumbers::call_is_balanced))]
 pub fn calls_leave_nothing<S>()
     ensures begun { (accesses : Accesses S) (depth : ℕ) (p : List Seg) (body : List ℕ) (arguments : List Value)

@@ -1,10 +1,10 @@
 //! What terms that declare names leave at their paths.
-ghost use Rattle.std.specs.Prelude.{◌≡◌, ◌<◌, ℕ, suc, List, Ok, Err};
+ghost use Rattle.std.specs.Prelude.{◌≡◌, ◌<◌, ℕ, suc, List, Some, Ok, Err};
 ghost use Rattle.ar_space.specs.Accesses.{Accesses};
 ghost use Rattle.ar_space.specs.declared.refusal.Refusal.{Refusal};
 ghost use Rattle.aml_path.specs.declared.segment.Seg.{Seg};
 ghost use Rattle.aml_path.specs.Paths.{Name, resolved};
-ghost use Rattle.aml_grammar.specs.Tree.{Tree, Parts};
+ghost use Rattle.aml_grammar.specs.Tree.{Tree, Trees, Parts, list};
 ghost use Rattle.aml_grammar.specs.Apart.{code_of, name_of, operand_of};
 ghost use Rattle.aml_grammar.specs.declared.opcode.Opcode.{Opcode};
 ghost use Rattle.aml_grammar.specs.declared.opcode.Opcode.TheVariants as opcodes;
@@ -14,7 +14,9 @@ ghost use Rattle.aml_objects.specs.declared.entry.NamedObject.{NamedObject};
 ghost use Rattle.aml_objects.specs.declared.entry.NamedObject.TheVariants as named;
 ghost use Rattle.aml_objects.specs.declared.value.Value.{Value};
 ghost use Rattle.aml_namespace.specs.Search.{found};
+ghost use Rattle.aml_meaning.specs.Meaning.{meaning};
 ghost use Rattle.aml_meaning.specs.State.{State};
+ghost use Rattle.aml_meaning.specs.Tasks.{task, in_turn};
 ghost use Rattle.aml_laws.specs.OperatorTerms.{of_opcode, GivesValue, IsRefused};
 ghost use Rattle.aml_laws.specs.ObjectTerms.{Passes};
 ghost use Rattle.aml_laws.specs.InnerLists.{DeclaresScope};
@@ -22,9 +24,11 @@ ghost use Rattle.aml_laws.specs.DeclaredObjects.{name_term, method_term, alias_t
 
 /// A Name term leaves at the path of its name the very value that its term gives, a Method term a control method with
 /// its flags and its body, an Alias term an alias of the path at which its first name stands, a Mutex term a mutex
-/// that nobody has acquired, and an Event term an event without signals (ACPI 6.5, 5.3 and 19.6). So it is where the
-/// path is free; nothing else of the world changes. A Name that declares no data, a control method that takes fewer
-/// arguments, and an alias of itself, are refused by this.
+/// that nobody has acquired, and an Event term an event without signals (ACPI 6.5, 5.3 and 19.6). A Device, a
+/// Processor, a PowerResource and a ThermalZone leave such an object there, and its list is evaluated in turn in this
+/// scope then. So it is where the path is free; nothing else of the world changes. A Name that declares no data, a
+/// control method that takes fewer arguments, an alias of itself, and a Device that is a plain scope or is refused,
+/// are refused by this.
 pub fn a_declaration_leaves_what_its_term_says<S>()
     ensures name { (accesses : Accesses S) (scope : List Seg) (depth : ℕ) (n : Name) (path : List Seg) →
         resolved n scope ≡ Ok path → (w : State S) (steps : ℕ) (x : Tree) (v : Value) (after : State S × ℕ) →
@@ -48,6 +52,11 @@ pub fn a_declaration_leaves_what_its_term_says<S>()
     ensures event { (accesses : Accesses S) (scope : List Seg) (depth : ℕ) (n : Name) (path : List Seg) →
         resolved n scope ≡ Ok path → (w : State S) (steps : ℕ) → IsFree depth w path →
         Passes accesses scope depth (event_term n) (w, suc steps) (with_name w path (named.Event 0), steps) }
+    ensures a_scope { (accesses : Accesses S) (scope : List Seg) (depth : ℕ) (n : Name) (path : List Seg) →
+        resolved n scope ≡ Ok path → (w : State S) (steps : ℕ) (code : Opcode) (o : NamedObject) (i : ℕ) (t : Tree)
+        (ts : Trees) → DeclaresScope code o i → code_of t ≡ codes.Opcode code → name_of (operand_of t 0) ≡ Ok n →
+        operand_of t i ≡ Some (list ts) → IsFree depth w path → meaning accesses (task scope depth t) (w, suc steps) ≡
+        in_turn (meaning accesses) path depth ts (with_name w path o, steps) }
 {}
 
 /// An External declares nothing: it gives nothing, and changes nothing, whatever its operands are, but takes a step

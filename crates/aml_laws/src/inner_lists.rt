@@ -26,7 +26,8 @@ ghost use Rattle.aml_laws.specs.InnerLists.{OpensScope, DeclaresScope, Tests, Tu
 /// Device, a Processor, a PowerResource or a ThermalZone. A Scope whose name finds any other object is refused as one
 /// of the wrong type, and one whose name isn't found as the search for it is, and nothing changes (ACPI 6.5, 19.6:
 /// Scope). The list of a Device, a Processor, a PowerResource or a ThermalZone is evaluated in turn in the scope that
-/// this term declares. Each is evaluated as deep in calls as the term itself: so at module level it is a list at module
+/// this term declares, where it declares one: `a_declaration_leaves_what_its_term_says` says where that is, and of
+/// which kind. Each is evaluated as deep in calls as the term itself: so at module level it is a list at module
 /// level, and goes on behind an item that is passed over by `a_list_goes_on_behind_an_item_that_is_passed_over`. A
 /// Scope whose list is evaluated where the term stands, one of a name that holds data, and one whose list isn't at its
 /// level, are refused by this.

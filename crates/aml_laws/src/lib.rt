@@ -188,6 +188,7 @@ pub use matches::a_match_finds_values_of_any_type;
 pub use mutexes::acquisitions_are_counted_one_by_one;
 pub use mutexes::no_mutex_stays_acquired;
 pub use mutexes::what_is_no_mutex_is_neither_acquired_nor_released;
+pub use names::a_path_is_below_its_shorter_fronts;
 pub use names::declared_names_stand;
 pub use names::names_stay;
 pub use names::outside_of_control_methods;

@@ -28,8 +28,9 @@ pub fn no_mutex_stays_acquired<S>()
 {}
 
 /// How often a mutex is acquired is counted one by one: Acquire adds one, or is refused where 2^64 - 1 are counted;
-/// Release takes one, or is refused where there is none. Nothing else of the world changes. A Release that frees the
-/// mutex at once is refused by this.
+/// Release takes one, or is refused where there is none. Nothing else of the world changes. A target that is a name
+/// acquires and releases what stands at its path. A Release that frees the mutex at once, and an Acquire of a name
+/// that acquires nothing, are refused by this.
 #[tactic(auto, using(crate::proofs::MutexesCounted::acquisitions_are_counted_one_by_one))]
 pub fn acquisitions_are_counted_one_by_one<S>()
     ensures added { (w : State S) (path : List Seg) (number count : ℕ) →
@@ -43,6 +44,8 @@ pub fn acquisitions_are_counted_one_by_one<S>()
         given_back path w ≡ (Ok tt, with_acquisitions w path number (count - 1)) }
     ensures free { (w : State S) (path : List Seg) (number : ℕ) →
         get w.names.map path ≡ Some (mutex_entry number 0) → given_back path w ≡ (Err (Evaluation NotAcquired), w) }
+    ensures named { (w : State S) (path : List Seg) → (acquired_at (targets.Name path) w ≡ acquired path w) ×
+        (given_back_at (targets.Name path) w ≡ given_back path w) }
 {}
 
 /// A name that is declared as anything but a mutex can neither be acquired nor released (ACPI 6.5, 19.6: Acquire,

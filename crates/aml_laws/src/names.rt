@@ -3,6 +3,7 @@ ghost use Rattle.std.specs.Prelude.{◌≡◌, ℕ, List, [], ◌∷◌, ◌++�
 ghost use Rattle.std.specs.FinMap.{get};
 ghost use Rattle.ar_space.specs.Accesses.{Accesses};
 ghost use Rattle.aml_path.specs.declared.segment.Seg.{Seg};
+ghost use Rattle.aml_path.specs.Paths.{is_below};
 ghost use Rattle.aml_grammar.specs.Tree.{Tree, Trees};
 ghost use Rattle.aml_meaning.specs.declared.flow.Flow.{Flow};
 ghost use Rattle.aml_meaning.specs.declared.flow.Flow.TheVariants as flow;
@@ -13,6 +14,17 @@ ghost use Rattle.aml_laws.specs.Becomes.{Becomes};
 ghost use Rattle.aml_laws.specs.Outside.{Outside, Stands, is_open, number_at};
 ghost use Rattle.aml_laws.specs.Declares.{Declares, IsItem};
 ghost use Rattle.aml_laws.specs.PassedNotes.{PassesNothing};
+
+/// A path is below another one exactly if it is that one with at least one segment behind it (ACPI 6.5, 5.3). So it
+/// is not below itself, nor below a path with other segments; and each path but the root is below another one. A
+/// namespace in which nothing is below a path is refused by this.
+#[tactic(auto, using(crate::proofs::PathsBelow::longer_is_below, crate::proofs::PathsBelow::below_is_longer))]
+pub fn a_path_is_below_its_shorter_fronts()
+    ensures below { (path : List Seg) (segment : Seg) (rest : List Seg) →
+        is_below path (path ++ segment ∷ rest) ≡ true }
+    ensures no_other { (path q : List Seg) → is_below path q ≡ true →
+        (segment : Seg) × (rest : List Seg) × (q ≡ path ++ segment ∷ rest) }
+{}
 
 /// A path is outside of control methods where at each path above it stands a name, and that of no control method. So
 /// the root is, and each path one level below a name that is outside of control methods and is none itself.
