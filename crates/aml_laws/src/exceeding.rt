@@ -140,10 +140,10 @@ pub fn what_has_no_room_is_not_joined<S>()
 {}
 
 /// A Store to a name that holds a string is refused as too much where its value converts to a text of more than
-/// 1,048,576 bytes, and one to a name that holds an empty buffer where it converts to more bytes. Nothing changes. One to
-/// a name that holds any other buffer is refused so where the bytes, cut or filled to the length of this buffer, are more;
-/// but in worlds that evaluations make no buffer is so long (`integers_stay_below_two_to_the_width`), and none is refused.
-/// A text that is cut, or stored nevertheless, is refused by this.
+/// 1,048,576 bytes, and one to a name that holds an empty buffer where it converts to more bytes. Nothing changes. One
+/// to a name that holds any other buffer is refused so where the bytes, cut or filled to the length of this buffer, are
+/// more; but in worlds that evaluations make no buffer is so long (`integers_stay_below_two_to_the_width`), and none is
+/// refused. A text that is cut, or stored nevertheless, is refused by this.
 pub fn what_is_too_long_is_not_stored<S>()
     ensures string { (w : State S) (path : List Seg) (number : ℕ) (v : Value) (o : ℕ) (old text : List ℕ) →
         get w.names.map path ≡ Some (data_entry number (value.String o)) →
@@ -162,9 +162,9 @@ pub fn what_is_too_long_is_not_stored<S>()
 
 /// A field of more bits than an integer has, for whose bytes there is no room as a new buffer, is refused as too much,
 /// once it is read: its name, where a value stands, and DerefOf of a reference to the name. In worlds that evaluations
-/// make a field has at most 8,388,608 bits (`integers_stay_below_two_to_the_width`), which are as many bytes as a buffer
-/// may have, so there is no room where no object is left, and only there. Bytes that are cut to the limit are refused by
-/// this.
+/// make a field has at most 8,388,608 bits (`integers_stay_below_two_to_the_width`), which are as many bytes as a
+/// buffer may have, so there is no room where no object is left, and only there. Bytes that are cut to the limit are
+/// refused by this.
 pub fn a_field_without_room_is_refused<S>()
     ensures named { (accesses : Accesses S) (scope : List Seg) (depth : ℕ) (w : State S) (steps : ℕ) (n : Name)
         (f : Field) (bits : ℕ) (bytes : List ℕ) (after : State S × ℕ) → NamesField w scope n f bits →

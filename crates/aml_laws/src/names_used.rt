@@ -92,10 +92,11 @@ pub fn a_name_that_is_not_found_is_refused<S>()
         EndsAs (Err e, (w, steps)) (answered accesses p gs steps w) }
 {}
 
-/// A call of the predefined control method \_OSI is a call as any other: its argument is evaluated first, and where this
-/// is refused, or gives nothing, the call is refused so, as `NoValue` in the latter case. Then it is refused inside 32
-/// calls of control methods as `CallDepth`, and inside as many as the world allows as `DepthSetting`, whatever its
-/// argument gave. One that answers at any depth, and one that looks at the depth first, are refused by this.
+/// A call of the predefined control method \_OSI is a call as any other: its argument is evaluated first, and where
+/// this is refused, or gives nothing, the call is refused so, as `NoValue` in the latter case. Then it is refused
+/// inside 32 calls of control methods as `CallDepth`, and inside as many as the world allows as `DepthSetting`,
+/// whatever its argument gave. One that answers at any depth, and one that looks at the depth first, are refused by
+/// this.
 pub fn osi_is_called_as_control_methods_are<S>()
     ensures too_deep { (accesses : Accesses S) (scope : List Seg) (depth : ℕ) (n : Name) (x : Tree) (w : State S)
         (steps : ℕ) (v : Value) (after : State S × ℕ) → FindsOsi w scope n →

@@ -53,11 +53,11 @@ pub fn a_reference_to_a_slot_reads_that_slot<S>()
         copied_to (targets.Slot (Local i)) v w }
 {}
 
-/// Each target but Debug has a reference, which RefOf gives (`a_reference_is_given_of_what_a_term_names`): that of a name
-/// refers to the declaration that stands at its path, that of a local or an argument to this slot of the control method
-/// that runs, and that of what another reference refers to is this very reference. Debug has none and is refused as
-/// `WrongType`, and so is a local or an argument where no control method runs, as a dead one. Nothing changes. A RefOf of
-/// an Index or of a DerefOf that is refused is refused by this.
+/// Each target but Debug has a reference, which RefOf gives (`a_reference_is_given_of_what_a_term_names`): that of a
+/// name refers to the declaration that stands at its path, that of a local or an argument to this slot of the control
+/// method that runs, and that of what another reference refers to is this very reference. Debug has none and is refused
+/// as `WrongType`, and so is a local or an argument where no control method runs, as a dead one. Nothing changes. A
+/// RefOf of an Index or of a DerefOf that is refused is refused by this.
 pub fn each_target_but_debug_has_a_reference<S>()
     ensures given { (w : State S) (t : StoreTarget) (r : Reference) → RefersTo w t r → reference_of t w ≡ (Ok r, w) }
     ensures debug { (w : State S) → reference_of targets.Nowhere w ≡ (Err (refusal.Value WrongType), w) }

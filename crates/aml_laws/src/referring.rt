@@ -172,12 +172,12 @@ pub fn a_conditional_reference_tells_what_is_found<S>()
         Gives accesses scope depth (conditional (inner (alone op)) q) (w, suc steps) 0 (w, steps) }
 {}
 
-/// CondRefOf of Debug, a local, an argument, a RefOf, a DerefOf or an Index finds what this names first. Where that has a
-/// reference (`each_target_but_debug_has_a_reference`), it puts it into its target and gives Ones; but where the reference
-/// is one to a slot or to an element that holds no value yet, it stores nothing and gives Zero. An element that is a name
-/// holds one, whatever this finds. Debug, itself or behind a RefOf, is refused as `WrongType`, and where no target is
-/// found, CondRefOf is refused so. What the reference refers to isn't read. One that gives Zero of each element, and
-/// one that refers to an element that holds nothing, are refused by this.
+/// CondRefOf of Debug, a local, an argument, a RefOf, a DerefOf or an Index finds what this names first. Where that has
+/// a reference (`each_target_but_debug_has_a_reference`), it puts it into its target and gives Ones; but where the
+/// reference is one to a slot or to an element that holds no value yet, it stores nothing and gives Zero. An element
+/// that is a name holds one, whatever this finds. Debug, itself or behind a RefOf, is refused as `WrongType`, and where
+/// no target is found, CondRefOf is refused so. What the reference refers to isn't read. One that gives Zero of each
+/// element, and one that refers to an element that holds nothing, are refused by this.
 pub fn a_conditional_reference_finds_what_a_term_names<S>()
     ensures with_value { (accesses : Accesses S) (scope : List Seg) (depth : ℕ) (u : Tree) (w : State S) (steps : ℕ)
         (q : Part) (t : StoreTarget) (after : State S × ℕ) →
