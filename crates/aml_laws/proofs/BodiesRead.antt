@@ -1,5 +1,5 @@
 -- How the body of a control method is read, and how many arguments names take in it.
-use Rattle.std.specs.Prelude.{◌≡◌, ◌%◌, ℕ, List, true, Some, None, Ok, Err, refl}
+use Rattle.std.specs.Prelude.{◌≡◌, ◌%◌, ℕ, List, Option, true, Some, None, Ok, Err, refl}
 use Rattle.std.proofs.Common.{ap, ◌∙◌}
 use Rattle.std.specs.FinMap.{get}
 use Rattle.ar_space.specs.declared.refusal.Refusal.{Refusal}
@@ -38,6 +38,29 @@ module _ {S : Type 0} (w : State S) where
   pub alias_counts : (path at : List Seg) (e other : Entry) (m : Method) → get w.names.map path ≡ Some e → e.object ≡ named.Alias at → get w.names.map at ≡ Some other → other.object ≡ named.Method m → arity_at (body_arities w) path ≡ Some (m.flags.byte % 8)
   alias_counts path at e other m stands is there leads =
       standing_counts path e stands ∙ ap (λ o. Some (count_through w.names.map o)) is ∙ ap (λ o. Some (count_of_entry o)) there ∙ ap (λ o. Some (arguments_of o)) leads
+
+  none_of : (o : NamedObject) → IsNoMethod o → arguments_of o ≡ 0
+  none_of (named.Method m) none = absurd (none m refl)
+  none_of (named.Alias p) none = refl
+  none_of named.Scope none = refl
+  none_of named.Device none = refl
+  none_of named.Processor none = refl
+  none_of named.PowerResource none = refl
+  none_of named.ThermalZone none = refl
+  none_of (named.Data v) none = refl
+  none_of (named.OperationRegion r) none = refl
+  none_of (named.FieldUnit u) none = refl
+  none_of (named.BufferField b) none = refl
+  none_of (named.Mutex n) none = refl
+  none_of (named.Event n) none = refl
+
+  none_at : (there : Option Entry) → ((other : Entry) → there ≡ Some other → IsNoMethod other.object) → count_of_entry there ≡ 0
+  none_at None none = refl
+  none_at (Some other) none = none_of other.object (none other refl)
+
+  pub other_aliases_take_none : (path at : List Seg) (e : Entry) → get w.names.map path ≡ Some e → e.object ≡ named.Alias at → ((other : Entry) → get w.names.map at ≡ Some other → IsNoMethod other.object) → arity_at (body_arities w) path ≡ Some 0
+  other_aliases_take_none path at e stands is none =
+      standing_counts path e stands ∙ ap (λ o. Some (count_through w.names.map o)) is ∙ ap Some (none_at (get w.names.map at) none)
 
   none_by : (o : NamedObject) → IsNoMethod o → ((at : List Seg) → o ≡ named.Alias at → ⊥) → count_through w.names.map o ≡ 0
   none_by (named.Method m) none apart = absurd (none m refl)

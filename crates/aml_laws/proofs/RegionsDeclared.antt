@@ -1,5 +1,5 @@
 -- What OperationRegion, Field and IndexField terms declare.
-use Rattle.std.specs.Prelude.{◌≡◌, ◌≢◌, ◌<◌, ◌+◌, ◌*◌, ◌/◌, ◌%◌, ◌==◌, ℕ, suc, List, Bool, true, false, Some, Ok, Err, refl, if◌then◌else◌}
+use Rattle.std.specs.Prelude.{◌≡◌, ◌≢◌, ◌<◌, ◌+◌, ◌*◌, ◌/◌, ◌%◌, ◌==◌, ◌||◌, ℕ, suc, List, Bool, true, false, Some, Ok, Err, refl, if◌then◌else◌}
 use Rattle.std.proofs.Common.{ap, sym, subst, arith, ◌∙◌}
 use Rattle.std.proofs.lemmas.Bool.{eqb-true}
 use Rattle.std.proofs.lemmas.Nat.{div-mul-add, mod-mul-add}
@@ -12,9 +12,11 @@ use Rattle.ar_space.specs.Change.{give, settle, go_on, ◌>>=◌}
 use Rattle.ar_space.specs.Outcome.{Outcome}
 use Rattle.aml_path.specs.declared.segment.Seg.{Seg}
 use Rattle.aml_path.specs.Paths.{Name, resolved}
-use Rattle.aml_grammar.specs.Tree.{Tree, Trees}
+use Rattle.aml_grammar.specs.Apart.{code_of}
+use Rattle.aml_grammar.specs.Tree.{Tree, term, Trees, no_trees, tree}
 use Rattle.aml_grammar.specs.declared.opcode.Opcode.{Opcode}
 use Rattle.aml_grammar.specs.declared.opcode.Opcode.TheVariants as opcodes
+use Rattle.aml_grammar.specs.declared.opcode.TermCode.TheVariants as codes
 use Rattle.aml_objects.specs.declared.entry.FieldSource.TheVariants as sources
 use Rattle.aml_objects.specs.declared.entry.FieldUnit.{FieldUnit}
 use Rattle.aml_objects.specs.declared.entry.NamedObject.{NamedObject}
@@ -29,7 +31,7 @@ use Rattle.aml_meaning.specs.declared.profile.Profile.TheVariants as profiles
 use Rattle.aml_meaning.specs.DeclarationTerms.{declaring}
 use Rattle.aml_meaning.specs.Declaring.{new_name}
 use Rattle.aml_meaning.specs.Evaluation.{rule}
-use Rattle.aml_meaning.specs.FieldTerms.{width_numbered, access_width, rule_numbered, update_rule, has_connection, asked_if, connections_asked, region_rule, field_list_rule, index_list_rule, fields_laid}
+use Rattle.aml_meaning.specs.FieldTerms.{width_numbered, access_width, rule_numbered, update_rule, is_connection, has_connection, asked_if, connections_asked, region_rule, field_list_rule, index_list_rule, fields_laid}
 use Rattle.aml_meaning.specs.Meaning.{meaning}
 use Rattle.aml_meaning.specs.Profiles.{asked_for}
 use Rattle.aml_meaning.specs.Readings.{integer_in}
@@ -39,6 +41,7 @@ use Rattle.aml_meaning.specs.Tasks.{Task, task, module_level, operand_value, val
 use Rattle.aml_laws.specs.BankDeclarations.{Finds, FindsField}
 use Rattle.aml_laws.specs.FieldsPut.{TakesList, of_any, of_fields, FindsNoRegion, FindsNoUnit}
 use Rattle.aml_laws.specs.OperatorTerms.{IsRefused}
+use Rattle.aml_laws.specs.ProfileTerms.{Connects, here, later}
 use Rattle.aml_laws.specs.RegionTerms.{operation_region, field, index_field, IsRegionAt, HasFlags}
 use Rattle.aml_laws.proofs.BanksDeclared.{region_there, none_there, source_by, no_unit_there}
 use Rattle.aml_laws.proofs.FieldsInOrder.{Put, entry_put, new_name_puts}
@@ -85,6 +88,22 @@ module _ {S : Type 0} (accesses : Accesses S) (scope : List Seg) (depth : ℕ) (
 
 -- ---- Field and IndexField
 
+-- no Connection stands in a list
+none_first : (t : Tree) (others : Trees) → (Connects (tree t others) → ⊥) → is_connection (code_of t) ≡ false
+none_first (term codes.ConnectField ps) others none = absurd (none (here ps others))
+none_first (term codes.Name ps) others none = refl
+none_first (term codes.MethodInvocation ps) others none = refl
+none_first (term codes.NamedField ps) others none = refl
+none_first (term codes.ReservedField ps) others none = refl
+none_first (term codes.AccessField ps) others none = refl
+none_first (term codes.ExtendedAccessField ps) others none = refl
+none_first (term (codes.Opcode op) ps) others none = refl
+
+none_connects : (fields : Trees) → (Connects fields → ⊥) → has_connection fields ≡ false
+unfolding has_connection
+none_connects no_trees none = refl
+none_connects (tree t others) none = rw (none_first t others none) (none_connects others (λ h. none (later t others h)))
+
 -- a list that a profile takes
 module _ {S : Type 0} (w : State S) (fields : Trees) (op : Opcode) where
   asked_in_any : w.profile ≡ profiles.Wide → (b : Bool) → asked_if b op w ≡ (Ok tt, w)
@@ -95,7 +114,7 @@ module _ {S : Type 0} (w : State S) (fields : Trees) (op : Opcode) where
   pub list_taken : TakesList w fields → connections_asked op fields w ≡ (Ok tt, w)
   unfolding give
   list_taken (of_any wide) = asked_in_any wide (has_connection fields)
-  list_taken (of_fields none) = rw none refl
+  list_taken (of_fields none) = rw (none_connects fields none) refl
 
 module _ {S : Type 0} (accesses : Accesses S) (scope : List Seg) (depth : ℕ) (flags : ℕ) (fields : Trees) (s : State S × ℕ) (takes : TakesList s.0 fields) where
   pub fields_of_region : (region : Name) (number : ℕ) (r : OperationRegion) → Finds s.0 scope region number (object.OperationRegion r)

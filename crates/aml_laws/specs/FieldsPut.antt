@@ -1,6 +1,6 @@
 -- What the elements of a list of fields declare one after another, where they may stand, and what refuses the list
 -- (ACPI 6.5, 5.3 and 20.2.5.2: FieldList).
-use Rattle.std.specs.Prelude.{◌≡◌, ◌≢◌, ◌⊎◌, ◌≤◌, ◌<◌, ◌+◌, ◌^◌, ℕ, List, false, Some, Ok, Err}
+use Rattle.std.specs.Prelude.{◌≡◌, ◌≢◌, ◌⊎◌, ◌≤◌, ◌<◌, ◌+◌, ◌^◌, ℕ, List, Some, Ok, Err}
 use Rattle.ar_space.specs.declared.refusal.Refusal.{Refusal}
 use Rattle.ar_space.specs.declared.refusal.Refusal.TheVariants as refusal
 use Rattle.ar_space.specs.declared.refusal.FieldFault.TheVariants.{FieldLimit}
@@ -23,12 +23,13 @@ use Rattle.aml_namespace.specs.Search.{found}
 use Rattle.aml_meaning.specs.declared.profile.Profile.TheVariants as profiles
 use Rattle.aml_meaning.specs.declared.field_layout.FieldLayout.{FieldLayout}
 use Rattle.aml_meaning.specs.declared.field_layout.FieldGroup.{FieldGroup}
-use Rattle.aml_meaning.specs.FieldTerms.{access_width, update_rule, has_connection}
+use Rattle.aml_meaning.specs.FieldTerms.{access_width, update_rule}
 use Rattle.aml_meaning.specs.State.{State}
 use Rattle.aml_meaning.specs.Terms.{number_of}
 use Rattle.aml_laws.specs.BankDeclarations.{Finds, FindsField}
 use Rattle.aml_laws.specs.DeclaredObjects.{IsFree, TakesNoName, with_name}
 use Rattle.aml_laws.specs.FieldLists.{unit_at, moved_on}
+use Rattle.aml_laws.specs.ProfileTerms.{Connects}
 
 -- an element of a list that names a field: the path of its name, and how many bits it has
 pub record NamesBits (scope : List Seg) (t : Tree) (path : List Seg) (bits : ℕ) : Type 0 where
@@ -79,7 +80,7 @@ PutsAll scope depth source flags ts w r after = Puts (record { source = source; 
 -- it
 pub data TakesList {S : Type 0} (w : State S) (fields : Trees) : Type 0 where
   of_any : w.profile ≡ profiles.Wide → TakesList w fields
-  of_fields : has_connection fields ≡ false → TakesList w fields
+  of_fields : (Connects fields → ⊥) → TakesList w fields
 
 -- ---- what lists lie in
 

@@ -133,9 +133,9 @@ pub fn a_call_evaluates_its_arguments_in_turn<S>()
 /// The body of a control method is read as a body, so that a Return may stand in it, in the path of its control method,
 /// within the levels that are allowed, and with the numbers of arguments that names take where it is called. Where it
 /// can't be read the call is refused so. In it a name takes as many arguments as the control method that stands at its
-/// path, or to which an alias there leads; none where something else stands; and where nothing stands, as many as an
-/// External told last, which is not known where none told of it. Names that are declared while a table is evaluated are
-/// among them.
+/// path, or to which an alias there leads; none where something else stands, or an alias that leads to something else
+/// or to nothing; and where nothing stands, as many as an External told last, which is not known where none told of it.
+/// Names that are declared while a table is evaluated are among them.
 pub fn a_body_is_read_under_its_own_path<S>()
     ensures read { (w : State S) (p : List Seg) (body : List ℕ) (ts : List Tree) →
         reading_within w.nesting.levels body p true (body_arities w) ≡ Ok ts →
@@ -149,6 +149,10 @@ pub fn a_body_is_read_under_its_own_path<S>()
         other.object ≡ named.Method m → arity_at (body_arities w) path ≡ Some (m.flags.byte % 8) }
     ensures no_method { (w : State S) (path : List Seg) (e : Entry) → get w.names.map path ≡ Some e →
         IsNoMethod e.object → ((at : List Seg) → e.object ≡ named.Alias at → ⊥) →
+        arity_at (body_arities w) path ≡ Some 0 }
+    ensures other_alias { (w : State S) (path at : List Seg) (e : Entry) → get w.names.map path ≡ Some e →
+        e.object ≡ named.Alias at →
+        ((other : Entry) → get w.names.map at ≡ Some other → IsNoMethod other.object) →
         arity_at (body_arities w) path ≡ Some 0 }
     ensures external { (w : State S) (path : List Seg) → get w.names.map path ≡ None → (front back : List Arity)
         (count : ℕ) → w.arities ≡ front ++ named_with path count ∷ back → NoneNamed path back →

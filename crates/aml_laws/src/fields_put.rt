@@ -27,17 +27,18 @@ ghost use Rattle.aml_laws.specs.OperatorTerms.{GivesValue, IsRefused};
 ghost use Rattle.aml_laws.specs.RegionTerms.{operation_region, field, index_field};
 ghost use Rattle.aml_laws.specs.TestTerms.{TwoValues};
 
-/// A Field and an IndexField in either profile, and a BankField in the wide one, declare the fields of their list one
-/// after another, each where its name may stand (ACPI 6.5, 5.3 and 20.2.5.2): at a path that is free, below a name
-/// that stands; at module level not below a control method, but in a control method that is called also below it. The
-/// first one whose path takes no name refuses the list as it refuses each declaration: as `Exists` where a name
-/// stands there, as too much where no number is left, and else as `NotFound`. A field without a bit, or with more than
-/// 8,388,608, refuses it by the limit of fields, and so does an element behind which no offset below 2^64 is left,
-/// which is declared before that. The fields in front stay, and nothing else changes. Where a Connection stands in the list, which the
-/// wide profile takes, nothing is evaluated, and the next field begins where it would without it; the name of one has
-/// to find a buffer, or the list is refused there. A list that declares fields in a control method at module level,
-/// one that a control method can't declare, and one that the wide profile refuses for a Connection, are refused by
-/// this.
+/// A Field and an IndexField, in the core profile where no Connection stands in their list and in the wide profile
+/// always, and a BankField in the wide one, declare the fields of their list one after another, each where its name may
+/// stand (ACPI 6.5, 5.3 and 20.2.5.2): at a path that is free, below a name that stands; at module level not below a
+/// control method, but in a control method that is called also below it. The first one whose path takes no name refuses
+/// the list as it refuses each declaration: as `Exists` where a name stands there, as too much where no number is left,
+/// and else as `NotFound`. A field without a bit, or with more than 8,388,608, refuses it by the limit of fields, and
+/// so does an element behind which no offset below 2^64 is left, which is declared before that. The fields in front
+/// stay, and nothing else changes. Where a Connection stands in the list, which the wide profile takes, nothing is
+/// evaluated, and the next field begins where it would without it; the name of one has to find a buffer, or the list is
+/// refused there. A list that declares fields in a control method at module level, one that a control method can't
+/// declare, one that the wide profile refuses for a Connection, and one without a Connection that the core profile
+/// refuses, are refused by this.
 pub fn fields_stand_where_names_may_stand<S>()
     ensures region { (accesses : Accesses S) (scope : List Seg) (depth flags : ℕ) (fields : Trees) (w : State S)
         (steps : ℕ) → TakesList w fields → (region : Name) (number : ℕ) (g : OperationRegion) →

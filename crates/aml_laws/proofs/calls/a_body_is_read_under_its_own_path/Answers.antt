@@ -1,4 +1,4 @@
-use Rattle.aml_laws.proofs.BodiesRead.{body_is_read, body_is_refused, method_counts, alias_counts, others_take_none}
+use Rattle.aml_laws.proofs.BodiesRead.{body_is_read, body_is_refused, method_counts, alias_counts, others_take_none, other_aliases_take_none}
 use Rattle.aml_laws.proofs.CountsTold.{body_told, body_untold}
 use Rattle.aml_laws.proofs.calls.a_body_is_read_under_its_own_path.Goals as goal
 
@@ -16,6 +16,9 @@ returns-clause-alias g c = alias_counts
 
 pub returns-clause-no_method : goal.returns-clause-no_method
 returns-clause-no_method g c = others_take_none
+
+pub returns-clause-other_alias : goal.returns-clause-other_alias
+returns-clause-other_alias g c = other_aliases_take_none
 
 pub returns-clause-external : goal.returns-clause-external
 returns-clause-external g c = body_told
