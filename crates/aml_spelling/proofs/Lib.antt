@@ -1,5 +1,6 @@
 pub mod NameRefusals
 pub mod OpcodesWritten
+pub mod SegmentsNamed
 pub mod Steady
 pub mod SteadyBytes
 pub mod SteadyNames
