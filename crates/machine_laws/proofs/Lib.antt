@@ -45,5 +45,6 @@ pub mod RunsFound
 pub mod TablesInTurn
 pub mod TellingWidened
 pub mod TextsKept
+pub mod WidthsFound
 pub mod SettingsTogether
 pub mod MachinesDeepened

@@ -1,11 +1,15 @@
-//! How the tables of a machine are loaded, and which texts `_OSI` knows.
-ghost use Rattle.std.specs.Prelude.{◌≡◌, ◌≤◌, ◌<◌, ℕ, ◌∷◌, List, length, true, false, Ok, Err};
+//! How the tables of a machine are loaded, how wide its integers are, and which texts `_OSI` knows.
+ghost use Rattle.std.specs.Prelude.{◌≡◌, ◌≤◌, ◌<◌, ℕ, ◌∷◌, List, length, slice_index, true, false, Ok, Err};
+ghost use Rattle.std.specs.FinMap.{FinMap};
+ghost use Rattle.std.specs.Ordering.{nat_cmp};
 ghost use Rattle.ar_space.specs.Accesses.{Accesses};
 ghost use Rattle.ar_space.specs.declared.refusal.Refusal.TheVariants as refusal;
 ghost use Rattle.ar_space.specs.declared.integer_width.IntegerWidth.{IntegerWidth};
 ghost use Rattle.ar_space.specs.declared.refusal.EvaluationFault.TheVariants.{ObjectLimit};
 ghost use Rattle.ar_space.specs.declared.refusal.MachineFault.TheVariants.{Spent};
+ghost use Rattle.ar_space.specs.declared.integer_width.IntegerWidth.TheVariants.{Bits32, Bits64};
 ghost use Rattle.ar_space.specs.Outcome.{Outcome};
+ghost use Rattle.ar_tables.specs.FindTables.{tables_of};
 ghost use Rattle.ar_tables.specs.declared.tables.Tables.{Tables};
 ghost use Rattle.aml_meaning.specs.State.{State};
 ghost use Rattle.aml_meaning.specs.Predefined.{fresh_as, predefined};
@@ -47,4 +51,14 @@ pub fn osi_knows_the_texts_that_a_machine_is_given<S>()
         osi_set texts m ≡ (Err (refusal.Evaluation ObjectLimit), m) }
     ensures spent { (texts : List (List ℕ)) (m : MachineState S) → m.spent ≡ true →
         osi_set texts m ≡ (Err (refusal.Machine Spent), m) }
+{}
+
+/// Integers have 32 bits where the revision of the DSDT, its byte 8, is 0 or 1, and 64 bits where it is 2 or more (ACPI
+/// 6.5, 5.2.11.1). A DSDT of revision 1 that makes integers of 64 bits is refused by this.
+#[tactic(auto, using(crate::proofs::WidthsFound::the_dsdt_says_how_wide_integers_are))]
+pub fn the_dsdt_says_how_wide_integers_are()
+    ensures narrow { (image : FinMap nat_cmp ℕ) (rsdp : ℕ) (tables : Tables) → tables_of image rsdp ≡ Ok tables →
+        slice_index tables.dsdt 8 < 2 → tables.width ≡ Bits32 }
+    ensures wide { (image : FinMap nat_cmp ℕ) (rsdp : ℕ) (tables : Tables) → tables_of image rsdp ≡ Ok tables →
+        2 ≤ slice_index tables.dsdt 8 → tables.width ≡ Bits64 }
 {}
