@@ -44,8 +44,10 @@ pub use link_objects::{
     a_link_is_a_device_with_the_id_of_links, a_link_is_present_by_its_status,
     a_routing_table_is_what_its_device_answers, links_are_asked_by_their_objects,
 };
-pub use loading::{osi_knows_the_texts_that_a_machine_is_given, tables_are_loaded_in_turn};
-pub use loading::{tables_are_loaded_in_turn, the_dsdt_says_how_wide_integers_are};
+pub use loading::{
+    osi_knows_the_texts_that_a_machine_is_given, tables_are_loaded_in_turn,
+    the_dsdt_says_how_wide_integers_are,
+};
 pub use notes::{
     machine_faults_are_answers_of_the_last_access, noting_changes_no_call,
     routing_faults_are_answers_of_the_last_access,
