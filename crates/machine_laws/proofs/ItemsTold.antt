@@ -18,11 +18,11 @@ use Rattle.acpi_resources.specs.Offers.{offer_of, the_offer, offered_from, offer
 use Rattle.acpi_resources.specs.Records.{InterruptDescriptor, InterruptOffer}
 use Rattle.machine_laws.specs.InterruptItems.{item_of, interrupts_of, IsInterrupts, irq_without_flags, irq, extended, sourced, IsShort, no_flags, no_count, no_numbers, IsDependent, start, start_with_priority, end, HasMeaning, without_flags, with_flags, extended_interrupt, end_tag, dependent}
 
-bound_on : {A B : Type 0} (x : Outcome A) (a : A) (k : A → Outcome B) → x ≡ Ok a → outcomes.◌>>=◌ x k ≡ k a
+pub bound_on : {A B : Type 0} (x : Outcome A) (a : A) (k : A → Outcome B) → x ≡ Ok a → outcomes.◌>>=◌ x k ≡ k a
 unfolding outcomes.◌>>=◌
 bound_on x a k is = rw is refl
 
-bound_off : {A B : Type 0} (x : Outcome A) (e : Refusal) (k : A → Outcome B) → x ≡ Err e → outcomes.◌>>=◌ x k ≡ Err e
+pub bound_off : {A B : Type 0} (x : Outcome A) (e : Refusal) (k : A → Outcome B) → x ≡ Err e → outcomes.◌>>=◌ x k ≡ Err e
 unfolding outcomes.◌>>=◌
 bound_off x e k is = rw is refl
 

@@ -35,7 +35,7 @@ use Rattle.machine_laws.proofs.OneOfList.{picked_from, picked_has, passed_from, 
 
 -- ---- which names stand in a namespace
 
-any_from : (p : List Seg) (ps : List (List Seg)) → list_any (eq_by_cmp path_cmp p) ps ≡ true → Contains ps p
+pub any_from : (p : List Seg) (ps : List (List Seg)) → list_any (eq_by_cmp path_cmp p) ps ≡ true → Contains ps p
 any_from p [] h = absurd (cc h)
 any_from p (q ∷ qs) h = by (eq_by_cmp path_cmp p q) refl h (any_from p qs)
   where
@@ -43,7 +43,7 @@ any_from p (q ∷ qs) h = by (eq_by_cmp path_cmp p q) refl h (any_from p qs)
     by true is e more = subst (λ (x : List Seg). Contains (q ∷ qs) x) (sym (same_path p q is)) (first q qs)
     by false is e more = behind q p qs (more e)
 
-any_has : (p : List Seg) (ps : List (List Seg)) → Contains ps p → list_any (eq_by_cmp path_cmp p) ps ≡ true
+pub any_has : (p : List Seg) (ps : List (List Seg)) → Contains ps p → list_any (eq_by_cmp path_cmp p) ps ≡ true
 any_has p [] c = absurd (no_member p c)
 any_has p (q ∷ qs) c = elim (first_or_behind q p qs c) [
   | inl same ↦ ap (λ (b : Bool). b || list_any (eq_by_cmp path_cmp p) qs) (subst (λ (x : List Seg). eq_by_cmp path_cmp p x ≡ true) (sym same) (path_itself p))
@@ -54,7 +54,7 @@ any_has p (q ∷ qs) c = elim (first_or_behind q p qs c) [
     by true e = refl
     by false e = e
 
-kept_name : (p q : List Seg) → named p ≡ Some q → (p ≡ q) × (q ≡ [] → ⊥)
+pub kept_name : (p q : List Seg) → named p ≡ Some q → (p ≡ q) × (q ≡ [] → ⊥)
 kept_name [] q is = absurd (cc is)
 kept_name (s ∷ ss) q is = by (nat_lt 0 (length (s ∷ ss))) is
   where
@@ -62,7 +62,7 @@ kept_name (s ∷ ss) q is = by (nat_lt 0 (length (s ∷ ss))) is
     by true e = let same : s ∷ ss ≡ q = cc e in (same, λ none. cc (same, none))
     by false e = absurd (cc e)
 
-some_name : (p : List Seg) → (p ≡ [] → ⊥) → named p ≡ Some p
+pub some_name : (p : List Seg) → (p ≡ [] → ⊥) → named p ≡ Some p
 some_name [] h = absurd (h refl)
 some_name (s ∷ ss) h = ap (λ (b : Bool). if b then Some (s ∷ ss) else None) (lt-ltb 0 (length (s ∷ ss)) (omega arith))
 

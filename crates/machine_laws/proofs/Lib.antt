@@ -31,12 +31,14 @@ pub mod MachineWorlds
 pub mod MachinesTogether
 pub mod BusesTogether
 pub mod MachinesWidened
+pub mod NamesWalked
 pub mod NumbersTold
 pub mod OffersTold
 pub mod OneOfList
 pub mod OthersTogether
 pub mod FoundTogether
 pub mod ProfilesAsked
+pub mod RefusalsNumbered
 pub mod ReportsCarried
 pub mod ReportsTold
 pub mod ReportsWidened
@@ -44,6 +46,7 @@ pub mod RunsEvaluate
 pub mod RunsFound
 pub mod TablesInTurn
 pub mod TellingWidened
+pub mod TemplatesTold
 pub mod TextsKept
 pub mod WidthsFound
 pub mod SettingsTogether

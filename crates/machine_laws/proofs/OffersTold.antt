@@ -61,6 +61,9 @@ increasing (x ∷ y ∷ set) r zero l = r.0.0
 increasing (x ∷ y ∷ set) r (suc k) l =
     subst (λ n. slice_index (y ∷ set) k < slice_index (x ∷ y ∷ set) n) {x = suc (k + 1)} {y = suc k + 1} (omega arith) (increasing (y ∷ set) r.1 k (omega (arith, l)))
 
+pub set_ascends : (numbers : List ℕ) → IsStrictlyIncreasing (set_of numbers)
+set_ascends numbers = increasing (set_of numbers) (all_rise [] numbers tt)
+
 -- a set of some number has a number
 some_number : (numbers : List ℕ) (n : ℕ) → Contains numbers n → (length (set_of numbers) == 0) ≡ false
 some_number numbers n has = ne_eqb (length (set_of numbers)) 0 (λ e. let c = ((members_of_set numbers n).1 has).1 in omega (arith, e, c))
@@ -98,7 +101,7 @@ module _ (exclusives : Exclusives) (d : InterruptDescriptor) (polarity sharing :
     told : IsOfferOf d polarity (interrupt_offer (set_of d.numbers) d.form d.flags)
     told = record {
       same_numbers = members_of_set d.numbers;
-      ascending = increasing (set_of d.numbers) (all_rise [] d.numbers tt);
+      ascending = set_ascends d.numbers;
       same_form = refl;
       same_flags = refl;
       low = λ is. low_told d.form d.flags 0 sharing (subst (λ p. HasFlags d.form d.flags 0 p sharing) is flags);

@@ -11,6 +11,7 @@ pub mod LoadedInTurn
 pub mod Notes
 pub mod PassedCalls
 pub mod ReportedNotes
+pub mod RefusalNumbers
 pub mod RoutingEntries
 pub mod TextsKnown
 pub mod Widened

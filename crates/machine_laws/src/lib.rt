@@ -12,7 +12,10 @@ mod link_objects;
 mod loading;
 mod notes;
 mod profiles;
+mod refusals;
 mod reports;
+mod templates;
+mod walks;
 mod worlds;
 
 pub use bounds::{
@@ -58,10 +61,15 @@ pub use profiles::{
     the_wide_profile_gathers_what_the_core_one_does,
     the_wide_profile_reports_what_the_core_one_does,
 };
+pub use refusals::each_refusal_is_told_by_its_number;
 pub use reports::{
     a_line_of_a_report_tells_of_its_accesses, noting_changes_no_report,
     the_lines_of_a_report_tell_of_their_accesses,
 };
+pub use templates::{
+    a_template_says_what_its_items_say, interrupts_are_numbered_by_bits_and_bytes,
+};
+pub use walks::each_name_that_stands_is_walked;
 pub use worlds::{
     a_machine_makes_of_its_world_what_evaluations_do, a_run_changes_its_machine_by_evaluations,
     the_first_that_a_machine_passes_over_are_kept,
