@@ -50,6 +50,7 @@ pub mod CleanValues
 pub mod CleanWorlds
 pub mod ComparedValues
 pub mod ConstantsGiven
+pub mod ContentsHeld
 pub mod ConversionTermsDone
 pub mod ConversionsAnswered
 pub mod ConversionsSpelled

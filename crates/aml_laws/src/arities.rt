@@ -55,9 +55,11 @@ pub fn a_name_takes_the_arguments_of_the_nearest_count()
         arity_at told path ≡ None → arity_of told scope name path ≡ 0 }
 {}
 
-/// While bytes are read, the list of a Scope is read in the path at which its name has a count: a name of one segment
-/// and without a prefix below the longest front of the scope, as above. Where that has none, and for any other name,
-/// it is the path for which the name stands. A list that is always read at that path is refused by this.
+/// While bytes are read, the path of the name of a Scope, in which its list is read
+/// (`lists_are_read_and_names_declared_in_their_scope` of `aml_spelling` says so), is the one at which this name has a
+/// count: a name of one segment and without a prefix below the longest front of the scope, as above. Where that has
+/// none, and for any other name, it is the path for which the name stands. A list that is always read at that path is
+/// refused by this.
 pub fn the_list_of_a_scope_is_read_at_the_nearest_count()
     ensures nearest { (told : List Arity) (scope path : List Seg) (s : Seg) (k count : ℕ) →
         IsNearestCount told scope (s ∷ []) k count →
