@@ -1,5 +1,5 @@
 -- No change that a term makes of a world touches the texts that \_OSI knows.
-use Rattle.std.specs.Prelude.{◌≡◌, ℕ, List, true, refl}
+use Rattle.std.specs.Prelude.{◌≡◌, ℕ, List, true, false, refl}
 use Rattle.std.proofs.Common.{◌∙◌}
 use Rattle.ar_space.specs.Accesses.{Accesses}
 use Rattle.ar_space.specs.declared.integer_width.IntegerWidth.{IntegerWidth}
@@ -21,7 +21,8 @@ osi_relation accesses = record {
   slots_written = λ w frames is. refl;
   frame_closed = λ w v vs h. h;
   names_removed = λ u w q at h. h;
-  region_accessed = λ u w region s stands r h. h;
+  told = false;
+  region_accessed = λ u w region space s stands at r h. h;
   bridge_asked = λ u w at width wide asks h. h;
   loads = true;
   arities_set = λ loads w list. refl;
