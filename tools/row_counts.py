@@ -1,8 +1,8 @@
 #!/usr/bin/env python3
-"""row_counts.py - whether each program of rows promises to run as many rows as its data has.
+"""row_counts.py - whether the stdout of each program of rows says as many rows as its data has.
 
-Compares `N rows passed, M failed` in crates/NAME/stdout with the lines `row` of crates/NAME/data. The gate would see a difference when it
-runs the program, which is after all proofs. Each difference is printed, and the exit status is then 1."""
+Compares `N rows passed, M failed` in crates/NAME/stdout with the lines `row` of crates/NAME/data. The gate would see a difference only when
+it runs the program, after all proofs. Each difference is printed, and the exit status is then 1."""
 import os
 import re
 import sys
