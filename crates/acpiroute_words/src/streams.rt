@@ -120,8 +120,8 @@ impl<W: Write> Sink for Outside<W> {
     }
 }
 
-/// A text in memory that grows. A write to it fails only where its room doesn't do; that a growth was refused then is
-/// no clause, and tested.
+/// A text in memory that grows. A write to it fails only where memory for it runs out. Tests show that, and no clause
+/// says it.
 #[derive(Drop)]
 pub struct Growing {
     /// What was written.

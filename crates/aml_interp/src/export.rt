@@ -88,6 +88,8 @@ fn package_exported<S: Space>(run: &mut Running<S>, levels: usize, object: u32) 
     elements_exported(run, levels - 1, object)
 }
 
+/// The elements are those that the package has when its turn comes. What the address of a field stores into it
+/// meanwhile doesn't show.
 #[cycle(exporting)]
 #[tactic(auto, using(aml_meaning::proofs::Exports::exporting), unfolding(aml_meaning::specs::Exporting::elements_exported))]
 fn elements_exported<S: Space>(run: &mut Running<S>, levels: usize, object: u32) -> Result<Datum>

@@ -116,6 +116,7 @@ module _ {S : Type 0} (accesses : Accesses S) (package_exported : ℕ → Run S 
     g ← element_exported e
     each_exported es (done ++ g ∷ [])
 
+  -- the elements are those that the package has when its turn comes: what the address of a field stores into it meanwhile doesn't show
   unfoldable pub elements_exported : ℕ → Run S given.Given
   elements_exported o = do
     es ← lift (on_objects (elements_at o))

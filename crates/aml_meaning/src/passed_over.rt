@@ -149,13 +149,6 @@ fn is_passable_evaluation(fault: EvaluationFault) -> bool
 }
 
 impl<S> WorldState<S> {
-    /// The refusals that were passed over.
-    pub fn passed_over(&self) -> &PassedOver
-        ensures { result.now ≡ self.now.passed }
-    {
-        &self.passed
-    }
-
     /// Passes over a refusal, which belongs to a scope: it is noted, and what was told of where evaluation was refused
     /// is forgotten. Another refusal than those that are passed over is handed back, and then nothing changes.
     #[tactic(auto, using(crate::proofs::Lifted::passing))]

@@ -4,7 +4,7 @@
 //! A trace is made when an evaluation is refused, and at no other time. No contract says what the trace of a world
 //! holds: the clauses here say what a trace shows of what it holds, and that making it changes nothing else that a
 //! contract sees.
-ghost use Rattle.std.specs.Prelude.{◌≡◌, option_map};
+ghost use Rattle.std.specs.Prelude.{◌≡◌, [], None, false, option_map};
 
 use crate::world_state::WorldState;
 use aml_path::{NameString, Path};
@@ -47,7 +47,11 @@ pub struct Trace {
 
 impl Trace {
     /// A trace of nothing. It takes no memory.
-    pub fn new(alloc: Global) -> Trace {
+    pub fn new(alloc: Global) -> Trace
+        ensures places { result.places.items ≡ [] }
+        ensures name { result.name ≡ None }
+        ensures whole { result.is_cut ≡ false }
+    {
         Trace {
             places: Vec::new(alloc),
             name: None,
@@ -126,12 +130,6 @@ impl Trace {
 }
 
 impl<S> WorldState<S> {
-    /// Where the evaluation that was last begun was refused. That this is the place is tested, and no contract says
-    /// it; reading it changes nothing.
-    pub fn trace(&self) -> &Trace {
-        &self.trace
-    }
-
     /// An evaluation begins that may take so many steps: nothing is refused yet.
     pub fn begin_trace(&mut self, steps: u64)
         ensures { self.new ≡ self.old }

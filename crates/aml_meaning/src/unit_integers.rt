@@ -35,9 +35,9 @@ impl<S> WorldState<S> {
 }
 
 impl<S: Space> WorldState<S> {
-    /// The value of a field unit as an integer, or none, and then nothing changes. Refused as `read_field` refuses
-    /// it. It is for units that lie within one access unit of SystemMemory or SystemIO and have no more bits than an
-    /// integer: that these have an integer, and others none, is no clause.
+    /// The value of a field unit as an integer, or none, and then nothing changes. Refused as `read_field` refuses it.
+    /// It answers an integer for a unit that lies within one access unit of SystemMemory or SystemIO and has no more
+    /// bits than an integer, and none for any other. No clause says for which units it answers one.
     pub fn unit_integer(&mut self, unit: FieldUnit) -> Result<Option<u64>>
         ensures read { IfOk result (λ read. MatchOption read (self.new ≡ self.old)
             (λ number. (call : List Segment → Run S ℕ) (steps : ℕ) →
@@ -56,8 +56,8 @@ impl<S: Space> WorldState<S> {
         read_number(&mut self.space, region, unit)
     }
 
-    /// Stores an integer to a field unit, or answers no, and then nothing changes. Refused as `write_field` refuses
-    /// it. It is for the units that `unit_integer` is for: that it stores to these, and to no other, is no clause.
+    /// Stores an integer to a field unit, or answers no, and then nothing changes. Refused as `write_field` refuses it.
+    /// It stores to the units for which `unit_integer` answers an integer, and to no other. No clause says so.
     pub fn put_unit_integer(&mut self, unit: FieldUnit, number: u64) -> Result<bool>
         ensures written { IfOk result (λ done. MatchBool done ((call : List Segment → Run S ℕ) (steps : ℕ) →
             Does (Ok tt) (self.new, steps) (field_stored S.accesses call (field.Unit unit) (Integer number))

@@ -100,7 +100,8 @@ impl<S> World<S> {
         (world.space, world.trace, world.passed)
     }
 
-    /// Where the evaluation that was last begun was refused, as `WorldState::trace` tells it.
+    /// Where the evaluation that was last begun was refused. That this is the place is tested, and no contract says it;
+    /// reading it changes nothing.
     pub fn trace(&self) -> &Trace {
         &self.running.world.trace
     }

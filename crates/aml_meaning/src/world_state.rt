@@ -17,9 +17,8 @@ use std::marker::Model;
 
 /// The state of a world: what evaluation changes, the register space among it: the namespace, how many arguments its
 /// names take, the objects, the frames of the calls in progress with the number of the next one, the texts that
-/// `_OSI` knows, how wide integers are, the profile, how deep
-/// calls and terms may be, and what was passed over. Beside them stands where evaluation was
-/// refused last, which no contract sees.
+/// `_OSI` knows, how wide integers are, the profile, how deep calls and terms may be, and what was passed over. Beside
+/// them stand where evaluation was refused last and where the world takes its memory, which no contract sees.
 #[derive(Drop)]
 pub struct WorldState<S> {
     pub(crate) declarations: Declarations,
@@ -101,13 +100,6 @@ impl<S> WorldState<S> {
         &self.declarations.names
     }
 
-    /// How wide integers are.
-    pub fn width(&self) -> IntegerWidth
-        ensures { result ≡ self.now.width }
-    {
-        self.width
-    }
-
     /// The profile, which nothing changes.
     pub fn profile(&self) -> Profile
         ensures { result ≡ self.now.profile }
@@ -120,12 +112,5 @@ impl<S> WorldState<S> {
         ensures { result ≡ self.now.nesting }
     {
         self.nesting
-    }
-
-    /// The register space.
-    pub fn space(&self) -> &S
-        ensures { result.now ≡ self.now.space }
-    {
-        &self.space
     }
 }
