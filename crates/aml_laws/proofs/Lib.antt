@@ -118,6 +118,7 @@ pub mod FieldsReached
 pub mod FieldsTaken
 pub mod FormedElsewhere
 pub mod FieldSources
+pub mod FieldUnitsFound
 pub mod FieldsInFrames
 pub mod FieldsInOrder
 pub mod FieldsLaidOut
@@ -288,6 +289,7 @@ pub mod ItemsTogether
 pub mod JoinedBeyondLimits
 pub mod JoinedResources
 pub mod KeptUnits
+pub mod KnownFieldUnits
 pub mod Levels
 pub mod LimitsRefused
 pub mod LimitsTaken

@@ -1,5 +1,5 @@
 //! Operation regions.
-ghost use Rattle.std.specs.Prelude.{◌≡◌};
+ghost use Rattle.std.specs.Prelude.{◌≡◌, []};
 ghost use Rattle.ar_space.specs.Accesses.{Accesses};
 ghost use Rattle.aml_meaning.specs.State.{State};
 ghost use Rattle.aml_laws.specs.Becomes.{Becomes};
@@ -20,7 +20,7 @@ ghost use Rattle.aml_laws.specs.Histories.{History, NotesExplained};
 /// refused by this.
 #[tactic(auto, using(crate::proofs::WorldHistories::has_history, crate::proofs::WorldHistories::accesses_explained))]
 pub fn registers_are_reached_within_regions<S>()
-    ensures history { (accesses : Accesses S) (w v : State S) → Becomes accesses w v → History accesses w v }
+    ensures history { (accesses : Accesses S) (w v : State S) → Becomes accesses w v → History accesses [] w v }
     ensures noted { (accesses : Accesses S) (w v : State (WithNotes S)) → Becomes (noted accesses) w v →
         v.names.next ≡ w.names.next → NotesExplained w.profile w.names.map w.space v.space }
 {}
