@@ -1,5 +1,5 @@
 -- No change that a term makes of a world touches the arguments that names take; a table leaves those that it told.
-use Rattle.std.specs.Prelude.{◌≡◌, ℕ, List, true, false, Ok, Err, refl}
+use Rattle.std.specs.Prelude.{◌≡◌, ℕ, List, [], true, false, Ok, Err, refl}
 use Rattle.std.proofs.Common.{ap, ◌∙◌}
 use Rattle.ar_space.specs.Accesses.{Accesses}
 use Rattle.ar_space.specs.Change.{go_on, ◌>>=◌}

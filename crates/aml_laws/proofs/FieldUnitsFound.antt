@@ -31,7 +31,6 @@ use Rattle.aml_namespace.specs.Namespace.{Map, numbered}
 use Rattle.aml_namespace.specs.Search.{Found, found}
 use Rattle.aml_namespace.proofs.Numbering.{numbered_stands}
 use Rattle.aml_meaning.specs.declared.invocation.Invocation.{Invocation}
-use Rattle.aml_meaning.specs.declared.invocation.Invocation.TheVariants as invocation
 use Rattle.aml_meaning.specs.declared.name_use.NameUse.{NameUse}
 use Rattle.aml_meaning.specs.declared.name_use.NameUse.TheVariants as uses
 use Rattle.aml_meaning.specs.declared.object_type.Referent.{Referent}
@@ -54,7 +53,7 @@ use Rattle.aml_meaning.specs.Exporting.{value_or_path, held_or_path, use_of, nam
 use Rattle.aml_meaning.specs.MatchTerms.{unless_uninitialized, where_named, name_held, held_by, element_held}
 use Rattle.aml_meaning.specs.StoreTargets.{holding_of, holding_in, held_at, declaration, once, declared_once, value_once, slot_once, named_once, name_once, element_once, held_once, byte_once, dereferenced, held_in, name_read, held_in_slot, target_read, referent_of, byte_followed, value_followed, referent_followed, declared_followed, slot_followed, element_named, name_followed, element_followed, held_followed, reference_followed, followed, most_references, slot_referent, referent_in, declared_referent, name_referent, target_referent}
 use Rattle.aml_meaning.specs.Stores.{copy_into_slot, copy_into_name, copy_into_element, copy_over, store_integer, store_text, store_bytes, store_package, store_over_value, store_over, store_byte, copy_into_declared, store_in_declared, store_over_slot, store_in_frame, store_in_frame_numbered, store_at_reference, stored_through, store_to, store_in_slot, store_in_name, stored, copy_in_name, copied_to}
-use Rattle.aml_meaning.specs.FormedStores.{is_integer, is_string, is_buffer, formed_over_value, formed_over, formed_in_name, formed_in_declared, formed_through, formed_to}
+use Rattle.aml_meaning.specs.FormedStores.{is_integer, is_string, is_buffer, formed_over_value, formed_over, formed_in_name, formed_in_declared, formed_to}
 use Rattle.aml_laws.specs.Histories.{numbered_entry, FieldUnitStands, LiesInRegion, by_field}
 use Rattle.aml_laws.proofs.FoundNamesStand.{FoundStands, found_stands}
 use Rattle.aml_laws.proofs.LocatedRegions.{Gives, then_gives, declaration_found}

@@ -45,7 +45,7 @@ use Rattle.aml_laws.specs.Numbers.{numbers_of}
 use Rattle.aml_laws.specs.RegionAccesses.{AsksBridge, ReachedWithin}
 use Rattle.aml_laws.proofs.FoundNamesStand.{MethodStandsAt}
 use Rattle.aml_laws.proofs.LocatedRegions.{IsAsMeant, IsLocated}
-use Rattle.aml_laws.proofs.Preorders.{Preorder, Respects, either_branch}
+use Rattle.aml_laws.proofs.Preorders.{Preorder, either_branch}
 use Rattle.aml_laws.proofs.ObjectKinds.{KeepsObjectKinds}
 
 -- a control method, an operation region or a field unit, which never takes the place of another object
@@ -197,20 +197,16 @@ pub record PartsLead {S : Type 0} {accesses : Accesses S} (levels : Levels acces
   pub part : (t : Task) → RunPreserves (levels.at t.depth) (ev t)
   pub as_meant : (level : ℕ) → (levels.at level).told ≡ true → IsAsMeant accesses ev
 
--- an evaluation that does, where some field units are known
+-- an evaluation that does where some field units are known, and that as a preorder
+pub record RunPreservesBy {S A : Type 0} {listed : Bool} {accesses : Accesses S} (relation : WorldRelationOf listed accesses) (known : List FieldUnit) (m : Run S A) : Type 0 where
+  pub preserves_by : (s : State S × ℕ) → relation.LeadsBy known s.0 (m s).1.0
+
 abbrev pub known_preorder : {S : Type 0} {listed : Bool} {accesses : Accesses S} → WorldRelationOf listed accesses → List FieldUnit → Preorder (State S × ℕ)
 known_preorder relation known = record {
   Leads = λ s t. relation.LeadsBy known s.0 t.0;
   reflexive = λ s. relation.by_any known s.0 s.0 (relation.reflexive s.0);
   transitive = λ s t u. relation.by_transitive known s.0 t.0 u.0;
 }
-
-pub record RunPreservesBy {S A : Type 0} {listed : Bool} {accesses : Accesses S} (relation : WorldRelationOf listed accesses) (known : List FieldUnit) (m : Run S A) : Type 0 where
-  pub preserves_by : (s : State S × ℕ) → relation.LeadsBy known s.0 (m s).1.0
-
--- as a relation of worlds with the steps that are left
-abbrev pub run_preorder : {S : Type 0} {listed : Bool} {accesses : Accesses S} → WorldRelationOf listed accesses → Preorder (State S × ℕ)
-run_preorder relation = record { Leads = λ s t. relation.Leads s.0 t.0; reflexive = λ s. relation.reflexive s.0; transitive = λ s t u. relation.transitive s.0 t.0 u.0 }
 
 -- some field units stand
 abbrev pub FieldUnitsStand : Map → List FieldUnit → Type 0
@@ -351,12 +347,6 @@ module _ {S : Type 0} {listed : Bool} {accesses : Accesses S} {relation : WorldR
   pub run_then_preserves : {A B : Type 0} (m : Run S A) (k : A → Run S B) → RunPreserves relation m → ((a : A) → RunPreserves relation (k a)) → RunPreserves relation (m >>= k)
   unfolding ◌>>=◌
   run_then_preserves m k h i = record { preserves = λ s. run_go_on_preserves s.0 (m s).0 (m s).1 k i (h.preserves s) }
-
-  pub preserves_respects : {A : Type 0} {m : Run S A} → RunPreserves relation m → Respects (run_preorder relation) m
-  preserves_respects h = record { respects = h.preserves }
-
-  pub respects_preserves : {A : Type 0} {m : Run S A} → Respects (run_preorder relation) m → RunPreserves relation m
-  respects_preserves h = record { preserves = h.respects }
 
   -- ---- with so many steps
 
