@@ -1,5 +1,5 @@
 -- Taking arguments in and handing an answer out preserve every world relation.
-use Rattle.std.specs.Prelude.{Bool, ◌≡◌, ℕ, zero, suc, List, [], ◌∷◌, length, take, Ok, Err, refl}
+use Rattle.std.specs.Prelude.{Bool, ◌≡◌, ℕ, zero, suc, List, [], ◌∷◌, ◌++◌, length, take, Ok, Err, refl}
 use Rattle.std.proofs.Common.{sym, ◌∙◌, ap, subst}
 use Rattle.ar_space.specs.Accesses.{Accesses}
 use Rattle.ar_space.specs.Outcome.{Outcome}
@@ -24,7 +24,9 @@ use Rattle.aml_meaning.specs.Exporting.{text_exported, bytes_exported, path_of, 
 use Rattle.aml_laws.specs.Kinds.{KeepsKinds}
 use Rattle.aml_laws.proofs.Preorders.{Preorder, Respects, give_respects, stop_respects, then_respects}
 use Rattle.aml_laws.proofs.ObjectKinds.{KeepsObjectKinds, kinds_reflexive, kinds_transitive, kinds_of_front, make_string_keeps_kinds, make_buffer_keeps_kinds, make_package_keeps_kinds, string_at_keeps_kinds, buffer_at_keeps_kinds, elements_at_keeps_kinds}
-use Rattle.aml_laws.proofs.WorldRelations.{Levels, WorldRelationOf, Preserves, RunPreserves, unchanged_preserves, give_preserves, then_preserves, on_objects_preserves, run_give_preserves, run_stop_preserves, lift_preserves, charge_preserves, run_then_preserves}
+use Rattle.aml_laws.proofs.WorldRelations.{Levels, WorldRelationOf, Preserves, RunPreserves, RunPreservesBy, unchanged_preserves, give_preserves, then_preserves, on_objects_preserves, run_give_preserves, run_stop_preserves, lift_preserves, charge_preserves, run_then_preserves}
+use Rattle.aml_laws.proofs.FieldUnitsFound.{units_used, lift_finds, name_use_finds}
+use Rattle.aml_laws.proofs.KnownFieldUnits.{by_any, give_by, found_then}
 use Rattle.aml_laws.proofs.FieldsPreserve.{field_given_preserves}
 use Rattle.aml_laws.proofs.OperandsAndCallsPreserve.{called_at_preserves, called_at_asks}
 use Rattle.aml_laws.proofs.RulesPreserve.{meaning_parts_lead}
@@ -131,15 +133,15 @@ module _ {S : Type 0} {accesses : Accesses S} (levels : Levels accesses) (out : 
   value_exported_preserves (value.Package o) = outs o
   value_exported_preserves (value.Reference r) = reference_exported_preserves r
 
-  use_exported_preserves : (u : NameUse) → RunPreserves (levels.at 1) (use_exported accesses out u)
+  use_exported_preserves : (u : NameUse) → RunPreservesBy (levels.at 1) (units_used u ++ []) (use_exported accesses out u)
   unfolding use_exported
-  use_exported_preserves (uses.Value v) = value_exported_preserves v
-  use_exported_preserves (uses.Field u) = field_given_preserves _ (called_at_preserves _ (meaning_parts_lead levels) {level = 1} 1) (called_at_asks _ (meaning_parts_lead levels) {level = 1} 1) u
-  use_exported_preserves (uses.Path p) = run_give_preserves _
+  use_exported_preserves (uses.Value v) = by_any [] _ (value_exported_preserves v)
+  use_exported_preserves (uses.Field u) = field_given_preserves _ (called_at_preserves _ (meaning_parts_lead levels) {level = 1} 1) (called_at_asks _ (meaning_parts_lead levels) {level = 1} 1) [] u
+  use_exported_preserves (uses.Path p) = give_by _
 
   name_exported_preserves : (n : Name) (scope : List Seg) → RunPreserves (levels.at 1) (name_exported accesses out n scope)
   unfolding name_exported
-  name_exported_preserves n scope = run_then_preserves _ _ (lift_preserves _ (name_use_preserves n scope)) (λ u. use_exported_preserves u)
+  name_exported_preserves n scope = found_then _ _ (lift_preserves _ (name_use_preserves n scope)) (lift_finds _ (name_use_finds n scope)) (λ u. use_exported_preserves u)
 
   held_exported_preserves : (e : Element) → RunPreserves (levels.at 1) (held_exported accesses out e)
   unfolding held_exported

@@ -1,5 +1,5 @@
 -- No change that a term makes of a world touches the arguments that names take; a table leaves those that it told.
-use Rattle.std.specs.Prelude.{◌≡◌, ℕ, List, true, false, Ok, Err, refl}
+use Rattle.std.specs.Prelude.{◌≡◌, ℕ, List, [], true, false, Ok, Err, refl}
 use Rattle.std.proofs.Common.{ap, ◌∙◌}
 use Rattle.ar_space.specs.Accesses.{Accesses}
 use Rattle.ar_space.specs.Change.{go_on, ◌>>=◌}
@@ -25,14 +25,14 @@ use Rattle.aml_laws.proofs.LocatedRegions.{meant}
 use Rattle.aml_laws.proofs.OperandsAndCallsPreserve.{field_read_preserves, stored_to_preserves, invoked_preserves_from}
 use Rattle.aml_laws.proofs.RulesPreserve.{meaning_parts_lead, meaning_preserves, list_preserves}
 use Rattle.aml_laws.proofs.TablesRead.{table_read, table_not_loaded}
-use Rattle.aml_laws.proofs.WorldRelations.{WorldRelation, always}
+use Rattle.aml_laws.proofs.WorldRelations.{WorldRelation, always, plain}
 
 -- no table is loaded
 never_set : (list told : List Arity) → false ≡ true → list ≡ told
 never_set list told loads = absurd (cc loads)
 
 abbrev arities_relation : {S : Type 0} (accesses : Accesses S) → WorldRelation accesses
-arities_relation accesses = record {
+arities_relation accesses = plain (record {
   Leads = λ w v. v.arities ≡ w.arities;
   reflexive = λ w. refl;
   transitive = λ u v w h i. i ∙ h;
@@ -43,13 +43,13 @@ arities_relation accesses = record {
   frame_closed = λ w v vs h. h;
   names_removed = λ u w q at h. h;
   told = false;
-  region_accessed = λ u w region space s stands at r h. h;
+  region_accessed = λ u w field region space s stands at r h. h;
   bridge_asked = λ u w at width wide asks h. h;
   loads = false;
   arities_set = λ loads w list. never_set list w.arities loads;
   mutexes_released = λ w. refl;
   passed_noted = λ listed u w scope e wide is h. h;
-}
+})
 
 module _ {S : Type 0} (accesses : Accesses S) where
   pub term_keeps_arities : (t : Task) (s : State S × ℕ) → (meaning accesses t s).1.0.arities ≡ s.0.arities
@@ -62,7 +62,7 @@ module _ {S : Type 0} (accesses : Accesses S) where
   call_keeps_arities depth p body arguments s = (invoked_preserves_from {relation = arities_relation accesses} (meaning accesses) meaning_preserves (λ told. meant) s.0 depth p body arguments (λ v h. h)).preserves_from s refl
 
   pub field_keeps_arities : (depth : ℕ) (f : Field) (s : State S × ℕ) → (field_read accesses (meaning accesses) depth f s).1.0.arities ≡ s.0.arities
-  field_keeps_arities depth f s = (field_read_preserves {levels = always (arities_relation accesses)} (meaning accesses) (meaning_parts_lead (always (arities_relation accesses))) {level = depth} depth f).preserves s
+  field_keeps_arities depth f s = (field_read_preserves {levels = always (arities_relation accesses)} (meaning accesses) (meaning_parts_lead (always (arities_relation accesses))) {level = depth} [] depth f).preserves_by s
 
   pub store_keeps_arities : (depth : ℕ) (target : StoreTarget) (v : Value) (s : State S × ℕ) → (stored_to accesses (meaning accesses) depth target v s).1.0.arities ≡ s.0.arities
   store_keeps_arities depth target v s = (stored_to_preserves {levels = always (arities_relation accesses)} (meaning accesses) (meaning_parts_lead (always (arities_relation accesses))) {level = depth} depth target v).preserves s

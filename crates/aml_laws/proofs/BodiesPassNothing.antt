@@ -20,7 +20,7 @@ use Rattle.aml_laws.proofs.EvaluationsPreserve.{evaluated_preserves, answered_pr
 use Rattle.aml_laws.proofs.Levels.{no_module}
 use Rattle.aml_laws.proofs.OperandsAndCallsPreserve.{invoked_leads_from}
 use Rattle.aml_laws.proofs.RulesPreserve.{meaning_parts_lead, list_leads}
-use Rattle.aml_laws.proofs.WorldRelations.{WorldRelationOf, Levels}
+use Rattle.aml_laws.proofs.WorldRelations.{WorldRelationOf, Levels, plain}
 
 -- nothing more is noted, but at module level
 abbrev NotedNowhere : {S : Type 0} → ℕ → State S → State S → Type 0
@@ -30,7 +30,7 @@ never_listed : {S : Type 0} (depth : ℕ) (u w : State S) → module_level depth
 never_listed depth u w listed fails = absurd (cc (sym listed ∙ fails))
 
 abbrev body_relation : {S : Type 0} (accesses : Accesses S) (depth : ℕ) → WorldRelationOf (module_level depth) accesses
-body_relation accesses depth = record {
+body_relation accesses depth = plain (record {
   Leads = NotedNowhere depth;
   reflexive = λ w body. refl;
   transitive = λ u v w h i body. i body ∙ h body;
@@ -41,13 +41,13 @@ body_relation accesses depth = record {
   frame_closed = λ w v vs h. h;
   names_removed = λ u w q at h. h;
   told = false;
-  region_accessed = λ u w region space s stands at r h. h;
+  region_accessed = λ u w field region space s stands at r h. h;
   bridge_asked = λ u w at width wide asks h. h;
   loads = true;
   arities_set = λ loads w list body. refl;
   mutexes_released = λ w body. refl;
   passed_noted = λ listed u w scope e wide is h. never_listed depth u (with_passed scope e w) listed;
-}
+})
 
 abbrev bodies : {S : Type 0} (accesses : Accesses S) → Levels accesses
 bodies accesses = record { at = body_relation accesses; deeper = λ depth d w v h body. h (no_module depth) }

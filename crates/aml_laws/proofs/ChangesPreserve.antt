@@ -37,6 +37,7 @@ use Rattle.aml_meaning.specs.OperatorTerms.{result_of_two, result_of_one, result
 use Rattle.aml_meaning.specs.Invocations.{body_terms, named_use, invocation_found, call_allowed}
 use Rattle.aml_laws.proofs.ObjectKinds.{KeepsObjectKinds, make_string_keeps_kinds, make_buffer_keeps_kinds, make_package_keeps_kinds}
 use Rattle.aml_laws.proofs.Preorders.{give_respects, stop_respects}
+use Rattle.aml_laws.proofs.FieldUnitsFound.{invoked_field_stands}
 use Rattle.aml_laws.proofs.FoundNamesStand.{called_method_stands}
 use Rattle.aml_laws.proofs.WorldRelations.{WorldRelationOf, Preserves, FindsInvocation, then_finds_invocation, unchanged_preserves, give_preserves, settle_preserves, then_preserves, on_objects_preserves, declared_preserves, stop_preserves}
 
@@ -252,7 +253,7 @@ arguments_found_unchanged scope n w = go_on_unchanged _ w w _ (λ e u. refl) ref
 
 pub named_use_finds_invocation : {S : Type 0} (scope : List Seg) (n : Name) → FindsInvocation {S = S} (named_use scope n)
 unfolding named_use
-named_use_finds_invocation scope n = record { same = λ w. refl; called = λ w i e q body is. called_method_stands w.names.map scope n q body (e ∙ ap Ok is) }
+named_use_finds_invocation scope n = record { same = λ w. refl; called = λ w i e. record { method = λ q body is. called_method_stands w.names.map scope n q body (e ∙ ap Ok is); fields = invoked_field_stands w.names.map scope n i e } }
 
 pub invocation_found_finds_invocation : {S : Type 0} (scope : List Seg) (n : Name) (many : ℕ) → FindsInvocation {S = S} (invocation_found scope n many)
 unfolding invocation_found settle

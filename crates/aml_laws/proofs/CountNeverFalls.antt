@@ -4,6 +4,7 @@ use Rattle.std.proofs.Common.{arith}
 use Rattle.ar_space.specs.Accesses.{Accesses}
 use Rattle.aml_path.specs.declared.segment.Seg.{Seg}
 use Rattle.aml_grammar.specs.Tree.{Trees}
+use Rattle.aml_objects.specs.declared.entry.FieldUnit.{FieldUnit}
 use Rattle.aml_objects.specs.declared.entry.OperationRegion.{OperationRegion}
 use Rattle.aml_objects.specs.declared.value.Value.{Value}
 use Rattle.aml_fields.specs.declared.region.AddressSpace.{AddressSpace}
@@ -13,21 +14,21 @@ use Rattle.aml_meaning.specs.Invocations.{invoked}
 use Rattle.aml_laws.specs.Counted.{beside_counter, terms_begun, one_more_begun, counted_within, counted_meaning}
 use Rattle.aml_laws.specs.RegionAccesses.{ReachedWithin}
 use Rattle.aml_laws.specs.RegionAccesses as by
-use Rattle.aml_laws.proofs.WorldRelations.{WorldRelation, RunPreserves, never_told}
+use Rattle.aml_laws.proofs.WorldRelations.{WorldRelation, RunPreserves, never_told, plain}
 use Rattle.aml_laws.proofs.OperandsAndCallsPreserve.{in_turn_preserves, invoked_preserves_from}
 use Rattle.aml_laws.proofs.RulesPreserve.{rule_preserves}
 
 module _ {S : Type 0} (accesses : Accesses S) where
   -- no access reaches the counter
-  same_counter : (region : OperationRegion) (space : AddressSpace) (s t : S × ℕ) → ReachedWithin (beside_counter accesses) region space s t → t.1 ≡ s.1
+  same_counter : (field : FieldUnit) (region : OperationRegion) (space : AddressSpace) (s t : S × ℕ) → ReachedWithin (beside_counter accesses) field region space s t → t.1 ≡ s.1
   unfolding beside_counter
-  same_counter region space s t by.none = refl
-  same_counter region space s t (by.read u at width lies is r) = same_counter region space s u r
-  same_counter region space s t (by.written u at width value lies is r) = same_counter region space s u r
+  same_counter field region space s t by.none = refl
+  same_counter field region space s t (by.read u at width lies unit is r) = same_counter field region space s u r
+  same_counter field region space s t (by.written u at width value lies unit is r) = same_counter field region space s u r
 
   no_fewer_begun_relation : WorldRelation (beside_counter accesses)
   unfolding beside_counter
-  no_fewer_begun_relation = record {
+  no_fewer_begun_relation = plain (record {
     Leads = λ w v. w.space.1 ≤ v.space.1;
     reflexive = λ w. omega arith;
     transitive = λ u v w h i. omega (arith, h, i);
@@ -38,13 +39,13 @@ module _ {S : Type 0} (accesses : Accesses S) where
     frame_closed = λ w v vs h. h;
     names_removed = λ u w q at h. h;
     told = false;
-    region_accessed = λ u w region space s stands at r h. let e = same_counter region space w.space s r in omega (arith, e, h);
+    region_accessed = λ u w field region space s stands at r h. let e = same_counter field region space w.space s r in omega (arith, e, h);
     bridge_asked = λ u w at width wide asks h. h;
     loads = true;
     arities_set = λ loads w list. omega arith;
     mutexes_released = λ w. omega arith;
     passed_noted = λ listed u w scope e wide is h. h;
-  }
+  })
 
   -- ---- terms
 

@@ -27,13 +27,13 @@ use Rattle.aml_objects.specs.declared.value.Value.{Value}
 use Rattle.aml_meaning.specs.Slots.{opened}
 use Rattle.aml_laws.specs.Becomes.{Becomes}
 use Rattle.aml_laws.proofs.Preorders.{either_branch}
-use Rattle.aml_laws.proofs.WorldRelations.{WorldRelation}
+use Rattle.aml_laws.proofs.WorldRelations.{WorldRelation, plain}
 use Rattle.aml_laws.proofs.EvaluationsPreserve.{becomes_preserves, predefined_preserves}
 
 -- ---- below the next one, and apart
 
 abbrev numbered_relation : {S : Type 0} (accesses : Accesses S) → WorldRelation accesses
-numbered_relation accesses = record {
+numbered_relation accesses = plain (record {
   Leads = λ w v. Numbered w.names → Numbered v.names;
   reflexive = λ w h. h;
   transitive = λ u v w h i n. i (h n);
@@ -44,13 +44,13 @@ numbered_relation accesses = record {
   frame_closed = λ w v vs h n. h n;
   names_removed = λ u w q at h n. numbered_without q w.names (h n);
   told = false;
-  region_accessed = λ u w region space s stands at r h n. h n;
+  region_accessed = λ u w field region space s stands at r h n. h n;
   bridge_asked = λ u w at width wide asks h n. h n;
   loads = true;
   arities_set = λ loads w list n. n;
   mutexes_released = λ w n. numbered_released w.names n;
   passed_noted = λ listed u w scope e wide is h n. h n;
-}
+})
 
 pub numbered_stays : {S : Type 0} (accesses : Accesses S) (w v : State S) → Becomes accesses w v → Numbered w.names → Numbered v.names
 numbered_stays accesses w v h n = becomes_preserves (numbered_relation accesses) refl w v h n
@@ -99,7 +99,7 @@ unfolding mutexes_released
 gone_after_release n s h = record { given = h.given; gone = λ p e is. released_gone_by_cases n (get s.map p) e (λ x. h.gone p x) (sym (released_at s p) ∙ is) }
 
 abbrev gone_relation : {S : Type 0} (accesses : Accesses S) → ℕ → WorldRelation accesses
-gone_relation accesses n = record {
+gone_relation accesses n = plain (record {
   Leads = λ w v. Gone n w.names → Gone n v.names;
   reflexive = λ w h. h;
   transitive = λ u v w h i g. i (h g);
@@ -110,13 +110,13 @@ gone_relation accesses n = record {
   frame_closed = λ w v vs h g. h g;
   names_removed = λ u w q at h g. gone_after_removal n q w.names (h g);
   told = false;
-  region_accessed = λ u w region space s stands at r h g. h g;
+  region_accessed = λ u w field region space s stands at r h g. h g;
   bridge_asked = λ u w at width wide asks h g. h g;
   loads = true;
   arities_set = λ loads w list g. g;
   mutexes_released = λ w g. gone_after_release n w.names g;
   passed_noted = λ listed u w scope e wide is h g. h g;
-}
+})
 
 -- ---- what stands under a number
 

@@ -16,10 +16,11 @@ use Rattle.aml_meaning.specs.State.{State}
 use Rattle.aml_meaning.specs.Predefined as predefined
 use Rattle.aml_meaning.specs.Calling.{with_steps, in_frame, terms_kept, table_terms, at_root, table_run, loaded, value_of, called, evaluated, invocation_exported, answer_exported, answered}
 use Rattle.aml_laws.specs.Becomes.{Becomes, same, term, list, table, value, answer, passed}
+use Rattle.aml_laws.proofs.KnownFieldUnits.{from_standing}
 use Rattle.aml_laws.proofs.FieldsPreserve.{field_given_preserves}
 use Rattle.aml_laws.proofs.OperandsAndCallsPreserve.{called_at_preserves, called_at_asks}
 use Rattle.aml_laws.proofs.ObjectKinds.{make_string_keeps_kinds}
-use Rattle.aml_laws.proofs.WorldRelations.{Levels, always, WorldRelation, WorldRelationOf, Preserves, RunPreserves, RunPreservesFrom, CalledMethodStands, settle_preserves, then_preserves, on_objects_preserves, declared_preserves, in_frame_preserves, with_steps_preserves, counted_preserves, ending_preserves, run_give_preserves, lift_preserves, run_then_preserves, found_then_preserves, run_preserves_from, then_preserves_from}
+use Rattle.aml_laws.proofs.WorldRelations.{Levels, always, WorldRelation, WorldRelationOf, Preserves, RunPreserves, RunPreservesFrom, CalledStands, units_of_field, settle_preserves, then_preserves, on_objects_preserves, declared_preserves, in_frame_preserves, with_steps_preserves, counted_preserves, ending_preserves, run_give_preserves, lift_preserves, run_then_preserves, found_then_preserves, run_preserves_from, then_preserves_from}
 use Rattle.aml_laws.proofs.ChangesPreserve.{invocation_found_finds_invocation, osi_answered_preserves}
 use Rattle.aml_laws.proofs.OperandsAndCallsPreserve.{field_read_preserves, method_value_preserves_from}
 use Rattle.aml_laws.proofs.RulesPreserve.{meaning_parts_lead, list_leads, meaning_preserves, list_preserves}
@@ -55,10 +56,10 @@ module _ {S : Type 0} {accesses : Accesses S} (levels : Levels accesses) where
 
   -- ---- objects that are evaluated
 
-  value_of_preserves_from : (u : State S) (i : Invocation) (arguments : List Value) → CalledMethodStands u i → RunPreservesFrom (levels.at 1) u (value_of accesses i arguments)
+  value_of_preserves_from : (u : State S) (i : Invocation) (arguments : List Value) → CalledStands u i → RunPreservesFrom (levels.at 1) u (value_of accesses i arguments)
   value_of_preserves_from u (invocations.Value v) arguments at = run_preserves_from u _ (run_give_preserves _)
-  value_of_preserves_from u (invocations.Field f) arguments at = run_preserves_from u _ (field_read_preserves _ (meaning_parts_lead levels) {level = 1} 1 f)
-  value_of_preserves_from u (invocations.Method q body) arguments at = method_value_preserves_from _ (meaning_parts_lead levels) {level = 1} u 0 q body arguments (at q body refl)
+  value_of_preserves_from u (invocations.Field f) arguments at = from_standing u (units_of_field f) _ at.fields (field_read_preserves _ (meaning_parts_lead levels) {level = 1} [] 1 f)
+  value_of_preserves_from u (invocations.Method q body) arguments at = method_value_preserves_from _ (meaning_parts_lead levels) {level = 1} u 0 q body arguments (at.method q body refl)
   value_of_preserves_from u invocations.Osi arguments at = run_preserves_from u _ (lift_preserves _ (osi_answered_preserves arguments))
 
   called_preserves : (p : List Seg) (arguments : List Value) → RunPreserves (levels.at 1) (called accesses p arguments)
@@ -69,9 +70,9 @@ module _ {S : Type 0} {accesses : Accesses S} (levels : Levels accesses) where
   unfolding evaluated
   evaluated_preserves p arguments steps = counted_preserves steps _ (called_preserves p arguments)
 
-  invocation_exported_preserves_from : (u : State S) (i : Invocation) (arguments : List Value) → CalledMethodStands u i → RunPreservesFrom (levels.at 1) u (invocation_exported accesses i arguments)
+  invocation_exported_preserves_from : (u : State S) (i : Invocation) (arguments : List Value) → CalledStands u i → RunPreservesFrom (levels.at 1) u (invocation_exported accesses i arguments)
   invocation_exported_preserves_from u (invocations.Value v) arguments at = then_preserves_from u _ _ (value_of_preserves_from u (invocations.Value v) arguments at) (λ v. run_preserves_from u _ (exported_preserves levels v))
-  invocation_exported_preserves_from u (invocations.Field f) arguments at = run_preserves_from u _ (field_given_preserves _ (called_at_preserves _ (meaning_parts_lead levels) {level = 1} 1) (called_at_asks _ (meaning_parts_lead levels) {level = 1} 1) f)
+  invocation_exported_preserves_from u (invocations.Field f) arguments at = from_standing u (units_of_field f) _ at.fields (field_given_preserves _ (called_at_preserves _ (meaning_parts_lead levels) {level = 1} 1) (called_at_asks _ (meaning_parts_lead levels) {level = 1} 1) [] f)
   invocation_exported_preserves_from u (invocations.Method q body) arguments at = then_preserves_from u _ _ (value_of_preserves_from u (invocations.Method q body) arguments at) (λ v. run_preserves_from u _ (exported_preserves levels v))
   invocation_exported_preserves_from u invocations.Osi arguments at = then_preserves_from u _ _ (value_of_preserves_from u invocations.Osi arguments at) (λ v. run_preserves_from u _ (exported_preserves levels v))
 

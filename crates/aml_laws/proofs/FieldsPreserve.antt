@@ -1,6 +1,7 @@
 -- Reading, writing and declaring fields preserve every world relation.
-use Rattle.std.specs.Prelude.{◌≡◌, ℕ, nat_lt, List, [], ◌∷◌, ◌++◌, Bool, Option, Some, None, Ok, Err, refl, true, false}
+use Rattle.std.specs.Prelude.{◌≡◌, ℕ, nat_lt, List, [], ◌∷◌, ◌++◌, Bool, Option, Some, None, Ok, Err, Contains, refl, true, false}
 use Rattle.std.proofs.Common.{inl, inr, subst, sym}
+use Rattle.std.proofs.lemmas.List.Elements.{Contains-append_right}
 use Rattle.ar_space.specs.Accesses.{Accesses}
 use Rattle.ar_space.specs.Outcome.{Outcome}
 use Rattle.ar_space.specs.Change.{Change, settle, go_on, ◌>>=◌}
@@ -25,7 +26,6 @@ use Rattle.aml_fields.specs.declared.region.AddressSpace.{AddressSpace}
 use Rattle.aml_fields.specs.declared.region.Region.{Region}
 use Rattle.aml_fields.specs.Regions.{read_field, write_field}
 use Rattle.aml_fields.specs.Units.{units_of}
-use Rattle.aml_fields.specs.UnitByUnit.{bits_read, write_units, kept}
 use Rattle.aml_meaning.specs.declared.field_layout.FieldLayout.{FieldLayout}
 use Rattle.aml_meaning.specs.declared.field_layout.FieldGroup.{FieldGroup}
 use Rattle.aml_meaning.specs.declared.pci_functions.Sought.{Sought}
@@ -43,13 +43,16 @@ use Rattle.aml_meaning.specs.Regions.{pci_space, region_declared, field_declared
 use Rattle.aml_meaning.specs.Fields.{part_in, inherited, bus_behind, bus_behind_all, pci_address, space_at, located, region_bits, region_written, index_unit, index_unit_written, index_bits, index_written, field_unit_bits, field_unit_written, bits_in, written_in, field_value, field_integer, field_part, field_referent, field_stored, field_given, bank_selected, bank_unit, bank_unit_written, bank_bits, bank_written}
 use Rattle.aml_meaning.specs.Terms.{is_named}
 use Rattle.aml_meaning.specs.FieldTerms.{connection_found, named_connection, connection_if, new_field, named_field, reserved_field, access_field, element_laid, elements_laid, region_found, field_found}
-use Rattle.aml_laws.proofs.Preorders.{either_branch, bits_read_respects, write_units_respects, kept_respects, Preorder, Respects, then_respects}
+use Rattle.aml_laws.specs.Histories.{LiesInRegion, by_field, by_bank_field}
+use Rattle.aml_laws.proofs.Preorders.{either_branch, first_of, bits_read_respects, units_read_respects, write_units_respects, each_written_respects, kept_respects, Preorder, Respects, then_respects}
 use Rattle.aml_laws.proofs.ObjectKinds.{make_buffer_keeps_kinds, read_buffer_field_keeps_kinds, write_buffer_field_keeps_kinds}
+use Rattle.aml_laws.proofs.FieldUnitsFound.{lift_finds, LiesInItsRegion, field_declared_finds, field_declared_lies}
+use Rattle.aml_laws.proofs.KnownFieldUnits.{by_any, by_respects, respects_by, give_by, then_by, such_found_then}
 use Rattle.aml_laws.proofs.BridgesAsked.{secondary_bus_leads, MayAsk, function_may_ask}
 use Rattle.aml_laws.proofs.ChangesNothing.{pci_function_changes_nothing}
 use Rattle.aml_laws.proofs.LocatedRegions.{LocatedIn, AsksObjects, IsLocated, located_in}
 use Rattle.aml_laws.proofs.RegisterAccesses.{IsRegion, OnlyWithin, read_field_only_within, write_field_only_within, read_unit_only_within, write_whole_only_within}
-use Rattle.aml_laws.proofs.WorldRelations.{WorldRelationOf, Preserves, RunPreserves, RunPreservesFrom, run_preserves_from, then_preserves_from, respects_preserves, preserves_respects, unchanged_preserves, give_preserves, stop_preserves, settle_preserves, then_preserves, on_objects_preserves, run_give_preserves, run_stop_preserves, run_settle_preserves, lift_preserves, run_then_preserves}
+use Rattle.aml_laws.proofs.WorldRelations.{WorldRelationOf, Preserves, RunPreserves, RunPreservesFrom, RunPreservesBy, units_of_field, run_preserves_from, then_preserves_from, unchanged_preserves, give_preserves, stop_preserves, settle_preserves, then_preserves, on_objects_preserves, run_give_preserves, run_stop_preserves, run_settle_preserves, lift_preserves, run_then_preserves}
 use Rattle.aml_laws.proofs.ChangesPreserve.{entry_found_preserves, new_name_preserves}
 use Rattle.aml_laws.proofs.StoreTargetsPreserve.{declaration_preserves, bytes_in_preserves}
 
@@ -142,17 +145,6 @@ module _ {S : Type 0} {listed : Bool} {accesses : Accesses S} {relation : WorldR
   unfolding field_found
   field_found_preserves scope n = then_preserves _ _ (entry_found_preserves scope n) (λ e. settle_preserves _)
 
-  -- ---- unit by unit
-
-  bits_read_preserves : (read : Access → Run S ℕ) → ((u : Access) → RunPreserves relation (read u)) → (f : FieldUnit) → RunPreserves relation (bits_read read f)
-  bits_read_preserves read each f = respects_preserves (bits_read_respects _ (λ u. preserves_respects (each u)) f)
-
-  write_units_preserves : (write : Access → Run S (Unit {0})) → ((u : Access) → RunPreserves relation (write u)) → (us : List Access) → RunPreserves relation (write_units write us)
-  write_units_preserves write each us = respects_preserves (write_units_respects _ (λ u. preserves_respects (each u)) us)
-
-  kept_preserves : (f : FieldUnit) (u : Access) (read : Run S ℕ) → RunPreserves relation read → RunPreserves relation (kept f u read)
-  kept_preserves f u read h = respects_preserves (kept_respects f u _ (preserves_respects h))
-
 -- ---- field units
 
 module _ {S : Type 0} {listed : Bool} {accesses : Accesses S} {relation : WorldRelationOf listed accesses} (call : List Seg → Run S ℕ) (each : (q : List Seg) → RunPreserves relation (call q)) (asks : relation.told ≡ true → AsksObjects accesses call) where
@@ -218,110 +210,154 @@ module _ {S : Type 0} {listed : Bool} {accesses : Accesses S} {relation : WorldR
   unfolding located
   located_preserves n = run_then_preserves _ _ (lift_preserves _ (region_declared_preserves n)) (λ d. run_then_preserves _ _ (space_at_preserves _ d.0) (λ space. run_give_preserves _))
 
-  located_so : (u : State S) (r : Region) (at : LocatedIn accesses call u r) → relation.told ≡ true → IsLocated accesses u at.stands.path r.space
-  located_so u r at told = record { call = call; asks = asks told; answers = at.answers }
+  located_so : (u : State S) (n : ℕ) (r : Region) (at : LocatedIn accesses call u n r) → relation.told ≡ true → IsLocated accesses u at.stands.path r.space
+  located_so u n r at told = record { call = call; asks = asks told; answers = at.answers }
 
-  -- a region is accessed as it was declared when it was located
-  accessed_by_cases : {A : Type 0} (u : State S) (x : Outcome Region) (s : State S × ℕ) (m : Region → Change S A) → ((d : OperationRegion) (r : Region) → IsRegion d r → OnlyWithin accesses d r.space (m r)) → ((r : Region) → x ≡ Ok r → LocatedIn accesses call u r) → relation.Leads u s.0
-      → relation.Leads u (go_on x s (λ r. lift (on_space (m r)))).1.0
-  unfolding go_on lift on_space
-  accessed_by_cases u (Ok r) s m each_within at h = let d = at r refl in relation.region_accessed u s.0 d.declared r.space _ d.stands (located_so u r d) ((each_within d.declared r d.is).respects s.0.space) h
-  accessed_by_cases u (Err e) s m each_within at h = h
+  -- ---- field units that are known
 
-  located_then_preserves : {A : Type 0} (n : ℕ) (m : Region → Change S A) → ((d : OperationRegion) (r : Region) → IsRegion d r → OnlyWithin accesses d r.space (m r)) → RunPreserves relation (located accesses call n >>= (λ r. lift (on_space (m r))))
-  unfolding ◌>>=◌
-  located_then_preserves n m each_within = record { preserves = λ s. accessed_by_cases s.0 (located accesses call n s).0 (located accesses call n s).1 m each_within (located_in accesses call n s) ((located_preserves n).preserves s) }
+  -- a field unit of a region is known
+  record IsKnown (known : List FieldUnit) (f : RegionField) : Type 0 where
+    is : Contains known f.unit
+    lies : LiesInRegion f.unit.source f.region
 
-  region_bits_preserves : (f : RegionField) → RunPreserves relation (region_bits accesses call f)
-  unfolding region_bits
-  region_bits_preserves f = located_then_preserves f.region (λ r. read_field accesses r f.unit) (λ d r is. read_field_only_within accesses d r is f.unit)
+  module _ (known : List FieldUnit) where
+    abbrev By : {A : Type 0} → Run S A → Type 0
+    By m = RunPreservesBy relation known m
 
-  region_written_preserves : (f : RegionField) (bytes : List ℕ) → RunPreserves relation (region_written accesses call f bytes)
-  unfolding region_written
-  region_written_preserves f bytes = located_then_preserves f.region (λ r. write_field accesses r f.unit bytes) (λ d r is. write_field_only_within accesses d r is f.unit bytes)
+    -- a region is accessed as it was declared when it was located
+    region_led : {A : Type 0} (u : State S) (n : ℕ) (r : Region) (at : LocatedIn accesses call u n r) (s : State S) (f : FieldUnit) (m : Change S A) → Contains known f → LiesInRegion f.source n → OnlyWithin accesses f at.declared r.space m → relation.LeadsBy known u s
+        → relation.LeadsBy known u (record s { space = (m s.space).1 })
+    region_led u n r at s f m is lies only h = relation.region_accessed known u s f at.declared r.space _ is at.stands (subst (LiesInRegion f.source) (sym at.number) lies) (located_so u n r at) (only.respects s.space) h
 
-  index_unit_preserves : (index behind : RegionField) (w : Width) (u : Access) → RunPreserves relation (index_unit accesses call index behind w u)
-  unfolding index_unit
-  index_unit_preserves index behind w u = run_then_preserves _ _ (region_written_preserves index _) (λ chosen. run_then_preserves _ _ (region_bits_preserves behind) (λ bytes. run_give_preserves _))
+    accessed_by_cases : {A : Type 0} (u : State S) (n : ℕ) (f : FieldUnit) (x : Outcome Region) (s : State S × ℕ) (m : Region → Change S A) → Contains known f → LiesInRegion f.source n → ((d : OperationRegion) (r : Region) → IsRegion d r → OnlyWithin accesses f d r.space (m r))
+        → ((r : Region) → x ≡ Ok r → LocatedIn accesses call u n r) → relation.LeadsBy known u s.0 → relation.LeadsBy known u (go_on x s (λ r. lift (on_space (m r)))).1.0
+    unfolding go_on lift on_space
+    accessed_by_cases u n f (Ok r) s m is lies each_within at h = let d = at r refl in region_led u n r d s.0 f (m r) is lies (each_within d.declared r d.is) h
+    accessed_by_cases u n f (Err e) s m is lies each_within at h = h
 
-  index_unit_written_preserves : (index behind : RegionField) (f : FieldUnit) (bytes : List ℕ) (u : Access) → RunPreserves relation (index_unit_written accesses call index behind f bytes u)
-  unfolding index_unit_written
-  index_unit_written_preserves index behind f bytes u = run_then_preserves _ _ (kept_preserves f u _ (index_unit_preserves index behind f.access u)) (λ old. run_then_preserves _ _ (region_written_preserves index _) (λ chosen. region_written_preserves behind _))
+    located_then_preserves : {A : Type 0} (f : RegionField) (m : Region → Change S A) → IsKnown known f → ((d : OperationRegion) (r : Region) → IsRegion d r → OnlyWithin accesses f.unit d r.space (m r)) → By (located accesses call f.region >>= (λ r. lift (on_space (m r))))
+    unfolding ◌>>=◌
+    located_then_preserves f m is each_within = record {
+      preserves_by = λ s. accessed_by_cases s.0 f.region f.unit (located accesses call f.region s).0 (located accesses call f.region s).1 m is.is is.lies each_within (located_in accesses call f.region s) (relation.by_any known s.0 _ ((located_preserves f.region).preserves s));
+    }
 
-  -- ---- a bank of a region that stood when it was located
+    region_bits_preserves : (f : RegionField) → IsKnown known f → By (region_bits accesses call f)
+    unfolding region_bits
+    region_bits_preserves f is = located_then_preserves f (λ r. read_field accesses r f.unit) is (λ d r at. read_field_only_within accesses f.unit d r at)
 
-  -- what comes from where one world has come, as a relation of worlds
-  abbrev from_preorder : State S → Preorder (State S × ℕ)
-  from_preorder u = record { Leads = λ s t. relation.Leads u s.0 → relation.Leads u t.0; reflexive = λ s h. h; transitive = λ s t v h i l. i (h l) }
+    region_written_preserves : (f : RegionField) (bytes : List ℕ) → IsKnown known f → By (region_written accesses call f bytes)
+    unfolding region_written
+    region_written_preserves f bytes is = located_then_preserves f (λ r. write_field accesses r f.unit bytes) is (λ d r at. write_field_only_within accesses f.unit d r at bytes)
 
-  run_from : {A : Type 0} (u : State S) (m : Run S A) → RunPreserves relation m → Respects (from_preorder u) m
-  run_from u m h = record { respects = λ s l. (run_preserves_from u m h).preserves_from s l }
+    module _ (index behind : RegionField) (index_is : IsKnown known index) (behind_is : IsKnown known behind) where
+      index_unit_preserves : (w : Width) (u : Access) → By (index_unit accesses call index behind w u)
+      unfolding index_unit
+      index_unit_preserves w u = then_by _ _ (region_written_preserves index _ index_is) (λ chosen. then_by _ _ (region_bits_preserves behind behind_is) (λ bytes. give_by _))
 
-  space_from : {A : Type 0} (u : State S) (r : Region) (at : LocatedIn accesses call u r) (m : Change S A) → OnlyWithin accesses at.declared r.space m → Respects (from_preorder u) (lift (on_space m))
-  unfolding lift on_space
-  space_from u r at m only = record { respects = λ s l. relation.region_accessed u s.0 at.declared r.space _ at.stands (located_so u r at) (only.respects s.0.space) l }
+      index_unit_written_preserves : (f : FieldUnit) (bytes : List ℕ) (u : Access) → By (index_unit_written accesses call index behind f bytes u)
+      unfolding index_unit_written
+      index_unit_written_preserves f bytes u = then_by _ _ (respects_by (kept_respects f u _ (by_respects (index_unit_preserves f.access u)))) (λ old. then_by _ _ (region_written_preserves index _ index_is) (λ chosen. region_written_preserves behind _ behind_is))
 
-  located_by_cases : {A : Type 0} (u : State S) (x : Outcome Region) (s : State S × ℕ) (m : Region → Run S A) → ((r : Region) → x ≡ Ok r → Respects (from_preorder u) (m r)) → relation.Leads u s.0 → relation.Leads u (go_on x s m).1.0
-  unfolding go_on
-  located_by_cases u (Ok r) s m each_from h = (each_from r refl).respects s h
-  located_by_cases u (Err e) s m each_from h = h
+    -- ---- a bank of a region that stood when it was located
 
-  located_from : {A : Type 0} (n : ℕ) (m : Region → Run S A) → ((u : State S) (r : Region) → LocatedIn accesses call u r → Respects (from_preorder u) (m r)) → RunPreserves relation (located accesses call n >>= m)
-  unfolding ◌>>=◌
-  located_from n m each_from = record { preserves = λ s. located_by_cases s.0 (located accesses call n s).0 (located accesses call n s).1 m (λ r e. each_from s.0 r (located_in accesses call n s r e)) ((located_preserves n).preserves s) }
+    -- what comes from where one world has come, as a relation of worlds
+    abbrev from_preorder : State S → Preorder (State S × ℕ)
+    from_preorder u = record { Leads = λ s t. relation.LeadsBy known u s.0 → relation.LeadsBy known u t.0; reflexive = λ s h. h; transitive = λ s t v h i l. i (h l) }
 
-  bank_selected_preserves : (bank : RegionField) (value : ℕ) → RunPreserves relation (bank_selected accesses call bank value)
-  unfolding bank_selected
-  bank_selected_preserves bank value = run_then_preserves _ _ (run_settle_preserves _) (λ held. region_written_preserves bank _)
+    run_from : {A : Type 0} (u : State S) (m : Run S A) → By m → Respects (from_preorder u) m
+    run_from u m h = record { respects = λ s l. relation.by_transitive known u s.0 _ l (h.preserves_by s) }
 
-  bank_unit_from : (u : State S) (r : Region) (at : LocatedIn accesses call u r) (bank : RegionField) (value : ℕ) (w : Width) (x : Access) → Respects (from_preorder u) (bank_unit accesses call bank value r w x)
-  unfolding bank_unit
-  bank_unit_from u r at bank value w x = then_respects _ _ (run_from u _ (bank_selected_preserves bank value)) (λ selected. space_from u r at _ (read_unit_only_within accesses at.declared r at.is w x))
+    located_by_cases : {A : Type 0} (u : State S) (x : Outcome Region) (s : State S × ℕ) (m : Region → Run S A) → ((r : Region) → x ≡ Ok r → Respects (from_preorder u) (m r)) → relation.LeadsBy known u s.0 → relation.LeadsBy known u (go_on x s m).1.0
+    unfolding go_on
+    located_by_cases u (Ok r) s m each_from h = (each_from r refl).respects s h
+    located_by_cases u (Err e) s m each_from h = h
 
-  bank_unit_written_from : (u : State S) (r : Region) (at : LocatedIn accesses call u r) (bank : RegionField) (value : ℕ) (f : FieldUnit) (bytes : List ℕ) (x : Access) → Respects (from_preorder u) (bank_unit_written accesses call bank value r f bytes x)
-  unfolding bank_unit_written
-  bank_unit_written_from u r at bank value f bytes x = then_respects _ _ (kept_respects f x _ (bank_unit_from u r at bank value f.access x)) (λ old. then_respects _ _ (run_from u _ (bank_selected_preserves bank value)) (λ selected. space_from u r at _ (write_whole_only_within accesses at.declared r at.is f.access x.offset _)))
+    located_from : {A : Type 0} (n : ℕ) (m : Region → Run S A) → ((u : State S) (r : Region) → LocatedIn accesses call u n r → Respects (from_preorder u) (m r)) → By (located accesses call n >>= m)
+    unfolding ◌>>=◌
+    located_from n m each_from = record {
+      preserves_by = λ s. located_by_cases s.0 (located accesses call n s).0 (located accesses call n s).1 m (λ r e. each_from s.0 r (located_in accesses call n s r e)) (relation.by_any known s.0 _ ((located_preserves n).preserves s));
+    }
 
-  field_unit_bits_preserves : (source : FieldSource) (f : FieldUnit) → RunPreserves relation (field_unit_bits accesses call source f)
+    module _ (bank : RegionField) (bank_is : IsKnown known bank) (value : ℕ) where
+      bank_selected_preserves : By (bank_selected accesses call bank value)
+      unfolding bank_selected
+      bank_selected_preserves = then_by _ _ (by_any known _ (run_settle_preserves _)) (λ held. region_written_preserves bank _ bank_is)
+
+      module _ (n : ℕ) (f : FieldUnit) (is : Contains known f) (lies : LiesInRegion f.source n) (u : State S) (r : Region) (at : LocatedIn accesses call u n r) where
+        space_from : {A : Type 0} (m : Change S A) → OnlyWithin accesses f at.declared r.space m → Respects (from_preorder u) (lift (on_space m))
+        unfolding lift on_space
+        space_from m only = record { respects = λ s l. region_led u n r at s.0 f m is lies only l }
+
+        bank_unit_from : (x : Access) → Contains (units_of f.bit_offset f.bits f.access) x → Respects (from_preorder u) (bank_unit accesses call bank value r f.access x)
+        unfolding bank_unit
+        bank_unit_from x one = then_respects _ _ (run_from u _ bank_selected_preserves) (λ selected. space_from _ (read_unit_only_within accesses f at.declared r at.is x one))
+
+        bank_unit_written_from : (bytes : List ℕ) (x : Access) → Contains (units_of f.bit_offset f.bits f.access) x → Respects (from_preorder u) (bank_unit_written accesses call bank value r f bytes x)
+        unfolding bank_unit_written
+        bank_unit_written_from bytes x one = then_respects _ _ (kept_respects f x _ (bank_unit_from x one)) (λ old. then_respects _ _ (run_from u _ bank_selected_preserves) (λ selected. space_from _ (write_whole_only_within accesses f at.declared r at.is x _ one)))
+
+  -- ---- fields that are known
+
+  declared_so : (n : ℕ) (s : State S × ℕ) (f : RegionField) → (lift (field_declared n) s).0 ≡ Ok f → LiesInItsRegion f
+  unfolding lift
+  declared_so n s f e = (field_declared_lies n).gives s.0 f e
+
+  -- a field unit that was declared under a number is known where it goes on
+  declared_then : {A : Type 0} (known : List FieldUnit) (n : ℕ) (k : RegionField → Run S A) → ((f : RegionField) → IsKnown (f.unit ∷ known) f → RunPreservesBy relation (f.unit ∷ known) (k f)) → RunPreservesBy relation known (lift (field_declared n) >>= k)
+  declared_then known n k each = such_found_then LiesInItsRegion known _ k (by_any known _ (lift_preserves _ (field_declared_preserves n))) (lift_finds _ (field_declared_finds n)) (declared_so n) (λ f lies. each f (record { is = first_of f.unit known; lies = lies }))
+
+  still_known : (known : List FieldUnit) (u f : FieldUnit) → Contains known f → Contains (u ∷ known) f
+  still_known known u f is = Contains-append_right (u ∷ []) known f is
+
+  field_still_known : (known : List FieldUnit) (u : FieldUnit) (f : RegionField) → IsKnown known f → IsKnown (u ∷ known) f
+  field_still_known known u f is = record { is = still_known known u f.unit is.is; lies = is.lies }
+
+  field_unit_bits_preserves : (known : List FieldUnit) (source : FieldSource) (f : FieldUnit) → Contains known f → f.source ≡ source → RunPreservesBy relation known (field_unit_bits accesses call source f)
   unfolding index_bits bank_bits
-  field_unit_bits_preserves (sources.Region n) f = region_bits_preserves _
-  field_unit_bits_preserves (sources.Index i d) f = run_then_preserves _ _ (lift_preserves _ (field_declared_preserves i)) (λ index. run_then_preserves _ _ (lift_preserves _ (field_declared_preserves d)) (λ behind. bits_read_preserves _ (index_unit_preserves index behind f.access) f))
-  field_unit_bits_preserves (sources.Bank n b) f = run_then_preserves _ _ (lift_preserves _ (field_declared_preserves b.field)) (λ bank. located_from n _ (λ u r at. bits_read_respects _ (bank_unit_from u r at bank b.value f.access) f))
+  field_unit_bits_preserves known (sources.Region n) f is from = region_bits_preserves known _ (record { is = is; lies = subst (λ x. LiesInRegion x n) (sym from) (by_field n) })
+  field_unit_bits_preserves known (sources.Index i d) f is from =
+      declared_then known i _ (λ index index_is. declared_then (index.unit ∷ known) d _ (λ behind behind_is. respects_by (bits_read_respects _ (λ u. by_respects (index_unit_preserves (behind.unit ∷ index.unit ∷ known) index behind (field_still_known _ behind.unit index index_is) behind_is f.access u)) f)))
+  field_unit_bits_preserves known (sources.Bank n b) f is from =
+      declared_then known b.field _ (λ bank bank_is. located_from (bank.unit ∷ known) n _ (λ u r at. units_read_respects _ f (bank_unit_from (bank.unit ∷ known) bank bank_is b.value n f (still_known known bank.unit f is) (subst (λ x. LiesInRegion x n) (sym from) (by_bank_field n b)) u r at)))
 
-  field_unit_written_preserves : (source : FieldSource) (f : FieldUnit) (bytes : List ℕ) → RunPreserves relation (field_unit_written accesses call source f bytes)
+  field_unit_written_preserves : (known : List FieldUnit) (source : FieldSource) (f : FieldUnit) (bytes : List ℕ) → Contains known f → f.source ≡ source → RunPreservesBy relation known (field_unit_written accesses call source f bytes)
   unfolding index_written bank_written
-  field_unit_written_preserves (sources.Region n) f bytes = region_written_preserves _ bytes
-  field_unit_written_preserves (sources.Index i d) f bytes = run_then_preserves _ _ (lift_preserves _ (field_declared_preserves i)) (λ index. run_then_preserves _ _ (lift_preserves _ (field_declared_preserves d)) (λ behind. write_units_preserves _ (index_unit_written_preserves index behind f bytes) (units_of f.bit_offset f.bits f.access)))
-  field_unit_written_preserves (sources.Bank n b) f bytes = run_then_preserves _ _ (lift_preserves _ (field_declared_preserves b.field)) (λ bank. located_from n _ (λ u r at. write_units_respects _ (bank_unit_written_from u r at bank b.value f bytes) (units_of f.bit_offset f.bits f.access)))
+  field_unit_written_preserves known (sources.Region n) f bytes is from = region_written_preserves known _ bytes (record { is = is; lies = subst (λ x. LiesInRegion x n) (sym from) (by_field n) })
+  field_unit_written_preserves known (sources.Index i d) f bytes is from =
+      declared_then known i _ (λ index index_is. declared_then (index.unit ∷ known) d _ (λ behind behind_is.
+      respects_by (write_units_respects _ (λ u. by_respects (index_unit_written_preserves (behind.unit ∷ index.unit ∷ known) index behind (field_still_known _ behind.unit index index_is) behind_is f bytes u)) (units_of f.bit_offset f.bits f.access))))
+  field_unit_written_preserves known (sources.Bank n b) f bytes is from =
+      declared_then known b.field _ (λ bank bank_is. located_from (bank.unit ∷ known) n _ (λ u r at.
+      each_written_respects _ (units_of f.bit_offset f.bits f.access) (bank_unit_written_from (bank.unit ∷ known) bank bank_is b.value n f (still_known known bank.unit f is) (subst (λ x. LiesInRegion x n) (sym from) (by_bank_field n b)) u r at bytes)))
 
-  bits_in_preserves : (f : Field) → RunPreserves relation (bits_in accesses call f)
-  bits_in_preserves (field.Unit u) = field_unit_bits_preserves u.source u
-  bits_in_preserves (field.Buffer b) = lift_preserves _ (on_objects_preserves _ (read_buffer_field_keeps_kinds b))
+  bits_in_preserves : (known : List FieldUnit) (f : Field) → RunPreservesBy relation (units_of_field f ++ known) (bits_in accesses call f)
+  bits_in_preserves known (field.Unit u) = field_unit_bits_preserves (u ∷ known) u.source u (first_of u known) refl
+  bits_in_preserves known (field.Buffer b) = by_any known _ (lift_preserves _ (on_objects_preserves _ (read_buffer_field_keeps_kinds b)))
 
-  written_in_preserves : (f : Field) (bytes : List ℕ) → RunPreserves relation (written_in accesses call f bytes)
-  written_in_preserves (field.Unit u) bytes = field_unit_written_preserves u.source u bytes
-  written_in_preserves (field.Buffer b) bytes = lift_preserves _ (on_objects_preserves _ (write_buffer_field_keeps_kinds b bytes))
+  written_in_preserves : (known : List FieldUnit) (f : Field) (bytes : List ℕ) → RunPreservesBy relation (units_of_field f ++ known) (written_in accesses call f bytes)
+  written_in_preserves known (field.Unit u) bytes = field_unit_written_preserves (u ∷ known) u.source u bytes (first_of u known) refl
+  written_in_preserves known (field.Buffer b) bytes = by_any known _ (lift_preserves _ (on_objects_preserves _ (write_buffer_field_keeps_kinds b bytes)))
 
-  pub field_value_preserves : (f : Field) → RunPreserves relation (field_value accesses call f)
+  pub field_value_preserves : (known : List FieldUnit) (f : Field) → RunPreservesBy relation (units_of_field f ++ known) (field_value accesses call f)
   unfolding field_value
-  field_value_preserves f = run_then_preserves _ _ (bits_in_preserves f) (λ bytes. lift_preserves _ (value_of_bits_preserves _ bytes))
+  field_value_preserves known f = then_by _ _ (bits_in_preserves known f) (λ bytes. by_any _ _ (lift_preserves _ (value_of_bits_preserves _ bytes)))
 
-  pub field_stored_preserves : (f : Field) (v : Value) → RunPreserves relation (field_stored accesses call f v)
+  pub field_stored_preserves : (known : List FieldUnit) (f : Field) (v : Value) → RunPreservesBy relation (units_of_field f ++ known) (field_stored accesses call f v)
   unfolding field_stored
-  field_stored_preserves f v = run_then_preserves _ _ (lift_preserves _ (bytes_in_preserves v)) (λ bytes. written_in_preserves f bytes)
+  field_stored_preserves known f v = then_by _ _ (by_any _ _ (lift_preserves _ (bytes_in_preserves v))) (λ bytes. written_in_preserves known f bytes)
 
-  pub field_integer_preserves : (f : Field) → RunPreserves relation (field_integer accesses call f)
+  pub field_integer_preserves : (known : List FieldUnit) (f : Field) → RunPreservesBy relation (units_of_field f ++ known) (field_integer accesses call f)
   unfolding field_integer
-  field_integer_preserves f = run_then_preserves _ _ (bits_in_preserves f) (λ bytes. lift_preserves _ (integer_of_bits_preserves bytes))
+  field_integer_preserves known f = then_by _ _ (bits_in_preserves known f) (λ bytes. by_any _ _ (lift_preserves _ (integer_of_bits_preserves bytes)))
 
-  pub field_referent_preserves : (f : Field) → RunPreserves relation (field_referent accesses call f)
+  pub field_referent_preserves : (known : List FieldUnit) (f : Field) → RunPreservesBy relation (units_of_field f ++ known) (field_referent accesses call f)
   unfolding field_referent
-  field_referent_preserves f = run_then_preserves _ _ (bits_in_preserves f) (λ bytes. lift_preserves _ (referent_of_bits_preserves _ bytes))
+  field_referent_preserves known f = then_by _ _ (bits_in_preserves known f) (λ bytes. by_any _ _ (lift_preserves _ (referent_of_bits_preserves _ bytes)))
 
-  pub field_part_preserves : (f : Field) → RunPreserves relation (field_part accesses call f)
+  pub field_part_preserves : (known : List FieldUnit) (f : Field) → RunPreservesBy relation (units_of_field f ++ known) (field_part accesses call f)
   unfolding field_part
-  field_part_preserves f = run_then_preserves _ _ (bits_in_preserves f) (λ bytes. lift_preserves _ (integer_alone_preserves _ bytes))
+  field_part_preserves known f = then_by _ _ (bits_in_preserves known f) (λ bytes. by_any _ _ (lift_preserves _ (integer_alone_preserves _ bytes)))
 
-  pub field_given_preserves : (f : Field) → RunPreserves relation (field_given accesses call f)
+  pub field_given_preserves : (known : List FieldUnit) (f : Field) → RunPreservesBy relation (units_of_field f ++ known) (field_given accesses call f)
   unfolding field_given
-  field_given_preserves f = run_then_preserves _ _ (bits_in_preserves f) (λ bytes. lift_preserves _ (given_of_bits_preserves _ bytes))
+  field_given_preserves known f = then_by _ _ (bits_in_preserves known f) (λ bytes. by_any _ _ (lift_preserves _ (given_of_bits_preserves _ bytes)))

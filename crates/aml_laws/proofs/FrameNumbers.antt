@@ -22,7 +22,7 @@ use Rattle.aml_meaning.specs.Slots.{opened}
 use Rattle.aml_meaning.specs.declared.settings.EvaluationSettings.{EvaluationSettings}
 use Rattle.aml_meaning.specs.Predefined.{fresh_as, predefined}
 use Rattle.aml_laws.specs.Numbers.{numbers_of, RiseTo}
-use Rattle.aml_laws.proofs.WorldRelations.{WorldRelation, in_new_frame}
+use Rattle.aml_laws.proofs.WorldRelations.{WorldRelation, in_new_frame, plain}
 use Rattle.aml_laws.proofs.NumbersRise.{next_frame_rises}
 use Rattle.aml_laws.proofs.LocatedRegions.{meant}
 use Rattle.aml_laws.proofs.OperandsAndCallsPreserve.{invoked_preserves_from}
@@ -54,7 +54,7 @@ numbers_of_closed frames ns n is =
     numbers_taken (length frames - 1) frames ∙ ap (take (length frames - 1)) is ∙ front_of_pushed ns n (length frames) (sym (numbers_length frames) ∙ ap length is)
 
 abbrev pub frame_numbers_relation : {S : Type 0} (accesses : Accesses S) → WorldRelation accesses
-frame_numbers_relation accesses = record {
+frame_numbers_relation accesses = plain (record {
   Leads = λ w v. numbers_of v.frames ≡ numbers_of w.frames;
   reflexive = λ w. refl;
   transitive = λ u v w h i. i ∙ h;
@@ -65,13 +65,13 @@ frame_numbers_relation accesses = record {
   frame_closed = λ w v vs h. numbers_of_closed v.frames (numbers_of w.frames) w.started (h ∙ numbers_pushed w.frames _);
   names_removed = λ u w q at h. h;
   told = false;
-  region_accessed = λ u w region space s stands at r h. h;
+  region_accessed = λ u w field region space s stands at r h. h;
   bridge_asked = λ u w at width wide asks h. h;
   loads = true;
   arities_set = λ loads w list. refl;
   mutexes_released = λ w. refl;
   passed_noted = λ listed u w scope e wide is h. h;
-}
+})
 
 pub frames_are_balanced : {S : Type 0} (accesses : Accesses S) (w v : State S) → Becomes accesses w v → numbers_of v.frames ≡ numbers_of w.frames
 frames_are_balanced accesses w v h = becomes_preserves (frame_numbers_relation accesses) refl w v h

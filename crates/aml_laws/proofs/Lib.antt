@@ -5,6 +5,7 @@
 -- by what is told of terms and names), `x_explains` (a fault of the register space that x is refused by is what its last access
 -- answered, no other access is answered with one, and a depth that the setting doesn't allow is refused only where it allows less than
 -- the default), `x_together` (x goes the same way over two register spaces until they part),
+-- `x_finds` (what x gives names field units that stand),
 -- `x_in_frames` (x comes to the same, whatever terms do where more than 33 frames stand),
 -- `x_unnoted` (noting the accesses of x changes nothing), `x_respects`, `x_keeps_kinds`, `x_fits`, `x_stands`;
 -- a lemma that goes through the cases for another ends with `_by_cases`.
@@ -118,6 +119,7 @@ pub mod FieldsReached
 pub mod FieldsTaken
 pub mod FormedElsewhere
 pub mod FieldSources
+pub mod FieldUnitsFound
 pub mod FieldsInFrames
 pub mod FieldsInOrder
 pub mod FieldsLaidOut
@@ -288,6 +290,7 @@ pub mod ItemsTogether
 pub mod JoinedBeyondLimits
 pub mod JoinedResources
 pub mod KeptUnits
+pub mod KnownFieldUnits
 pub mod Levels
 pub mod LimitsRefused
 pub mod LimitsTaken

@@ -1,7 +1,8 @@
 -- A region that is located is an operation region that stood when it was.
-use Rattle.std.specs.Prelude.{◌≡◌, ℕ, ◌==◌, List, Bool, true, false, Option, Some, None, Ok, Err, refl, if◌then◌else◌}
+use Rattle.std.specs.Prelude.{◌≡◌, ℕ, ◌==◌, List, [], ◌∷◌, Bool, true, false, Option, Some, None, Ok, Err, refl, if◌then◌else◌}
 use Rattle.std.proofs.Common.{ap, subst, sym, ◌∙◌}
 use Rattle.std.proofs.lemmas.Bool.{eqb-true}
+use Rattle.std.specs.FinMap.{entries}
 use Rattle.ar_space.specs.Accesses.{Accesses}
 use Rattle.ar_space.specs.Outcome.{Outcome}
 use Rattle.ar_space.specs.Change.{Change, give, settle, stop, go_on, ◌>>=◌}
@@ -14,7 +15,7 @@ use Rattle.aml_fields.specs.declared.region.AddressSpace.{AddressSpace}
 use Rattle.aml_fields.specs.declared.region.AddressSpace.TheVariants as spaces
 use Rattle.aml_fields.specs.declared.region.Region.{Region}
 use Rattle.aml_namespace.proofs.Numbering.{numbered_stands}
-use Rattle.aml_namespace.specs.Namespace.{numbered, above}
+use Rattle.aml_namespace.specs.Namespace.{Map, with_number, numbered, above}
 use Rattle.aml_meaning.specs.declared.flow.Flow.{Flow}
 use Rattle.aml_meaning.specs.State.{State}
 use Rattle.aml_meaning.specs.Run.{Run, lift}
@@ -61,7 +62,7 @@ gave_both m k h b e = gave_by_cases m k h b (m h).0 refl e
 
 -- ---- the declaration of a region
 
-declaration_found : (o : Option (List Seg × Entry)) (e : List Seg × Entry) → or_gone o ≡ Ok e → o ≡ Some e
+pub declaration_found : (o : Option (List Seg × Entry)) (e : List Seg × Entry) → or_gone o ≡ Ok e → o ≡ Some e
 declaration_found None e h = absurd (cc h)
 declaration_found (Some x) e h = let same : x ≡ e = cc h in ap Some same
 
@@ -69,16 +70,33 @@ region_object : (o : NamedObject) (region : OperationRegion) → region_of_objec
 region_object (object.OperationRegion r) region h = let same : r ≡ region = cc h in ap object.OperationRegion same
 region_object _ region h = absurd (cc h)
 
--- a region stands, and its scope is this one
-record RegionInScope {S : Type 0} (w : State S) (scope : List Seg) (region : OperationRegion) : Type 0 where
+-- what is found by a number is declared under it
+number_found : (n : ℕ) (es : List (List Seg × Entry)) (f : List Seg × Entry) → with_number n es ≡ Some f → f.1.number ≡ n
+number_found n [] f is = absurd (cc is)
+number_found n (e ∷ es) f is = by (e.1.number == n) refl is (number_found n es f)
+  where
+    by : (b : Bool) → (e.1.number == n) ≡ b → (if b then Some e else with_number n es) ≡ Some f → (with_number n es ≡ Some f → f.1.number ≡ n) → f.1.number ≡ n
+    by true same is rest =
+        let one : e ≡ f = cc is in
+        ap (λ (g : List Seg × Entry). g.1.number) (sym one) ∙ eqb-true e.1.number n same
+    by false other is rest = rest is
+
+pub declared_under : (n : ℕ) (names : Map) (f : List Seg × Entry) → numbered n names ≡ Some f → f.1.number ≡ n
+unfolding numbered
+declared_under n names f is = number_found n (entries names) f is
+
+-- a region stands under a number, and its scope is this one
+record RegionInScope {S : Type 0} (w : State S) (n : ℕ) (scope : List Seg) (region : OperationRegion) : Type 0 where
   stands : RegionStands w.names.map region
+  number : stands.number ≡ n
   scoped : scope ≡ above stands.path
 
-region_stands : {S : Type 0} (w : State S) (n : ℕ) (x : List Seg × OperationRegion) → (region_declared n w).0 ≡ Ok x → RegionInScope w x.0 x.1
+region_stands : {S : Type 0} (w : State S) (n : ℕ) (x : List Seg × OperationRegion) → (region_declared n w).0 ≡ Ok x → RegionInScope w n x.0 x.1
 unfolding region_declared declaration settle give
 region_stands w n x h =
     let both = gave_both (declaration n) _ w x h in
-    let at = numbered_stands w.names.map n both.first (declaration_found (numbered n w.names.map) both.first both.gave) in
+    let found = declaration_found (numbered n w.names.map) both.first both.gave in
+    let at = numbered_stands w.names.map n both.first found in
     let rest = gave_both (settle (region_of_object both.first.1.object)) _ w x both.then_gave in
     let is = region_object both.first.1.object rest.first rest.gave in
     let same : (above both.first.0, rest.first) ≡ x = cc rest.then_gave in
@@ -88,6 +106,7 @@ region_stands w n x h =
         number = both.first.1.number;
         there = at ∙ ap (λ o. Some (numbered_entry both.first.1.number o)) is ∙ ap (λ (y : List Seg × OperationRegion). Some (numbered_entry both.first.1.number (object.OperationRegion y.1))) same;
       };
+      number = declared_under n w.names.map both.first found;
       scoped = sym (ap (λ (y : List Seg × OperationRegion). y.0) same);
     }
 
@@ -97,10 +116,11 @@ pub data SpaceAnswers {S : Type 0} (accesses : Accesses S) (call : List Seg → 
   io : SpaceAnswers accesses call w path spaces.Io
   asked : (space : AddressSpace) (steps : ℕ) → (pci_address accesses call (above path) (w, steps)).0 ≡ Ok space → SpaceAnswers accesses call w path space
 
--- what was located in a world
-pub record LocatedIn {S : Type 0} (accesses : Accesses S) (call : List Seg → Run S ℕ) (w : State S) (region : Region) : Type 0 where
+-- what was located in a world, of the region with a number
+pub record LocatedIn {S : Type 0} (accesses : Accesses S) (call : List Seg → Run S ℕ) (w : State S) (n : ℕ) (region : Region) : Type 0 where
   pub declared : OperationRegion
   pub stands : RegionStands w.names.map declared
+  pub number : stands.number ≡ n
   pub is : IsRegion declared region
   pub answers : SpaceAnswers accesses call w stands.path region.space
 
@@ -158,7 +178,7 @@ module _ {S : Type 0} (accesses : Accesses S) (call : List Seg → Run S ℕ) wh
 
   -- ---- both
 
-  pub located_in : (n : ℕ) (s : State S × ℕ) (region : Region) → (located accesses call n s).0 ≡ Ok region → LocatedIn accesses call s.0 region
+  pub located_in : (n : ℕ) (s : State S × ℕ) (region : Region) → (located accesses call n s).0 ≡ Ok region → LocatedIn accesses call s.0 n region
   unfolding located lift give
   located_in n s region h =
       let both = gave_both (lift (region_declared n)) _ s region h in
@@ -174,6 +194,7 @@ module _ {S : Type 0} (accesses : Accesses S) (call : List Seg → Run S ℕ) wh
       record {
         declared = d.1;
         stands = at.stands;
+        number = at.number;
         is = subst (IsRegion d.1) same (record { space = numbered; offset = refl; length = refl });
         answers = subst (λ (r : Region). Found s.0 at.stands.path r.space) same found_so;
       }

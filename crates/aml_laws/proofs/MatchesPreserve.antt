@@ -1,5 +1,5 @@
 -- Match preserves each relation of worlds, where its operands do so.
-use Rattle.std.specs.Prelude.{Bool, List, None, Option, Some, false, refl, suc, true, zero, ℕ}
+use Rattle.std.specs.Prelude.{Bool, List, [], ◌++◌, None, Option, Some, false, refl, suc, true, zero, ℕ}
 use Rattle.ar_space.specs.Accesses.{Accesses}
 use Rattle.aml_path.specs.declared.segment.Seg.{Seg}
 use Rattle.aml_grammar.specs.Tree.{Tree}
@@ -13,8 +13,10 @@ use Rattle.aml_meaning.specs.declared.store_target.Held.{Held}
 use Rattle.aml_meaning.specs.Run.{Run}
 use Rattle.aml_meaning.specs.Tasks.{Task}
 use Rattle.aml_meaning.specs.MatchTerms.{search_begun, name_held, held_by, element_held, meets, value_meets, held_meets, if_held, element_meets, found_or, none_matches, searched_last, match_rule}
+use Rattle.aml_laws.proofs.FieldUnitsFound.{units_held_if, lift_finds, element_held_finds}
+use Rattle.aml_laws.proofs.KnownFieldUnits.{by_any, give_by, then_by, found_then}
 use Rattle.aml_laws.proofs.ObjectKinds.{element_at_keeps_kinds}
-use Rattle.aml_laws.proofs.WorldRelations.{PartsLead, Levels, WorldRelationOf, Preserves, RunPreserves, give_preserves, lift_preserves, on_objects_preserves, run_give_preserves, run_settle_preserves, run_then_preserves, settle_preserves, then_preserves, unchanged_preserves}
+use Rattle.aml_laws.proofs.WorldRelations.{PartsLead, Levels, WorldRelationOf, Preserves, RunPreserves, RunPreservesBy, give_preserves, lift_preserves, on_objects_preserves, run_give_preserves, run_settle_preserves, run_then_preserves, settle_preserves, then_preserves, unchanged_preserves}
 use Rattle.aml_laws.proofs.ChangesPreserve.{integer_in_preserves, integer_kept_preserves, size_held_preserves}
 use Rattle.aml_laws.proofs.OperandsAndCallsPreserve.{held_value_preserves, value_at_leads}
 
@@ -45,10 +47,10 @@ module _ {S : Type 0} {listed : Bool} {accesses : Accesses S} {relation : WorldR
   value_meets_preserves x (value.Reference r) = meets_preserves x _
 
 module _ {S : Type 0} {accesses : Accesses S} {levels : Levels accesses} (ev : Task → Run S Flow) (parts : PartsLead levels ev) where
-  if_held_preserves : (depth : ℕ) (x : Search) (o : Option Held) → RunPreserves (levels.at depth) (if_held accesses ev depth x o)
+  if_held_preserves : (depth : ℕ) (x : Search) (o : Option Held) → RunPreservesBy (levels.at depth) (units_held_if o ++ []) (if_held accesses ev depth x o)
   unfolding held_meets
-  if_held_preserves depth x None = run_give_preserves _
-  if_held_preserves depth x (Some h) = run_then_preserves _ _ (held_value_preserves ev parts depth h) (λ v. lift_preserves _ (value_meets_preserves x v))
+  if_held_preserves depth x None = give_by _
+  if_held_preserves depth x (Some h) = then_by _ _ (held_value_preserves ev parts [] depth h) (λ v. by_any _ _ (lift_preserves _ (value_meets_preserves x v)))
 
   found_or_preserves : {depth : ℕ} (met : Bool) (i : ℕ) (m : Run S Flow) → RunPreserves (levels.at depth) m → RunPreserves (levels.at depth) (found_or met i m)
   found_or_preserves true i m h = run_give_preserves _
@@ -57,7 +59,7 @@ module _ {S : Type 0} {accesses : Accesses S} {levels : Levels accesses} (ev : T
   searched_last_preserves : (depth : ℕ) (x : Search) (left : ℕ) → RunPreserves (levels.at depth) (searched_last accesses ev depth x left)
   unfolding searched_last none_matches element_meets
   searched_last_preserves depth x zero = run_then_preserves _ _ (lift_preserves _ (integer_kept_preserves _)) (λ v. run_give_preserves _)
-  searched_last_preserves depth x (suc n) = run_then_preserves _ _ (run_then_preserves _ _ (lift_preserves _ (element_held_preserves x.source _)) (λ o. if_held_preserves depth x o)) (λ met. found_or_preserves met _ _ (searched_last_preserves depth x n))
+  searched_last_preserves depth x (suc n) = run_then_preserves _ _ (found_then _ _ (lift_preserves _ (element_held_preserves x.source _)) (lift_finds _ (element_held_finds x.source _)) (λ o. if_held_preserves depth x o)) (λ met. found_or_preserves met _ _ (searched_last_preserves depth x n))
 
   pub match_rule_preserves : (scope : List Seg) (depth : ℕ) (t : Tree) → RunPreserves (levels.at depth) (match_rule accesses ev scope depth t)
   unfolding match_rule

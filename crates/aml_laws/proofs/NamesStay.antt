@@ -10,10 +10,10 @@ use Rattle.aml_laws.specs.Becomes.{Becomes}
 use Rattle.aml_laws.specs.Outside.{is_method, OutsideIn, Outside, Stands, number_at}
 use Rattle.aml_laws.proofs.OutsideOfMethods.{Kept, kept_reflexive, kept_transitive, kept_new, kept_replaced, kept_removed, kept_released, method_apart}
 use Rattle.aml_laws.proofs.FoundNamesStand.{MethodStandsAt}
-use Rattle.aml_laws.proofs.WorldRelations.{WorldRelation, is_method_or_region}
+use Rattle.aml_laws.proofs.WorldRelations.{WorldRelation, is_never_put, plain}
 use Rattle.aml_laws.proofs.EvaluationsPreserve.{becomes_preserves}
 
-pub no_method : (o : NamedObject) → is_method_or_region o ≡ false → is_method o ≡ false
+pub no_method : (o : NamedObject) → is_never_put o ≡ false → is_method o ≡ false
 no_method (object.Method m) h = absurd (cc h)
 no_method _ h = refl
 
@@ -23,7 +23,7 @@ unfolding without_below
 kept_after_call u w q p at h o = kept_transitive u.map w.map _ p (h o) (kept_removed w.map q p (method_apart u.map q p at.entry o at.there at.method) (h o).outside)
 
 abbrev pub names_relation : {S : Type 0} (accesses : Accesses S) → List Seg → WorldRelation accesses
-names_relation accesses p = record {
+names_relation accesses p = plain (record {
   Leads = λ w v. OutsideIn w.names.map p → Kept w.names.map v.names.map p;
   reflexive = λ w o. kept_reflexive w.names.map p o;
   transitive = λ u v w h i o. kept_transitive u.names.map v.names.map w.names.map p (h o) (i (h o).outside);
@@ -34,13 +34,13 @@ names_relation accesses p = record {
   frame_closed = λ w v vs h o. h o;
   names_removed = λ u w q at h o. kept_after_call u.names w.names q p at h o;
   told = false;
-  region_accessed = λ u w region space s stands at r h o. h o;
+  region_accessed = λ u w field region space s stands at r h o. h o;
   bridge_asked = λ u w at width wide asks h o. h o;
   loads = true;
   arities_set = λ loads w list o. kept_reflexive w.names.map p o;
   mutexes_released = λ w o. kept_released w.names p o;
   passed_noted = λ listed u w scope e wide is h o. h o;
-}
+})
 
 -- a path that is outside of control methods stays so
 pub outside_stays : {S : Type 0} (accesses : Accesses S) (w v : State S) (p : List Seg) → Becomes accesses w v → Outside w p → Outside v p

@@ -16,7 +16,7 @@ use Rattle.aml_meaning.specs.Predefined.{fresh_as, predefined}
 use Rattle.aml_meaning.specs.State.{State}
 use Rattle.aml_laws.specs.Becomes.{Becomes}
 use Rattle.aml_laws.specs.PassedNotes.{KeepsTheFirst, with_one_more, GoesOn}
-use Rattle.aml_laws.proofs.WorldRelations.{WorldRelation}
+use Rattle.aml_laws.proofs.WorldRelations.{WorldRelation, plain}
 use Rattle.aml_laws.proofs.EvaluationsPreserve.{becomes_preserves, predefined_preserves}
 
 -- ---- one note
@@ -101,7 +101,7 @@ first_noted item p h = first_by (p.count == 2 ^ 64 - 1) (nat_lt (length p.kept) 
 module _ {S : Type 0} (accesses : Accesses S) where
   -- what each evaluation makes of what is told of them, where one more note does it too
   abbrev notes_relation : (Leads : PassedOver → PassedOver → Type 0) → ((p : PassedOver) → Leads p p) → ((p q r : PassedOver) → Leads p q → Leads q r → Leads p r) → ((item : PassedItem) (p : PassedOver) → Leads p (passed_with item p)) → WorldRelation accesses
-  notes_relation Leads same one_by_one one = record {
+  notes_relation Leads same one_by_one one = plain (record {
     Leads = λ w v. Leads w.passed v.passed;
     reflexive = λ w. same w.passed;
     transitive = λ u v w. one_by_one u.passed v.passed w.passed;
@@ -112,13 +112,13 @@ module _ {S : Type 0} (accesses : Accesses S) where
     frame_closed = λ w v vs h. h;
     names_removed = λ u w q at h. h;
     told = false;
-    region_accessed = λ u w region space s stands at r h. h;
+    region_accessed = λ u w field region space s stands at r h. h;
     bridge_asked = λ u w at width wide asks h. h;
     loads = true;
     arities_set = λ loads w list. same w.passed;
     mutexes_released = λ w. same w.passed;
     passed_noted = λ listed u w scope e wide is h. one_by_one u.passed w.passed _ h (one (record { refusal = e; scope = scope }) w.passed);
-  }
+  })
 
   abbrev pub goes_on_relation : WorldRelation accesses
   goes_on_relation = notes_relation GoesOn goes_on_reflexive goes_on_transitive goes_on_noted

@@ -5,7 +5,7 @@ use Rattle.ar_space.specs.Accesses.{Accesses}
 use Rattle.aml_meaning.specs.declared.profile.Profile.TheVariants as profiles
 use Rattle.aml_meaning.specs.State.{State}
 use Rattle.aml_laws.specs.Becomes.{Becomes}
-use Rattle.aml_laws.proofs.WorldRelations.{WorldRelation}
+use Rattle.aml_laws.proofs.WorldRelations.{WorldRelation, plain}
 use Rattle.aml_laws.proofs.EvaluationsPreserve.{becomes_preserves}
 
 -- a world of the core profile stays one, and nothing more is noted in it
@@ -26,7 +26,7 @@ never_noted : {S : Type 0} (u w : State S) → u.profile ≡ profiles.Wide → S
 never_noted u w wide core = absurd (cc (sym core ∙ wide))
 
 abbrev core_relation : {S : Type 0} (accesses : Accesses S) → WorldRelation accesses
-core_relation accesses = record {
+core_relation accesses = plain (record {
   Leads = StaysCore;
   reflexive = λ w. stays_core w w refl refl;
   transitive = λ u v w h i core. record { core = (i (h core).core).core; same = (i (h core).core).same ∙ (h core).same };
@@ -37,13 +37,13 @@ core_relation accesses = record {
   frame_closed = λ w v vs h core. record { core = (h core).core; same = (h core).same };
   names_removed = λ u w q at h. then_core u w _ refl refl h;
   told = false;
-  region_accessed = λ u w region space s stands at r h. then_core u w _ refl refl h;
+  region_accessed = λ u w field region space s stands at r h. then_core u w _ refl refl h;
   bridge_asked = λ u w at width wide asks h. then_core u w _ refl refl h;
   loads = true;
   arities_set = λ loads w list. stays_core w _ refl refl;
   mutexes_released = λ w. stays_core w _ refl refl;
   passed_noted = λ listed u w scope e wide is h. never_noted u _ wide;
-}
+})
 
 pub core_notes_nothing : {S : Type 0} (accesses : Accesses S) (w v : State S) → Becomes accesses w v → w.profile ≡ profiles.Core → v.passed ≡ w.passed
 core_notes_nothing accesses w v h core = (becomes_preserves (core_relation accesses) refl w v h core).same

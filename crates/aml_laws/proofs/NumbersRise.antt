@@ -5,7 +5,7 @@ use Rattle.ar_space.specs.Accesses.{Accesses}
 use Rattle.aml_namespace.specs.Namespace.{without_below, mutexes_released}
 use Rattle.aml_meaning.specs.State.{State}
 use Rattle.aml_laws.specs.Becomes.{Becomes}
-use Rattle.aml_laws.proofs.WorldRelations.{WorldRelation}
+use Rattle.aml_laws.proofs.WorldRelations.{WorldRelation, plain}
 use Rattle.aml_laws.proofs.EvaluationsPreserve.{becomes_preserves}
 
 pub record Rises {S : Type 0} (w v : State S) : Type 0 where
@@ -20,7 +20,7 @@ rises_transitive u v w h i = record { next = let a = h.next in let b = i.next in
 
 numbers_rise_relation : {S : Type 0} (accesses : Accesses S) → WorldRelation accesses
 unfolding without_below mutexes_released
-numbers_rise_relation accesses = record {
+numbers_rise_relation accesses = plain (record {
   Leads = Rises;
   reflexive = rises_reflexive;
   transitive = rises_transitive;
@@ -31,13 +31,13 @@ numbers_rise_relation accesses = record {
   frame_closed = λ w v vs h. let a = h.next in let b = h.started in record { next = a; started = omega arith };
   names_removed = λ u w q at h. record { next = h.next; started = h.started };
   told = false;
-  region_accessed = λ u w region space s stands at r h. record { next = h.next; started = h.started };
+  region_accessed = λ u w field region space s stands at r h. record { next = h.next; started = h.started };
   bridge_asked = λ u w at width wide asks h. record { next = h.next; started = h.started };
   loads = true;
   arities_set = λ loads w list. record { next = omega arith; started = omega arith };
   mutexes_released = λ w. record { next = omega arith; started = omega arith };
   passed_noted = λ listed u w scope e wide is h. record { next = h.next; started = h.started };
-}
+})
 
 pub next_declaration_rises : {S : Type 0} (accesses : Accesses S) (w v : State S) → Becomes accesses w v → w.names.next ≤ v.names.next
 unfolding numbers_rise_relation

@@ -1,5 +1,5 @@
 -- Operands, lists of terms, calls of control methods and fields preserve every world relation, where the parts of a term do.
-use Rattle.std.specs.Prelude.{◌≡◌, ◌≤◌, ◌-◌, ℕ, zero, suc, List, Bool, true, false, refl, if◌then◌else◌}
+use Rattle.std.specs.Prelude.{◌≡◌, ◌≤◌, ◌-◌, ℕ, zero, suc, List, [], ◌++◌, Bool, true, false, refl, if◌then◌else◌}
 use Rattle.std.proofs.Common.{arith, ap}
 use Rattle.ar_space.specs.Accesses.{Accesses}
 use Rattle.ar_space.specs.Change.{give}
@@ -17,6 +17,7 @@ use Rattle.aml_meaning.specs.declared.store_target.Held.TheVariants as held
 use Rattle.aml_meaning.specs.declared.store_target.Stored.{Stored}
 use Rattle.aml_meaning.specs.declared.store_target.Stored.TheVariants as store
 use Rattle.aml_objects.specs.declared.entry.Field.{Field}
+use Rattle.aml_objects.specs.declared.entry.FieldUnit.{FieldUnit}
 use Rattle.aml_meaning.specs.State.{State}
 use Rattle.aml_meaning.specs.Run.{Run}
 use Rattle.aml_meaning.specs.Tasks.{Task, operand_value, value_at, two_values, operand_integer, goes_on, in_turn}
@@ -24,9 +25,11 @@ use Rattle.aml_meaning.specs.Invocations.{invoked, method_value}
 use Rattle.aml_meaning.specs.FieldCalls.{called_at, asked, method_integer, answer_over, answer_within, field_read, held_value, held_integer, referent_read, completed, stored_to, is_element, back_to, stored_back}
 use Rattle.aml_laws.proofs.ItemsOfLists.{item_preserves}
 use Rattle.aml_laws.proofs.FieldsPreserve.{field_value_preserves, field_integer_preserves, field_part_preserves, field_referent_preserves, field_stored_preserves}
+use Rattle.aml_laws.proofs.FieldUnitsFound.{units_held, units_referred, units_stored, lift_finds, stored_finds}
+use Rattle.aml_laws.proofs.KnownFieldUnits.{by_any, give_by, found_then_by, none_known, from_standing}
 use Rattle.aml_laws.proofs.FoundNamesStand.{MethodStandsAt}
 use Rattle.aml_laws.proofs.LocatedRegions.{IsAsMeant, AsksObjects}
-use Rattle.aml_laws.proofs.WorldRelations.{PartsLead, WorldRelation, Levels, always, deeper_preserves, RunPreserves, RunPreservesFrom, CalledMethodStands, MayRemoveBelow, run_give_preserves, run_stop_preserves, run_settle_preserves, lift_preserves, run_then_preserves, found_then_preserves, run_preserves_from, then_preserves_from, body_preserves_from}
+use Rattle.aml_laws.proofs.WorldRelations.{PartsLead, WorldRelation, Levels, always, deeper_preserves, RunPreserves, RunPreservesFrom, RunPreservesBy, CalledStands, units_of_field, MayRemoveBelow, run_give_preserves, run_stop_preserves, run_settle_preserves, lift_preserves, run_then_preserves, found_then_preserves, run_preserves_from, then_preserves_from, body_preserves_from}
 use Rattle.aml_laws.proofs.ChangesPreserve.{invocation_found_finds_invocation, integer_in_preserves, body_terms_preserves, call_allowed_preserves}
 use Rattle.aml_laws.proofs.StoreTargetsPreserve.{stored_preserves}
 
@@ -68,15 +71,15 @@ module _ {S : Type 0} {accesses : Accesses S} {levels : Levels accesses} (ev : T
 
   -- ---- field units
 
-  asked_preserves : {level : ℕ} (answer : Invocation → Run S ℕ) → ((u : State S) (i : Invocation) → CalledMethodStands u i → RunPreservesFrom (levels.at level) u (answer i)) → (q : List Seg) → RunPreserves (levels.at level) (asked answer q)
+  asked_preserves : {level : ℕ} (answer : Invocation → Run S ℕ) → ((u : State S) (i : Invocation) → CalledStands u i → RunPreservesFrom (levels.at level) u (answer i)) → (q : List Seg) → RunPreserves (levels.at level) (asked answer q)
   unfolding asked
   asked_preserves answer each q = found_then_preserves _ _ (invocation_found_finds_invocation _ _ _) each
 
-  answer_over_preserves_from : {level : ℕ} (k : ℕ) (call : List Seg → Run S ℕ) → ((q : List Seg) → RunPreserves (levels.at level) (call q)) → ((levels.at level).told ≡ true → AsksObjects accesses call) → (u : State S) (i : Invocation) → CalledMethodStands u i → RunPreservesFrom (levels.at level) u (answer_over accesses ev k call i)
+  answer_over_preserves_from : {level : ℕ} (k : ℕ) (call : List Seg → Run S ℕ) → ((q : List Seg) → RunPreserves (levels.at level) (call q)) → ((levels.at level).told ≡ true → AsksObjects accesses call) → (u : State S) (i : Invocation) → CalledStands u i → RunPreservesFrom (levels.at level) u (answer_over accesses ev k call i)
   unfolding method_integer
   answer_over_preserves_from k call each asks u (invocations.Value v) at = run_preserves_from u _ (run_settle_preserves _)
-  answer_over_preserves_from k call each asks u (invocations.Field f) at = run_preserves_from u _ (field_part_preserves call each asks f)
-  answer_over_preserves_from k call each asks u (invocations.Method q body) at = then_preserves_from u _ _ (method_value_preserves_from u _ q body _ (at q body refl)) (λ v. run_preserves_from u _ (run_settle_preserves _))
+  answer_over_preserves_from k call each asks u (invocations.Field f) at = from_standing u (units_of_field f) _ at.fields (field_part_preserves call each asks [] f)
+  answer_over_preserves_from k call each asks u (invocations.Method q body) at = then_preserves_from u _ _ (method_value_preserves_from u _ q body _ (at.method q body refl)) (λ v. run_preserves_from u _ (run_settle_preserves _))
   answer_over_preserves_from k call each asks u invocations.Osi at = run_preserves_from u _ (run_stop_preserves _)
 
   -- so many calls may still be made inside some
@@ -85,7 +88,7 @@ module _ {S : Type 0} {accesses : Accesses S} {levels : Levels accesses} (ev : T
       let left : k ≡ 32 - (32 - k) = omega (arith, few) in
       record { depth = 32 - k; ev = ev; as_meant = parts.as_meant level told; is = ap (λ j. asked (answer_within accesses ev j)) left }
 
-  answer_within_preserves_from : {level : ℕ} (k : ℕ) → k ≤ 32 → (u : State S) (i : Invocation) → CalledMethodStands u i → RunPreservesFrom (levels.at level) u (answer_within accesses ev k i)
+  answer_within_preserves_from : {level : ℕ} (k : ℕ) → k ≤ 32 → (u : State S) (i : Invocation) → CalledStands u i → RunPreservesFrom (levels.at level) u (answer_within accesses ev k i)
   unfolding answer_within
   answer_within_preserves_from zero few u i at = run_preserves_from u _ (run_stop_preserves _)
   answer_within_preserves_from {level = level} (suc k) few u i at =
@@ -98,38 +101,42 @@ module _ {S : Type 0} {accesses : Accesses S} {levels : Levels accesses} (ev : T
   pub called_at_asks : {level : ℕ} (depth : ℕ) → (levels.at level).told ≡ true → AsksObjects accesses (called_at accesses ev depth)
   called_at_asks {level = level} depth told = record { depth = depth; ev = ev; as_meant = parts.as_meant level told; is = refl }
 
-  pub field_read_preserves : {level : ℕ} (depth : ℕ) (u : Field) → RunPreserves (levels.at level) (field_read accesses ev depth u)
-  field_read_preserves depth u = field_value_preserves _ (called_at_preserves depth) (called_at_asks depth) u
+  -- fields that are known: those that are found
+  pub field_read_preserves : {level : ℕ} (known : List FieldUnit) (depth : ℕ) (u : Field) → RunPreservesBy (levels.at level) (units_of_field u ++ known) (field_read accesses ev depth u)
+  field_read_preserves known depth u = field_value_preserves _ (called_at_preserves depth) (called_at_asks depth) known u
 
-  pub held_integer_preserves : {level : ℕ} (depth : ℕ) (h : Held) → RunPreserves (levels.at level) (held_integer accesses ev depth h)
-  held_integer_preserves depth (held.Value v) = lift_preserves _ (integer_in_preserves v)
-  held_integer_preserves depth (held.Field u) = field_integer_preserves _ (called_at_preserves depth) (called_at_asks depth) u
+  pub held_integer_preserves : {level : ℕ} (known : List FieldUnit) (depth : ℕ) (h : Held) → RunPreservesBy (levels.at level) (units_held h ++ known) (held_integer accesses ev depth h)
+  held_integer_preserves known depth (held.Value v) = by_any known _ (lift_preserves _ (integer_in_preserves v))
+  held_integer_preserves known depth (held.Field u) = field_integer_preserves _ (called_at_preserves depth) (called_at_asks depth) known u
 
-  pub referent_read_preserves : {level : ℕ} (depth : ℕ) (r : Referent) → RunPreserves (levels.at level) (referent_read accesses ev depth r)
-  referent_read_preserves depth (referent.Value v) = run_give_preserves _
-  referent_read_preserves depth (referent.Object t) = run_give_preserves _
-  referent_read_preserves depth (referent.Field u) = field_referent_preserves _ (called_at_preserves depth) (called_at_asks depth) u
-  referent_read_preserves depth (referent.Bytes n) = run_give_preserves _
+  pub referent_read_preserves : {level : ℕ} (known : List FieldUnit) (depth : ℕ) (r : Referent) → RunPreservesBy (levels.at level) (units_referred r ++ known) (referent_read accesses ev depth r)
+  referent_read_preserves known depth (referent.Value v) = give_by _
+  referent_read_preserves known depth (referent.Object t) = give_by _
+  referent_read_preserves known depth (referent.Field u) = field_referent_preserves _ (called_at_preserves depth) (called_at_asks depth) known u
+  referent_read_preserves known depth (referent.Bytes n) = give_by _
 
-  pub completed_preserves : {level : ℕ} (depth : ℕ) (s : Stored) (v : Value) → RunPreserves (levels.at level) (completed accesses ev depth s v)
-  completed_preserves depth store.Done v = run_give_preserves _
-  completed_preserves depth (store.Field u) v = field_stored_preserves _ (called_at_preserves depth) (called_at_asks depth) u v
+  pub completed_preserves : {level : ℕ} (known : List FieldUnit) (depth : ℕ) (s : Stored) (v : Value) → RunPreservesBy (levels.at level) (units_stored s ++ known) (completed accesses ev depth s v)
+  completed_preserves known depth store.Done v = give_by _
+  completed_preserves known depth (store.Field u) v = field_stored_preserves _ (called_at_preserves depth) (called_at_asks depth) known u v
+
+  stored_to_preserves_by : {level : ℕ} (known : List FieldUnit) (depth : ℕ) (q : StoreTarget) (v : Value) → RunPreservesBy (levels.at level) known (stored_to accesses ev depth q v)
+  unfolding stored_to
+  stored_to_preserves_by known depth q v = found_then_by known _ _ (by_any known _ (lift_preserves _ (stored_preserves q v))) (lift_finds _ (stored_finds q v)) (λ s. completed_preserves known depth s v)
 
   pub stored_to_preserves : {level : ℕ} (depth : ℕ) (q : StoreTarget) (v : Value) → RunPreserves (levels.at level) (stored_to accesses ev depth q v)
-  unfolding stored_to
-  stored_to_preserves depth q v = run_then_preserves _ _ (lift_preserves _ (stored_preserves q v)) (λ s. completed_preserves depth s v)
+  stored_to_preserves depth q v = none_known _ (stored_to_preserves_by [] depth q v)
 
-  pub held_value_preserves : {level : ℕ} (depth : ℕ) (h : Held) → RunPreserves (levels.at level) (held_value accesses ev depth h)
-  held_value_preserves depth (held.Value v) = run_give_preserves _
-  held_value_preserves depth (held.Field u) = field_read_preserves depth u
+  pub held_value_preserves : {level : ℕ} (known : List FieldUnit) (depth : ℕ) (h : Held) → RunPreservesBy (levels.at level) (units_held h ++ known) (held_value accesses ev depth h)
+  held_value_preserves known depth (held.Value v) = give_by _
+  held_value_preserves known depth (held.Field u) = field_read_preserves known depth u
 
-  back_to_preserves : {level : ℕ} (b : Bool) (depth : ℕ) (h : Held) (q : StoreTarget) (v : Value) → RunPreserves (levels.at level) (back_to accesses ev b depth h q v)
-  back_to_preserves true depth h q v = stored_to_preserves depth q v
-  back_to_preserves false depth (held.Value old) q v = stored_to_preserves depth q v
-  back_to_preserves false depth (held.Field u) q v = field_stored_preserves _ (called_at_preserves depth) (called_at_asks depth) u v
+  back_to_preserves : {level : ℕ} (known : List FieldUnit) (b : Bool) (depth : ℕ) (h : Held) (q : StoreTarget) (v : Value) → RunPreservesBy (levels.at level) (units_held h ++ known) (back_to accesses ev b depth h q v)
+  back_to_preserves known true depth h q v = stored_to_preserves_by (units_held h ++ known) depth q v
+  back_to_preserves known false depth (held.Value old) q v = stored_to_preserves_by known depth q v
+  back_to_preserves known false depth (held.Field u) q v = field_stored_preserves _ (called_at_preserves depth) (called_at_asks depth) known u v
 
-  pub stored_back_preserves : {level : ℕ} (depth : ℕ) (h : Held) (q : StoreTarget) (v : Value) → RunPreserves (levels.at level) (stored_back accesses ev depth h q v)
-  stored_back_preserves depth h q v = back_to_preserves (is_element q) depth h q v
+  pub stored_back_preserves : {level : ℕ} (known : List FieldUnit) (depth : ℕ) (h : Held) (q : StoreTarget) (v : Value) → RunPreservesBy (levels.at level) (units_held h ++ known) (stored_back accesses ev depth h q v)
+  stored_back_preserves known depth h q v = back_to_preserves known (is_element q) depth h q v
 
 -- ---- the same at all depths
 

@@ -7,11 +7,11 @@ use Rattle.aml_meaning.specs.declared.settings.EvaluationSettings.{EvaluationSet
 use Rattle.aml_meaning.specs.State.{State}
 use Rattle.aml_meaning.specs.Predefined.{fresh_as, predefined}
 use Rattle.aml_laws.specs.Becomes.{Becomes}
-use Rattle.aml_laws.proofs.WorldRelations.{WorldRelation}
+use Rattle.aml_laws.proofs.WorldRelations.{WorldRelation, plain}
 use Rattle.aml_laws.proofs.EvaluationsPreserve.{becomes_preserves, predefined_preserves}
 
 abbrev pub osi_relation : {S : Type 0} (accesses : Accesses S) → WorldRelation accesses
-osi_relation accesses = record {
+osi_relation accesses = plain (record {
   Leads = λ w v. v.osi ≡ w.osi;
   reflexive = λ w. refl;
   transitive = λ u v w h i. i ∙ h;
@@ -22,13 +22,13 @@ osi_relation accesses = record {
   frame_closed = λ w v vs h. h;
   names_removed = λ u w q at h. h;
   told = false;
-  region_accessed = λ u w region space s stands at r h. h;
+  region_accessed = λ u w field region space s stands at r h. h;
   bridge_asked = λ u w at width wide asks h. h;
   loads = true;
   arities_set = λ loads w list. refl;
   mutexes_released = λ w. refl;
   passed_noted = λ listed u w scope e wide is h. h;
-}
+})
 
 pub osi_is_kept : {S : Type 0} (accesses : Accesses S) (w v : State S) → Becomes accesses w v → v.osi ≡ w.osi
 osi_is_kept accesses w v h = becomes_preserves (osi_relation accesses) refl w v h

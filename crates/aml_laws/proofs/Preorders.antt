@@ -1,5 +1,7 @@
 -- Changes that lead from each state to one that a preorder relates to it.
-use Rattle.std.specs.Prelude.{◌≡◌, ℕ, ◌==◌, List, [], ◌∷◌, Bool, true, false, Ok, Err, refl, if◌then◌else◌}
+use Rattle.std.specs.Prelude.{◌≡◌, ℕ, ◌==◌, List, [], ◌∷◌, Bool, true, false, Ok, Err, Contains, refl, if◌then◌else◌}
+use Rattle.std.proofs.Common.{arith}
+use Rattle.std.proofs.lemmas.List.Elements.{Contains-get_or, Contains-append_right}
 use Rattle.ar_space.specs.declared.refusal.Refusal.{Refusal}
 use Rattle.ar_space.specs.Accesses.{bit_count}
 use Rattle.ar_space.specs.Outcome.{Outcome}
@@ -14,6 +16,9 @@ use Rattle.aml_fields.specs.UnitByUnit.{read_units, bits_read, write_units, kept
 pub either_branch : {X : Type 0} (P : X → Type 0) (b : Bool) (x y : X) → P x → P y → P (if b then x else y)
 either_branch P true x y h i = h
 either_branch P false x y h i = i
+
+pub first_of : {X : Type 0} (x : X) (xs : List X) → Contains (x ∷ xs) x
+first_of x xs = Contains-get_or (x ∷ xs) 0 x (omega arith)
 
 pub record Preorder (H : Type 0) : Type 1 where
   pub Leads : H → H → Type 0
@@ -53,19 +58,27 @@ module _ {H : Type 0} {R : Preorder H} where
 
   -- ---- unit by unit
 
-  read_units_respects : (read : Access → Change H ℕ) → ((u : Access) → Respects R (read u)) → (us : List Access) → Respects R (read_units read us)
+  read_each_respects : (read : Access → Change H ℕ) → (us : List Access) → ((u : Access) → Contains us u → Respects R (read u)) → Respects R (read_units read us)
   unfolding read_units
-  read_units_respects read each [] = give_respects _
-  read_units_respects read each (u ∷ us) = then_respects _ _ (each u) (λ unit. then_respects _ _ (read_units_respects read each us) (λ bits. give_respects _))
+  read_each_respects read [] each = give_respects _
+  read_each_respects read (u ∷ us) each = then_respects _ _ (each u (first_of u us)) (λ unit. then_respects _ _ (read_each_respects read us (λ v there. each v (Contains-append_right (u ∷ []) us v there))) (λ bits. give_respects _))
+
+  -- each of a field's units is read
+  pub units_read_respects : (read : Access → Change H ℕ) (f : FieldUnit) → ((u : Access) → Contains (units_of f.bit_offset f.bits f.access) u → Respects R (read u)) → Respects R (bits_read read f)
+  unfolding bits_read
+  units_read_respects read f each = then_respects _ _ (read_each_respects read (units_of f.bit_offset f.bits f.access) each) (λ bits. give_respects _)
 
   pub bits_read_respects : (read : Access → Change H ℕ) → ((u : Access) → Respects R (read u)) → (f : FieldUnit) → Respects R (bits_read read f)
-  unfolding bits_read
-  bits_read_respects read each f = then_respects _ _ (read_units_respects read each (units_of f.bit_offset f.bits f.access)) (λ bits. give_respects _)
+  bits_read_respects read each f = units_read_respects read f (λ u there. each u)
+
+  -- each of some units is written
+  pub each_written_respects : (write : Access → Change H (Unit {0})) → (us : List Access) → ((u : Access) → Contains us u → Respects R (write u)) → Respects R (write_units write us)
+  unfolding write_units
+  each_written_respects write [] each = give_respects _
+  each_written_respects write (u ∷ us) each = then_respects _ _ (each u (first_of u us)) (λ done. each_written_respects write us (λ v there. each v (Contains-append_right (u ∷ []) us v there)))
 
   pub write_units_respects : (write : Access → Change H (Unit {0})) → ((u : Access) → Respects R (write u)) → (us : List Access) → Respects R (write_units write us)
-  unfolding write_units
-  write_units_respects write each [] = give_respects _
-  write_units_respects write each (u ∷ us) = then_respects _ _ (each u) (λ done. write_units_respects write each us)
+  write_units_respects write each us = each_written_respects write us (λ u there. each u)
 
   kept_or_whole_respects : (rule : UpdateRule) (whole : Bool) (read : Change H ℕ) → Respects R read → Respects R (λ h. if whole then (Ok 0, h) else kept_by rule read h)
   kept_or_whole_respects rule true read g = record { respects = R.reflexive }

@@ -1,5 +1,5 @@
 -- Fields of an operation region are read and written by accesses that lie within it.
-use Rattle.std.specs.Prelude.{◌≡◌, ℕ, ◌+◌, ◌^◌, nat_lt, List, Bool, true, false, Ok, Err, Some, None, refl, if◌then◌else◌}
+use Rattle.std.specs.Prelude.{◌≡◌, ℕ, ◌+◌, ◌^◌, nat_lt, List, Bool, true, false, Ok, Err, Some, None, Contains, refl, if◌then◌else◌}
 use Rattle.std.proofs.Common.{arith, subst, ◌∙◌}
 use Rattle.std.proofs.lemmas.Bool.{ltb-false}
 use Rattle.ar_space.specs.declared.space.Width.{Width}
@@ -19,9 +19,9 @@ use Rattle.aml_fields.specs.Regions.{place_in, or_limit, unit_place, read_access
 use Rattle.aml_meaning.specs.Regions.{pci_space}
 use Rattle.aml_laws.specs.Reached.{Reached}
 use Rattle.aml_laws.specs.Reached as by
-use Rattle.aml_laws.specs.RegionAccesses.{space_of, address_of, LiesWithin, IsPlaceOf, is_address, is_port, is_register, ReachedWithin}
+use Rattle.aml_laws.specs.RegionAccesses.{space_of, address_of, LiesWithin, ReachesUnit, IsPlaceOf, is_address, is_port, is_register, ReachedWithin}
 use Rattle.aml_laws.specs.RegionAccesses as within
-use Rattle.aml_laws.proofs.Preorders.{Preorder, Respects, settle_then_respects, then_respects, bits_read_respects, write_units_respects, kept_respects}
+use Rattle.aml_laws.proofs.Preorders.{Preorder, Respects, settle_then_respects, then_respects, units_read_respects, each_written_respects, kept_respects}
 
 module _ {S : Type 0} {accesses : Accesses S} where
   pub reached_transitive : (s t u : S) → Reached accesses s t → Reached accesses t u → Reached accesses s u
@@ -30,15 +30,15 @@ module _ {S : Type 0} {accesses : Accesses S} where
   reached_transitive s t u h (by.written v place width value i) = by.written v place width value (reached_transitive s t v h i)
 
   -- accesses of a region are accesses
-  pub reached_anyhow : (region : OperationRegion) (space : AddressSpace) (s t : S) → ReachedWithin accesses region space s t → Reached accesses s t
-  reached_anyhow region space s t within.none = by.none
-  reached_anyhow region space s t (within.read u at width lies is h) = by.read u at width (reached_anyhow region space s u h)
-  reached_anyhow region space s t (within.written u at width value lies is h) = by.written u at width value (reached_anyhow region space s u h)
+  pub reached_anyhow : (field : FieldUnit) (region : OperationRegion) (space : AddressSpace) (s t : S) → ReachedWithin accesses field region space s t → Reached accesses s t
+  reached_anyhow field region space s t within.none = by.none
+  reached_anyhow field region space s t (within.read u at width lies unit is h) = by.read u at width (reached_anyhow field region space s u h)
+  reached_anyhow field region space s t (within.written u at width value lies unit is h) = by.written u at width value (reached_anyhow field region space s u h)
 
-  pub within_transitive : (region : OperationRegion) (space : AddressSpace) (s t u : S) → ReachedWithin accesses region space s t → ReachedWithin accesses region space t u → ReachedWithin accesses region space s u
-  within_transitive region space s t u h within.none = h
-  within_transitive region space s t u h (within.read v at width lies is i) = within.read v at width lies is (within_transitive region space s t v h i)
-  within_transitive region space s t u h (within.written v at width value lies is i) = within.written v at width value lies is (within_transitive region space s t v h i)
+  pub within_transitive : (field : FieldUnit) (region : OperationRegion) (space : AddressSpace) (s t u : S) → ReachedWithin accesses field region space s t → ReachedWithin accesses field region space t u → ReachedWithin accesses field region space s u
+  within_transitive field region space s t u h within.none = h
+  within_transitive field region space s t u h (within.read v at width lies unit is i) = within.read v at width lies unit is (within_transitive field region space s t v h i)
+  within_transitive field region space s t u h (within.written v at width value lies unit is i) = within.written v at width value lies unit is (within_transitive field region space s t v h i)
 
 -- ---- where a unit lies
 
@@ -75,63 +75,68 @@ placed spaces.Memory n at e = placed_by_cases spaces.Memory n (nat_lt n (2 ^ 64)
 placed spaces.Io n at e = placed_by_cases spaces.Io n (nat_lt n (2 ^ 16)) (place.Io n) at (record { in_space = refl; number = refl; is_of = is_port n }) e
 placed (spaces.Pci seg bus dev func) n at e = placed_by_cases (spaces.Pci seg bus dev func) n (nat_lt n 4096) (place.Pci seg bus dev func n) at (record { in_space = refl; number = refl; is_of = is_register seg bus dev func n }) e
 
--- an access lies within a declared region that is located in an address space
-record LiesThere (declared : OperationRegion) (space : AddressSpace) (at : Place) (width : Width) : Type 0 where
+-- an access is one of a unit of a field, within a declared region that is located in an address space
+record LiesThere (field : FieldUnit) (declared : OperationRegion) (space : AddressSpace) (at : Place) (width : Width) : Type 0 where
   within_it : LiesWithin declared at width
+  unit : ReachesUnit field declared at width
   is_of : IsPlaceOf space at
 
-unit_by_cases : (declared : OperationRegion) (region : Region) (width : Width) (offset : ℕ) (at : Place) (b : Bool) (x : Refusal) → IsRegion declared region → nat_lt region.length (offset + byte_count width) ≡ b
-    → (if b then Err x else or_limit (place_in region.space (region.offset + offset))) ≡ Ok at → LiesThere declared region.space at width
-unit_by_cases declared region width offset at true x h test e = absurd (cc e)
-unit_by_cases declared region width offset at false x h test e =
-    let p = placed region.space (region.offset + offset) at e in
-    let room = ltb-false region.length (offset + byte_count width) test in
-    let number = p.number in
-    let same_offset = h.offset in
-    let same_length = h.length in
-    record {
-      within_it = record { space = p.in_space ∙ h.space; begins = omega (arith, number, same_offset); ends = omega (arith, number, room, same_offset, same_length) };
-      is_of = p.is_of;
-    }
+module _ (f : FieldUnit) (declared : OperationRegion) (region : Region) (is : IsRegion declared region) (u : Access) (one : Contains (units_of f.bit_offset f.bits f.access) u) where
+  unit_by_cases : (at : Place) (b : Bool) (x : Refusal) → nat_lt region.length (u.offset + byte_count f.access) ≡ b → (if b then Err x else or_limit (place_in region.space (region.offset + u.offset))) ≡ Ok at → LiesThere f declared region.space at f.access
+  unit_by_cases at true x test e = absurd (cc e)
+  unit_by_cases at false x test e =
+      let p = placed region.space (region.offset + u.offset) at e in
+      let room = ltb-false region.length (u.offset + byte_count f.access) test in
+      let number = p.number in
+      let same_offset = is.offset in
+      let same_length = is.length in
+      record {
+        within_it = record { space = p.in_space ∙ is.space; begins = omega (arith, number, same_offset); ends = omega (arith, number, room, same_offset, same_length) };
+        unit = record { unit = u; is_one = one; begins = omega (arith, number, same_offset); wide = refl };
+        is_of = p.is_of;
+      }
 
-unit_lies_there : (declared : OperationRegion) (region : Region) (width : Width) (offset : ℕ) (at : Place) → IsRegion declared region → unit_place region width offset ≡ Ok at → LiesThere declared region.space at width
-unfolding unit_place
-unit_lies_there declared region width offset at h e = unit_by_cases declared region width offset at (nat_lt region.length (offset + byte_count width)) _ h refl e
+  unit_lies_there : (at : Place) → unit_place region f.access u.offset ≡ Ok at → LiesThere f declared region.space at f.access
+  unfolding unit_place
+  unit_lies_there at e = unit_by_cases at (nat_lt region.length (u.offset + byte_count f.access)) _ refl e
 
 -- ---- fields of a region
 
-module _ {S : Type 0} (accesses : Accesses S) (declared : OperationRegion) (space : AddressSpace) where
+module _ {S : Type 0} (accesses : Accesses S) (field : FieldUnit) (declared : OperationRegion) (space : AddressSpace) where
   abbrev pub accesses_preorder : Preorder S
-  accesses_preorder = record { Leads = ReachedWithin accesses declared space; reflexive = λ s. within.none; transitive = within_transitive declared space }
+  accesses_preorder = record { Leads = ReachedWithin accesses field declared space; reflexive = λ s. within.none; transitive = within_transitive field declared space }
 
   abbrev pub OnlyWithin : {A : Type 0} → Change S A → Type 0
   OnlyWithin m = Respects accesses_preorder m
 
-  read_access_only_within : (at : Place) (width : Width) → LiesThere declared space at width → OnlyWithin (read_access accesses at width)
+  read_access_only_within : (at : Place) (width : Width) → LiesThere field declared space at width → OnlyWithin (read_access accesses at width)
   unfolding read_access
-  read_access_only_within at width lies = record { respects = λ s. within.read s at width lies.within_it lies.is_of within.none }
+  read_access_only_within at width lies = record { respects = λ s. within.read s at width lies.within_it lies.unit lies.is_of within.none }
 
-  write_access_only_within : (at : Place) (width : Width) (value : ℕ) → LiesThere declared space at width → OnlyWithin (write_access accesses at width value)
+  write_access_only_within : (at : Place) (width : Width) (value : ℕ) → LiesThere field declared space at width → OnlyWithin (write_access accesses at width value)
   unfolding write_access
-  write_access_only_within at width value lies = record { respects = λ s. within.written s at width value lies.within_it lies.is_of within.none }
+  write_access_only_within at width value lies = record { respects = λ s. within.written s at width value lies.within_it lies.unit lies.is_of within.none }
 
-module _ {S : Type 0} (accesses : Accesses S) (declared : OperationRegion) (region : Region) (is : IsRegion declared region) where
-  pub read_unit_only_within : (width : Width) (u : Access) → OnlyWithin accesses declared region.space (read_unit accesses region width u)
+module _ {S : Type 0} (accesses : Accesses S) (f : FieldUnit) (declared : OperationRegion) (region : Region) (is : IsRegion declared region) where
+  abbrev IsUnit : Access → Type 0
+  IsUnit u = Contains (units_of f.bit_offset f.bits f.access) u
+
+  pub read_unit_only_within : (u : Access) → IsUnit u → OnlyWithin accesses f declared region.space (read_unit accesses region f.access u)
   unfolding read_unit
-  read_unit_only_within width u = settle_then_respects _ _ (λ at e. read_access_only_within accesses declared region.space at width (unit_lies_there declared region width u.offset at is e))
+  read_unit_only_within u one = settle_then_respects _ _ (λ at e. read_access_only_within accesses f declared region.space at f.access (unit_lies_there f declared region is u one at e))
 
-  pub write_whole_only_within : (width : Width) (offset value : ℕ) → OnlyWithin accesses declared region.space (write_whole accesses region width offset value)
+  pub write_whole_only_within : (u : Access) (value : ℕ) → IsUnit u → OnlyWithin accesses f declared region.space (write_whole accesses region f.access u.offset value)
   unfolding write_whole
-  write_whole_only_within width offset value = settle_then_respects _ _ (λ at e. write_access_only_within accesses declared region.space at width value (unit_lies_there declared region width offset at is e))
+  write_whole_only_within u value one = settle_then_respects _ _ (λ at e. write_access_only_within accesses f declared region.space at f.access value (unit_lies_there f declared region is u one at e))
 
-  write_unit_only_within : (f : FieldUnit) (source : List ℕ) (u : Access) → OnlyWithin accesses declared region.space (write_unit accesses region f source u)
+  write_unit_only_within : (source : List ℕ) (u : Access) → IsUnit u → OnlyWithin accesses f declared region.space (write_unit accesses region f source u)
   unfolding write_unit
-  write_unit_only_within f source u = settle_then_respects _ _ (λ at e.
-      let lies = unit_lies_there declared region f.access u.offset at is e in
-      then_respects _ _ (kept_respects f u _ (read_access_only_within accesses declared region.space at f.access lies)) (λ old. write_access_only_within accesses declared region.space at f.access _ lies))
+  write_unit_only_within source u one = settle_then_respects _ _ (λ at e.
+      let lies = unit_lies_there f declared region is u one at e in
+      then_respects _ _ (kept_respects f u _ (read_access_only_within accesses f declared region.space at f.access lies)) (λ old. write_access_only_within accesses f declared region.space at f.access _ lies))
 
-  pub read_field_only_within : (f : FieldUnit) → OnlyWithin accesses declared region.space (read_field accesses region f)
-  read_field_only_within f = bits_read_respects _ (read_unit_only_within f.access) f
+  pub read_field_only_within : OnlyWithin accesses f declared region.space (read_field accesses region f)
+  read_field_only_within = units_read_respects _ f read_unit_only_within
 
-  pub write_field_only_within : (f : FieldUnit) (source : List ℕ) → OnlyWithin accesses declared region.space (write_field accesses region f source)
-  write_field_only_within f source = write_units_respects _ (write_unit_only_within f source) (units_of f.bit_offset f.bits f.access)
+  pub write_field_only_within : (source : List ℕ) → OnlyWithin accesses f declared region.space (write_field accesses region f source)
+  write_field_only_within source = each_written_respects _ (units_of f.bit_offset f.bits f.access) (write_unit_only_within source)

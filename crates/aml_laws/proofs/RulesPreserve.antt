@@ -1,5 +1,5 @@
 -- The rule of each term preserves every world relation, where its parts do; so every evaluation does.
-use Rattle.std.specs.Prelude.{◌≡◌, ℕ, zero, suc, List, Bool, true, false, Option, Some, None, refl}
+use Rattle.std.specs.Prelude.{◌≡◌, ℕ, zero, suc, List, [], Bool, true, false, Option, Some, None, refl}
 use Rattle.ar_space.specs.Accesses.{Accesses}
 use Rattle.aml_path.specs.declared.segment.Seg.{Seg}
 use Rattle.aml_grammar.specs.declared.opcode.Opcode.{Opcode}
@@ -49,9 +49,11 @@ use Rattle.aml_laws.proofs.FieldsPreserve.{elements_laid_preserves, region_found
 use Rattle.aml_meaning.specs.Evaluation.{kind_rule, code_rule, rule}
 use Rattle.aml_meaning.specs.Meaning.{meaning, evaluated_within}
 use Rattle.aml_laws.proofs.ObjectKinds.{make_string_keeps_kinds, new_buffer_field_keeps_kinds}
+use Rattle.aml_laws.proofs.FieldUnitsFound.{RunFinds, last_finds, lift_finds, units_referred, target_read_finds, dereferenced_finds, value_referent_finds, target_referent_finds, copied_to_finds}
+use Rattle.aml_laws.proofs.KnownFieldUnits.{by_any, give_by, then_by, found_then, from_standing}
 use Rattle.aml_laws.proofs.FoundNamesStand.{MethodStandsAt}
 use Rattle.aml_laws.proofs.LocatedRegions.{IsAsMeant, meant, bounded}
-use Rattle.aml_laws.proofs.WorldRelations.{PartsLead, Levels, always, WorldRelation, RunPreserves, RunPreservesFrom, CalledMethodStands, on_objects_preserves, run_give_preserves, run_stop_preserves, run_settle_preserves, lift_preserves, charge_preserves, run_then_preserves, found_then_preserves, run_preserves_from, then_preserves_from}
+use Rattle.aml_laws.proofs.WorldRelations.{PartsLead, Levels, always, WorldRelation, RunPreserves, RunPreservesFrom, CalledStands, units_of_field, on_objects_preserves, run_give_preserves, run_stop_preserves, run_settle_preserves, lift_preserves, charge_preserves, run_then_preserves, found_then_preserves, run_preserves_from, then_preserves_from}
 use Rattle.aml_laws.proofs.ChangesPreserve.{integer_kept_preserves, integer_in_preserves, path_found_preserves, scope_found_preserves, target_named_preserves, within_preserves, new_buffer_preserves, new_package_preserves, new_name_preserves, new_method_preserves, divided_in_preserves, turned_preserves, size_in_preserves, result_of_two_preserves, result_of_one_preserves, result_of_test_preserves, counted_by_preserves, osi_answered_preserves, invocation_found_finds_invocation, call_allowed_preserves}
 use Rattle.aml_laws.proofs.StoreTargetsPreserve.{slot_read_preserves, tested_preserves, dereferenced_preserves, target_read_preserves, reference_of_preserves, if_initialized_preserves, reference_if_found_preserves, target_referent_preserves, value_referent_preserves, copied_to_preserves, acquired_at_preserves, given_back_at_preserves}
 use Rattle.aml_laws.proofs.OperandsAndCallsPreserve.{at_all_depths, operand_value_leads, operand_integer_preserves, value_at_leads, two_values_leads, in_turn_leads, invoked_leads_from, field_read_preserves, held_integer_preserves, referent_read_preserves, completed_preserves, stored_to_preserves, held_value_preserves, stored_back_preserves}
@@ -221,7 +223,7 @@ module _ {S : Type 0} {accesses : Accesses S} {levels : Levels accesses} (ev : T
 
   copy_rule_preserves : (scope : List Seg) (depth : ℕ) (t : Tree) → RunPreserves (levels.at depth) (copy_rule accesses ev scope depth t)
   unfolding copy_rule
-  copy_rule_preserves scope depth t = run_then_preserves _ _ (value_at_leads ev parts scope depth t 0) (λ v. run_then_preserves _ _ (target_at_preserves scope depth t 1) (λ q. run_then_preserves _ _ (lift_preserves _ (copied_to_preserves q v)) (λ s. run_then_preserves _ _ (completed_preserves ev parts depth s v) (λ done. run_give_preserves _))))
+  copy_rule_preserves scope depth t = run_then_preserves _ _ (value_at_leads ev parts scope depth t 0) (λ v. run_then_preserves _ _ (target_at_preserves scope depth t 1) (λ q. found_then _ _ (lift_preserves _ (copied_to_preserves q v)) (lift_finds _ (copied_to_finds q v)) (λ s. then_by _ _ (completed_preserves ev parts [] depth s v) (λ done. give_by _))))
 
   two_rule_preserves : (k : TwoOperands) (scope : List Seg) (depth : ℕ) (t : Tree) → RunPreserves (levels.at depth) (two_rule accesses ev k scope depth t)
   unfolding two_rule
@@ -245,7 +247,7 @@ module _ {S : Type 0} {accesses : Accesses S} {levels : Levels accesses} (ev : T
 
   count_rule_preserves : (k : Count) (scope : List Seg) (depth : ℕ) (t : Tree) → RunPreserves (levels.at depth) (count_rule accesses ev k scope depth t)
   unfolding count_rule
-  count_rule_preserves k scope depth t = run_then_preserves _ _ (target_at_preserves scope depth t 0) (λ q. run_then_preserves _ _ (lift_preserves _ (target_read_preserves q)) (λ h. run_then_preserves _ _ (held_integer_preserves ev parts depth h) (λ x. run_then_preserves _ _ (lift_preserves _ (counted_by_preserves k x)) (λ r. run_then_preserves _ _ (stored_back_preserves ev parts depth h q r) (λ done. run_give_preserves _)))))
+  count_rule_preserves k scope depth t = run_then_preserves _ _ (target_at_preserves scope depth t 0) (λ q. found_then _ _ (lift_preserves _ (target_read_preserves q)) (lift_finds _ (target_read_finds q)) (λ h. then_by _ _ (held_integer_preserves ev parts [] depth h) (λ x. then_by _ _ (by_any _ _ (lift_preserves _ (counted_by_preserves k x))) (λ r. then_by _ _ (stored_back_preserves ev parts [] depth h q r) (λ done. give_by _)))))
 
   referent_of_value_preserves : (scope : List Seg) (depth : ℕ) (u : Tree) → RunPreserves (levels.at depth) (referent_of_value accesses ev scope depth u)
   unfolding referent_of_value
@@ -272,13 +274,39 @@ module _ {S : Type 0} {accesses : Accesses S} {levels : Levels accesses} (ev : T
   referent_by_preserves scope depth t (Some (inner u)) = referent_by_kind_preserves scope depth t u _
   referent_by_preserves scope depth t (Some (list ts)) = referent_of_target_preserves scope depth t
 
+  -- what it refers to stands, where it is a field
+  referent_of_value_finds : (scope : List Seg) (depth : ℕ) (u : Tree) → RunFinds units_referred (referent_of_value accesses ev scope depth u)
+  unfolding referent_of_value
+  referent_of_value_finds scope depth u = last_finds _ _ (λ v. lift_finds _ (value_referent_finds v))
+
+  referent_of_target_finds : (scope : List Seg) (depth : ℕ) (t : Tree) → RunFinds units_referred (referent_of_target accesses ev scope depth t)
+  unfolding referent_of_target
+  referent_of_target_finds scope depth t = last_finds _ _ (λ q. lift_finds _ (target_referent_finds q))
+
+  referent_by_kind_finds : (scope : List Seg) (depth : ℕ) (t u : Tree) (k : TargetKind) → RunFinds units_referred (referent_by_kind accesses ev scope depth t u k)
+  referent_by_kind_finds scope depth t u target.RefOf = referent_of_value_finds scope depth u
+  referent_by_kind_finds scope depth t u target.DerefOf = referent_of_value_finds scope depth u
+  referent_by_kind_finds scope depth t u target.Index = referent_of_value_finds scope depth u
+  referent_by_kind_finds scope depth t u target.Nowhere = referent_of_target_finds scope depth t
+  referent_by_kind_finds scope depth t u (target.Slot slot) = referent_of_target_finds scope depth t
+  referent_by_kind_finds scope depth t u target.Other = referent_of_target_finds scope depth t
+
+  referent_by_finds : (scope : List Seg) (depth : ℕ) (t : Tree) (o : Option Part) → RunFinds units_referred (referent_by accesses ev scope depth t o)
+  referent_by_finds scope depth t None = referent_of_target_finds scope depth t
+  referent_by_finds scope depth t (Some null) = referent_of_target_finds scope depth t
+  referent_by_finds scope depth t (Some (name x)) = referent_of_target_finds scope depth t
+  referent_by_finds scope depth t (Some (number k)) = referent_of_target_finds scope depth t
+  referent_by_finds scope depth t (Some (bytes bs)) = referent_of_target_finds scope depth t
+  referent_by_finds scope depth t (Some (inner u)) = referent_by_kind_finds scope depth t u _
+  referent_by_finds scope depth t (Some (list ts)) = referent_of_target_finds scope depth t
+
   size_rule_preserves : (scope : List Seg) (depth : ℕ) (t : Tree) → RunPreserves (levels.at depth) (size_rule accesses ev scope depth t)
   unfolding size_rule
-  size_rule_preserves scope depth t = run_then_preserves _ _ (referent_by_preserves scope depth t _) (λ r. run_then_preserves _ _ (referent_read_preserves ev parts depth r) (λ s. run_then_preserves _ _ (lift_preserves _ (size_in_preserves s)) (λ v. run_give_preserves _)))
+  size_rule_preserves scope depth t = found_then _ _ (referent_by_preserves scope depth t _) (referent_by_finds scope depth t _) (λ r. then_by _ _ (referent_read_preserves ev parts [] depth r) (λ s. then_by _ _ (by_any _ _ (lift_preserves _ (size_in_preserves s))) (λ v. give_by _)))
 
   type_rule_preserves : (scope : List Seg) (depth : ℕ) (t : Tree) → RunPreserves (levels.at depth) (type_rule accesses ev scope depth t)
   unfolding type_rule
-  type_rule_preserves scope depth t = run_then_preserves _ _ (referent_by_preserves scope depth t _) (λ r. run_then_preserves _ _ (referent_read_preserves ev parts depth r) (λ s. run_give_preserves _))
+  type_rule_preserves scope depth t = found_then _ _ (referent_by_preserves scope depth t _) (referent_by_finds scope depth t _) (λ r. then_by _ _ (referent_read_preserves ev parts [] depth r) (λ s. give_by _))
 
   reference_rule_preserves : (scope : List Seg) (depth : ℕ) (t : Tree) → RunPreserves (levels.at depth) (reference_rule accesses ev scope depth t)
   unfolding reference_rule
@@ -286,7 +314,7 @@ module _ {S : Type 0} {accesses : Accesses S} {levels : Levels accesses} (ev : T
 
   dereference_rule_preserves : (scope : List Seg) (depth : ℕ) (t : Tree) → RunPreserves (levels.at depth) (dereference_rule accesses ev scope depth t)
   unfolding dereference_rule
-  dereference_rule_preserves scope depth t = run_then_preserves _ _ (value_at_leads ev parts scope depth t 0) (λ v. run_then_preserves _ _ (run_settle_preserves _) (λ r. run_then_preserves _ _ (lift_preserves _ (dereferenced_preserves r)) (λ h. run_then_preserves _ _ (held_value_preserves ev parts depth h) (λ x. run_give_preserves _))))
+  dereference_rule_preserves scope depth t = run_then_preserves _ _ (value_at_leads ev parts scope depth t 0) (λ v. run_then_preserves _ _ (run_settle_preserves _) (λ r. found_then _ _ (lift_preserves _ (dereferenced_preserves r)) (lift_finds _ (dereferenced_finds r)) (λ h. then_by _ _ (held_value_preserves ev parts [] depth h) (λ x. give_by _))))
 
   sought_name_preserves : {depth : ℕ} (scope : List Seg) (t : Tree) → RunPreserves (levels.at depth) (sought_name accesses ev scope t)
   unfolding sought_name
@@ -426,11 +454,11 @@ module _ {S : Type 0} {accesses : Accesses S} {levels : Levels accesses} (ev : T
   unfolding osi_rule
   osi_rule_preserves scope depth ts = run_then_preserves _ _ (arguments_in_turn_preserves scope depth ts _) (λ arguments. run_then_preserves _ _ (lift_preserves _ (call_allowed_preserves _)) (λ few. run_then_preserves _ _ (lift_preserves _ (osi_answered_preserves arguments)) (λ v. run_give_preserves _)))
 
-  invocation_rule_preserves_from : (scope : List Seg) (depth : ℕ) (ts : Trees) (u : State S) (i : Invocation) → CalledMethodStands u i → RunPreservesFrom (levels.at depth) u (invocation_rule accesses ev scope depth ts i)
+  invocation_rule_preserves_from : (scope : List Seg) (depth : ℕ) (ts : Trees) (u : State S) (i : Invocation) → CalledStands u i → RunPreservesFrom (levels.at depth) u (invocation_rule accesses ev scope depth ts i)
   unfolding field_rule
   invocation_rule_preserves_from scope depth ts u (invocations.Value v) at = run_preserves_from u _ (run_give_preserves _)
-  invocation_rule_preserves_from scope depth ts u (invocations.Field f) at = run_preserves_from u _ (run_then_preserves _ _ (field_read_preserves ev parts depth f) (λ v. run_give_preserves _))
-  invocation_rule_preserves_from scope depth ts u (invocations.Method q body) at = call_rule_preserves_from u scope depth ts q body (at q body refl)
+  invocation_rule_preserves_from scope depth ts u (invocations.Field f) at = from_standing u (units_of_field f) _ at.fields (then_by _ _ (field_read_preserves ev parts [] depth f) (λ v. give_by _))
+  invocation_rule_preserves_from scope depth ts u (invocations.Method q body) at = call_rule_preserves_from u scope depth ts q body (at.method q body refl)
   invocation_rule_preserves_from scope depth ts u invocations.Osi at = run_preserves_from u _ (osi_rule_preserves scope depth ts)
 
   name_value_preserves : (scope : List Seg) (depth : ℕ) (t : Tree) → RunPreserves (levels.at depth) (name_value accesses ev scope depth t)

@@ -5,11 +5,11 @@ use Rattle.aml_laws.specs.Becomes.{Becomes}
 use Rattle.std.specs.Prelude.{◌≡◌, Bool, true, false, refl}
 use Rattle.aml_laws.specs.Reached.{Reached, none, read, written, KeptByAccesses}
 use Rattle.aml_laws.proofs.RegisterAccesses.{reached_transitive, reached_anyhow}
-use Rattle.aml_laws.proofs.WorldRelations.{WorldRelation}
+use Rattle.aml_laws.proofs.WorldRelations.{WorldRelation, plain}
 use Rattle.aml_laws.proofs.EvaluationsPreserve.{becomes_preserves}
 
 abbrev reached_relation : {S : Type 0} (accesses : Accesses S) → WorldRelation accesses
-reached_relation accesses = record {
+reached_relation accesses = plain (record {
   Leads = λ w v. Reached accesses w.space v.space;
   reflexive = λ w. none;
   transitive = λ u v w. reached_transitive u.space v.space w.space;
@@ -20,13 +20,13 @@ reached_relation accesses = record {
   frame_closed = λ w v vs h. h;
   names_removed = λ u w q at h. h;
   told = false;
-  region_accessed = λ u w region space s stands at r h. reached_transitive u.space w.space s h (reached_anyhow region space w.space s r);
+  region_accessed = λ u w field region space s stands at r h. reached_transitive u.space w.space s h (reached_anyhow field region space w.space s r);
   bridge_asked = λ u w at width wide asks h. read w.space at width h;
   loads = true;
   arities_set = λ loads w list. none;
   mutexes_released = λ w. none;
   passed_noted = λ listed u w scope e wide is h. h;
-}
+})
 
 pub space_reached : {S : Type 0} (accesses : Accesses S) (w v : State S) → Becomes accesses w v → Reached accesses w.space v.space
 space_reached accesses w v h = becomes_preserves (reached_relation accesses) refl w v h

@@ -1,5 +1,5 @@
 -- Terms of the wide profile preserve what relates worlds, where their operands do so.
-use Rattle.std.specs.Prelude.{ℕ, List, Bool, true, false, refl, if◌then◌else◌}
+use Rattle.std.specs.Prelude.{ℕ, List, [], Bool, true, false, refl, if◌then◌else◌}
 use Rattle.ar_space.specs.Accesses.{Accesses}
 use Rattle.ar_space.specs.Change.{Change}
 use Rattle.aml_path.specs.declared.segment.Seg.{Seg}
@@ -29,6 +29,8 @@ use Rattle.aml_meaning.specs.BankTerms.{banked_laid, bank_list_rule}
 use Rattle.aml_meaning.specs.FieldTerms.{fields_laid, has_connection, asked_if, connections_asked}
 use Rattle.aml_meaning.specs.Profiles.{asked_for}
 use Rattle.aml_meaning.specs.WideTerms.{in_wide, formed_at, convert_rule, to_string_rule, middle_rule, wide_rule}
+use Rattle.aml_laws.proofs.FieldUnitsFound.{lift_finds, formed_to_finds}
+use Rattle.aml_laws.proofs.KnownFieldUnits.{give_by, then_by, found_then}
 use Rattle.aml_laws.proofs.ObjectKinds.{make_string_keeps_kinds}
 use Rattle.aml_laws.proofs.WorldRelations.{PartsLead, Levels, WorldRelationOf, Preserves, RunPreserves, unchanged_preserves, give_preserves, stop_preserves, settle_preserves, then_preserves, on_objects_preserves, lift_preserves, run_give_preserves, run_then_preserves, run_settle_preserves}
 use Rattle.aml_laws.proofs.ChangesPreserve.{integer_in_preserves, made_of_keeps_kinds}
@@ -157,7 +159,7 @@ module _ {S : Type 0} {accesses : Accesses S} {levels : Levels accesses} (ev : T
     (stores : (scope : List Seg) (depth : ℕ) (t : Tree) (i : ℕ) (v : Value) → RunPreserves (levels.at depth) (targeted accesses ev scope depth t i v)) where
   formed_at_preserves : (scope : List Seg) (depth : ℕ) (t : Tree) (i : ℕ) (v : Value) → RunPreserves (levels.at depth) (formed_at accesses ev scope depth t i v)
   unfolding formed_at
-  formed_at_preserves scope depth t i v = run_then_preserves _ _ (aimed scope depth t i) (λ q. run_then_preserves _ _ (lift_preserves _ (formed_to_preserves q v)) (λ s. run_then_preserves _ _ (completed_preserves ev parts depth s v) (λ done. run_give_preserves _)))
+  formed_at_preserves scope depth t i v = run_then_preserves _ _ (aimed scope depth t i) (λ q. found_then _ _ (lift_preserves _ (formed_to_preserves q v)) (lift_finds _ (formed_to_finds q v)) (λ s. then_by _ _ (completed_preserves ev parts [] depth s v) (λ done. give_by _)))
 
   convert_rule_preserves : (k : Conversion) (scope : List Seg) (depth : ℕ) (t : Tree) → RunPreserves (levels.at depth) (convert_rule accesses ev k scope depth t)
   unfolding convert_rule

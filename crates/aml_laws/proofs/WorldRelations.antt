@@ -1,6 +1,6 @@
 -- Relations of worlds that each of the few changes that terms make of a world respects, and what follows for changes one after
 -- another, and for evaluations.
-use Rattle.std.specs.Prelude.{◌≡◌, ℕ, ◌+◌, ◌-◌, ◌==◌, ◌^◌, List, [], ◌∷◌, ◌++◌, replicate, Bool, true, false, Option, Some, None, Ok, Err, refl, if◌then◌else◌}
+use Rattle.std.specs.Prelude.{◌≡◌, ℕ, ◌+◌, ◌-◌, ◌==◌, ◌^◌, List, [], ◌∷◌, ◌++◌, replicate, Bool, true, false, Option, Some, None, Ok, Err, All, Contains, refl, if◌then◌else◌}
 use Rattle.std.proofs.Common.{subst, sym}
 use Rattle.ar_space.specs.declared.space.Width.{Width}
 use Rattle.ar_space.specs.declared.space.Place.{Place}
@@ -19,10 +19,13 @@ use Rattle.aml_objects.specs.declared.value.Value.{Value}
 use Rattle.aml_objects.specs.declared.value.Value.TheVariants as value
 use Rattle.aml_objects.specs.declared.entry.NamedObject.{NamedObject}
 use Rattle.aml_objects.specs.declared.entry.NamedObject.TheVariants as object
+use Rattle.aml_objects.specs.declared.entry.Field.{Field}
+use Rattle.aml_objects.specs.declared.entry.Field.TheVariants as field
+use Rattle.aml_objects.specs.declared.entry.FieldUnit.{FieldUnit}
 use Rattle.aml_objects.specs.declared.entry.OperationRegion.{OperationRegion}
 use Rattle.aml_objects.specs.declared.entry.Entry.{Entry}
 use Rattle.aml_fields.specs.declared.region.AddressSpace.{AddressSpace}
-use Rattle.aml_namespace.specs.Namespace.{Namespace, declared, replaced, replaced_in, with_object, without_below, above}
+use Rattle.aml_namespace.specs.Namespace.{Map, Namespace, declared, replaced, replaced_in, with_object, without_below, above}
 use Rattle.aml_meaning.specs.declared.flow.Flow.{Flow}
 use Rattle.aml_meaning.specs.declared.frame.Frame.{Frame}
 use Rattle.aml_meaning.specs.declared.invocation.Invocation.{Invocation}
@@ -36,20 +39,21 @@ use Rattle.aml_meaning.specs.Slots.{opened, closed}
 use Rattle.aml_meaning.specs.Tasks.{Task, module_level}
 use Rattle.aml_meaning.specs.Invocations.{leaving}
 use Rattle.aml_meaning.specs.Calling.{released, ending, with_steps, framed, in_frame, counted}
-use Rattle.aml_laws.specs.Histories.{with_declaration, RegionStands}
+use Rattle.aml_laws.specs.Histories.{with_declaration, RegionStands, FieldUnitStands, LiesInRegion}
 use Rattle.aml_laws.specs.Kinds.{KeepsKinds}
 use Rattle.aml_laws.specs.Numbers.{numbers_of}
 use Rattle.aml_laws.specs.RegionAccesses.{AsksBridge, ReachedWithin}
 use Rattle.aml_laws.proofs.FoundNamesStand.{MethodStandsAt}
 use Rattle.aml_laws.proofs.LocatedRegions.{IsAsMeant, IsLocated}
-use Rattle.aml_laws.proofs.Preorders.{Preorder, Respects, either_branch}
+use Rattle.aml_laws.proofs.Preorders.{Preorder, either_branch}
 use Rattle.aml_laws.proofs.ObjectKinds.{KeepsObjectKinds}
 
--- what no other object takes the place of
-abbrev pub is_method_or_region : NamedObject → Bool
-is_method_or_region (object.Method m) = true
-is_method_or_region (object.OperationRegion region) = true
-is_method_or_region _ = false
+-- a control method, an operation region or a field unit, which never takes the place of another object
+abbrev pub is_never_put : NamedObject → Bool
+is_never_put (object.Method m) = true
+is_never_put (object.OperationRegion region) = true
+is_never_put (object.FieldUnit field) = true
+is_never_put _ = false
 
 -- in a frame of its own
 abbrev pub in_new_frame : {S : Type 0} → List Value → State S → State S
@@ -62,20 +66,26 @@ pub record WorldRelationOf {S : Type 0} (listed : Bool) (accesses : Accesses S) 
   pub transitive : (u v w : State S) → Leads u v → Leads v w → Leads u w
   -- objects are made and written to
   pub objects_change : (w : State S) (h : Objects) → KeepsKinds w.objects h → Leads w (record w { objects = h })
-  -- a name is declared where none stands; another object, no control method and no operation region, under a name
+  -- a name is declared where none stands; another object, no control method, no operation region and no field unit, under a name
   pub name_declared : (w : State S) (q : List Seg) (o : NamedObject) → contains_key w.names.map q ≡ false → Leads w (record w { names = with_declaration q o w.names })
-  pub object_replaced : (w : State S) (q : List Seg) (o : NamedObject) (e : Entry) → get w.names.map q ≡ Some e → is_method_or_region o ≡ false → Leads w (record w { names = record w.names { map = insert w.names.map q (with_object o e) } })
+  pub object_replaced : (w : State S) (q : List Seg) (o : NamedObject) (e : Entry) → get w.names.map q ≡ Some e → is_never_put o ≡ false → Leads w (record w { names = record w.names { map = insert w.names.map q (with_object o e) } })
   -- slots take values
   pub slots_written : (w : State S) (frames : List Frame) → numbers_of frames ≡ numbers_of w.frames → Leads w (record w { frames = frames })
   -- a frame is opened, and closed after what stands between
   pub frame_closed : (w v : State S) (vs : List Value) → Leads (in_new_frame vs w) v → Leads w (closed v)
   -- at the end of a call the names below a control method that stood when it was found are removed
   pub names_removed : (u w : State S) (q : List Seg) → MethodStandsAt u.names.map q → Leads u w → Leads u (record w { names = without_below q w.names })
-  -- registers of an operation region that stood when it was located are read and written
+  -- the same where some field units are known, of which registers are accessed: none; any; and one that stands is known from there on
+  pub LeadsBy : List FieldUnit → State S → State S → Type 0
+  pub by_none : (w v : State S) → LeadsBy [] w v → Leads w v
+  pub by_any : (known : List FieldUnit) (w v : State S) → Leads w v → LeadsBy known w v
+  pub by_transitive : (known : List FieldUnit) (u v w : State S) → LeadsBy known u v → LeadsBy known v w → LeadsBy known u w
+  pub by_standing : (known : List FieldUnit) (w v : State S) (field : FieldUnit) → FieldUnitStands w.names.map field → LeadsBy (field ∷ known) w v → LeadsBy known w v
+  -- units of a field unit that is known are read and written, in an operation region that stood when it was located
   -- told: whether it is told how the region was located; then the parts of terms are evaluated as they mean
   pub told : Bool
-  pub region_accessed : (u w : State S) (region : OperationRegion) (space : AddressSpace) (s : S) → (stands : RegionStands u.names.map region) → (told ≡ true → IsLocated accesses u stands.path space) → ReachedWithin accesses region space w.space s → Leads u w
-      → Leads u (record w { space = s })
+  pub region_accessed : (known : List FieldUnit) (u w : State S) (field : FieldUnit) (region : OperationRegion) (space : AddressSpace) (s : S) → Contains known field → (stands : RegionStands u.names.map region) → LiesInRegion field.source stands.number
+      → (told ≡ true → IsLocated accesses u stands.path space) → ReachedWithin accesses field region space w.space s → LeadsBy known u w → LeadsBy known u (record w { space = s })
   -- in the wide profile a bridge is asked for the bus behind it
   pub bridge_asked : (u w : State S) (at : Place) (width : Width) → u.profile ≡ profiles.Wide → AsksBridge at width → Leads u w → Leads u (record w { space = (accesses.reads w.space at width).1 })
   -- a table tells how many arguments names take, and all mutexes are free after it
@@ -88,6 +98,51 @@ pub record WorldRelationOf {S : Type 0} (listed : Bool) (accesses : Accesses S) 
 
 abbrev pub WorldRelation : {S : Type 0} → Accesses S → Type 1
 WorldRelation accesses = WorldRelationOf true accesses
+
+-- one for which it is the same which field units are known
+pub record PlainRelationOf {S : Type 0} (listed : Bool) (accesses : Accesses S) : Type 1 where
+  pub Leads : State S → State S → Type 0
+  pub reflexive : (w : State S) → Leads w w
+  pub transitive : (u v w : State S) → Leads u v → Leads v w → Leads u w
+  pub objects_change : (w : State S) (h : Objects) → KeepsKinds w.objects h → Leads w (record w { objects = h })
+  pub name_declared : (w : State S) (q : List Seg) (o : NamedObject) → contains_key w.names.map q ≡ false → Leads w (record w { names = with_declaration q o w.names })
+  pub object_replaced : (w : State S) (q : List Seg) (o : NamedObject) (e : Entry) → get w.names.map q ≡ Some e → is_never_put o ≡ false → Leads w (record w { names = record w.names { map = insert w.names.map q (with_object o e) } })
+  pub slots_written : (w : State S) (frames : List Frame) → numbers_of frames ≡ numbers_of w.frames → Leads w (record w { frames = frames })
+  pub frame_closed : (w v : State S) (vs : List Value) → Leads (in_new_frame vs w) v → Leads w (closed v)
+  pub names_removed : (u w : State S) (q : List Seg) → MethodStandsAt u.names.map q → Leads u w → Leads u (record w { names = without_below q w.names })
+  pub told : Bool
+  pub region_accessed : (u w : State S) (field : FieldUnit) (region : OperationRegion) (space : AddressSpace) (s : S) → (stands : RegionStands u.names.map region) → (told ≡ true → IsLocated accesses u stands.path space) → ReachedWithin accesses field region space w.space s → Leads u w
+      → Leads u (record w { space = s })
+  pub bridge_asked : (u w : State S) (at : Place) (width : Width) → u.profile ≡ profiles.Wide → AsksBridge at width → Leads u w → Leads u (record w { space = (accesses.reads w.space at width).1 })
+  pub loads : Bool
+  pub arities_set : loads ≡ true → (w : State S) (list : List Arity) → Leads w (record w { arities = list })
+  pub mutexes_released : (w : State S) → Leads w (released w)
+  pub passed_noted : listed ≡ true → (u w : State S) (scope : List Seg) (e : Refusal) → u.profile ≡ profiles.Wide → is_passable e ≡ true → Leads u w → Leads u (with_passed scope e w)
+
+abbrev pub plain : {S : Type 0} {listed : Bool} {accesses : Accesses S} → PlainRelationOf listed accesses → WorldRelationOf listed accesses
+plain relation = record {
+  Leads = relation.Leads;
+  reflexive = relation.reflexive;
+  transitive = relation.transitive;
+  objects_change = relation.objects_change;
+  name_declared = relation.name_declared;
+  object_replaced = relation.object_replaced;
+  slots_written = relation.slots_written;
+  frame_closed = relation.frame_closed;
+  names_removed = relation.names_removed;
+  LeadsBy = λ known. relation.Leads;
+  by_none = λ w v h. h;
+  by_any = λ known w v h. h;
+  by_transitive = λ known. relation.transitive;
+  by_standing = λ known w v field stands h. h;
+  told = relation.told;
+  region_accessed = λ known u w field region space s is stands lies at. relation.region_accessed u w field region space s stands at;
+  bridge_asked = relation.bridge_asked;
+  loads = relation.loads;
+  arities_set = relation.arities_set;
+  mutexes_released = relation.mutexes_released;
+  passed_noted = relation.passed_noted;
+}
 
 -- relations by how many control methods are being called: what evaluations in the body of a control method respect is respected everywhere
 pub record Levels {S : Type 0} (accesses : Accesses S) : Type 1 where
@@ -107,6 +162,11 @@ always relation = record {
     slots_written = relation.slots_written;
     frame_closed = relation.frame_closed;
     names_removed = relation.names_removed;
+    LeadsBy = relation.LeadsBy;
+    by_none = relation.by_none;
+    by_any = relation.by_any;
+    by_transitive = relation.by_transitive;
+    by_standing = relation.by_standing;
     told = relation.told;
     region_accessed = relation.region_accessed;
     bridge_asked = relation.bridge_asked;
@@ -137,13 +197,34 @@ pub record PartsLead {S : Type 0} {accesses : Accesses S} (levels : Levels acces
   pub part : (t : Task) → RunPreserves (levels.at t.depth) (ev t)
   pub as_meant : (level : ℕ) → (levels.at level).told ≡ true → IsAsMeant accesses ev
 
--- as a relation of worlds with the steps that are left
-abbrev pub run_preorder : {S : Type 0} {listed : Bool} {accesses : Accesses S} → WorldRelationOf listed accesses → Preorder (State S × ℕ)
-run_preorder relation = record { Leads = λ s t. relation.Leads s.0 t.0; reflexive = λ s. relation.reflexive s.0; transitive = λ s t u. relation.transitive s.0 t.0 u.0 }
+-- an evaluation that does where some field units are known, and that as a preorder
+pub record RunPreservesBy {S A : Type 0} {listed : Bool} {accesses : Accesses S} (relation : WorldRelationOf listed accesses) (known : List FieldUnit) (m : Run S A) : Type 0 where
+  pub preserves_by : (s : State S × ℕ) → relation.LeadsBy known s.0 (m s).1.0
 
--- what is called is a control method that stands
-abbrev pub CalledMethodStands : {S : Type 0} → State S → Invocation → Type 0
-CalledMethodStands w i = (q : List Seg) (body : List ℕ) → i ≡ invocation.Method q body → MethodStandsAt w.names.map q
+abbrev pub known_preorder : {S : Type 0} {listed : Bool} {accesses : Accesses S} → WorldRelationOf listed accesses → List FieldUnit → Preorder (State S × ℕ)
+known_preorder relation known = record {
+  Leads = λ s t. relation.LeadsBy known s.0 t.0;
+  reflexive = λ s. relation.by_any known s.0 s.0 (relation.reflexive s.0);
+  transitive = λ s t u. relation.by_transitive known s.0 t.0 u.0;
+}
+
+-- some field units stand
+abbrev pub FieldUnitsStand : Map → List FieldUnit → Type 0
+FieldUnitsStand names fields = All (FieldUnitStands names) fields
+
+-- the field unit that a field is, and the one that is invoked
+abbrev pub units_of_field : Field → List FieldUnit
+units_of_field (field.Unit u) = u ∷ []
+units_of_field (field.Buffer b) = []
+
+abbrev pub units_invoked : Invocation → List FieldUnit
+units_invoked (invocation.Field f) = units_of_field f
+units_invoked _ = []
+
+-- what is called is a control method that stands, or a field that does
+pub record CalledStands {S : Type 0} (w : State S) (i : Invocation) : Type 0 where
+  pub method : (q : List Seg) (body : List ℕ) → i ≡ invocation.Method q body → MethodStandsAt w.names.map q
+  pub fields : FieldUnitsStand w.names.map (units_invoked i)
 
 -- the names below a path may be removed from what the world has become
 abbrev pub MayRemoveBelow : {S : Type 0} {listed : Bool} {accesses : Accesses S} → WorldRelationOf listed accesses → State S → List Seg → Type 0
@@ -152,16 +233,16 @@ MayRemoveBelow {S = S} relation u q = (v : State S) → relation.Leads u v → r
 -- a change that finds what is called, and changes nothing
 pub record FindsInvocation {S : Type 0} (m : Change (State S) Invocation) : Type 0 where
   pub same : (w : State S) → (m w).1 ≡ w
-  pub called : (w : State S) (i : Invocation) → (m w).0 ≡ Ok i → CalledMethodStands w i
+  pub called : (w : State S) (i : Invocation) → (m w).0 ≡ Ok i → CalledStands w i
 
 go_on_unchanged : {S A : Type 0} (r : Outcome A) (w v : State S) (k : A → Change (State S) Invocation) → ((a : A) → FindsInvocation (k a)) → v ≡ w → (go_on r v k).1 ≡ w
 unfolding go_on
 go_on_unchanged (Ok a) w v k h e = rw ((h a).same v) e
 go_on_unchanged (Err x) w v k h e = e
 
-go_on_called : {S A : Type 0} (r : Outcome A) (w v : State S) (k : A → Change (State S) Invocation) → ((a : A) → FindsInvocation (k a)) → v ≡ w → (i : Invocation) → (go_on r v k).0 ≡ Ok i → CalledMethodStands w i
+go_on_called : {S A : Type 0} (r : Outcome A) (w v : State S) (k : A → Change (State S) Invocation) → ((a : A) → FindsInvocation (k a)) → v ≡ w → (i : Invocation) → (go_on r v k).0 ≡ Ok i → CalledStands w i
 unfolding go_on
-go_on_called (Ok a) w v k h e i is = subst (λ x. CalledMethodStands x i) e ((h a).called v i is)
+go_on_called (Ok a) w v k h e i is = subst (λ x. CalledStands x i) e ((h a).called v i is)
 go_on_called (Err x) w v k h e i is = absurd (cc is)
 
 pub then_finds_invocation : {S A : Type 0} (m : Change (State S) A) (k : A → Change (State S) Invocation) → ((w : State S) → (m w).1 ≡ w) → ((a : A) → FindsInvocation (k a)) → FindsInvocation (m >>= k)
@@ -177,7 +258,7 @@ declared_by_cases relation w true false true q o e f g is = relation.reflexive w
 declared_by_cases relation w true false false q o e f g is = relation.name_declared w q o is
 declared_by_cases relation w false c d q o e f g is = relation.reflexive w
 
-replaced_by_cases : {S : Type 0} {listed : Bool} {accesses : Accesses S} (relation : WorldRelationOf listed accesses) (w : State S) (q : List Seg) (o : NamedObject) (e : Option Entry) → get w.names.map q ≡ e → is_method_or_region o ≡ false → relation.Leads w (record w { names = (replaced_in q o w.names e).1 })
+replaced_by_cases : {S : Type 0} {listed : Bool} {accesses : Accesses S} (relation : WorldRelationOf listed accesses) (w : State S) (q : List Seg) (o : NamedObject) (e : Option Entry) → get w.names.map q ≡ e → is_never_put o ≡ false → relation.Leads w (record w { names = (replaced_in q o w.names e).1 })
 replaced_by_cases relation w q o None at is = relation.reflexive w
 replaced_by_cases relation w q o (Some e) at is = relation.object_replaced w q o e at is
 
@@ -219,8 +300,8 @@ module _ {S : Type 0} {listed : Bool} {accesses : Accesses S} {relation : WorldR
     preserves = λ w. declared_by_cases relation w (contains_key w.names.map (above q)) (contains_key w.names.map q) (w.names.next == 2 ^ 64 - 1) q o (refusal.Namespace Exists) (refusal.Evaluation ObjectLimit) (refusal.Namespace NotFound) refl;
   }
 
-  -- another object under a name, which is no control method and no operation region
-  pub replaced_preserves : (q : List Seg) (o : NamedObject) → is_method_or_region o ≡ false → Preserves relation (on_names (replaced q o))
+  -- another object under a name, which is no control method, no operation region and no field unit
+  pub replaced_preserves : (q : List Seg) (o : NamedObject) → is_never_put o ≡ false → Preserves relation (on_names (replaced q o))
   unfolding on_names replaced
   replaced_preserves q o is = record { preserves = λ w. replaced_by_cases relation w q o (get w.names.map q) refl is }
 
@@ -267,12 +348,6 @@ module _ {S : Type 0} {listed : Bool} {accesses : Accesses S} {relation : WorldR
   unfolding ◌>>=◌
   run_then_preserves m k h i = record { preserves = λ s. run_go_on_preserves s.0 (m s).0 (m s).1 k i (h.preserves s) }
 
-  pub preserves_respects : {A : Type 0} {m : Run S A} → RunPreserves relation m → Respects (run_preorder relation) m
-  preserves_respects h = record { respects = h.preserves }
-
-  pub respects_preserves : {A : Type 0} {m : Run S A} → Respects (run_preorder relation) m → RunPreserves relation m
-  respects_preserves h = record { preserves = h.respects }
-
   -- ---- with so many steps
 
   pub with_steps_preserves : {A : Type 0} (steps : ℕ) (m : Run S A) → RunPreserves relation m → Preserves relation (with_steps steps m)
@@ -311,7 +386,7 @@ module _ {S : Type 0} {listed : Bool} {accesses : Accesses S} {relation : WorldR
   found_invocation_by_cases u v n (Err x) k e h = subst (relation.Leads u) (sym e) (relation.reflexive u)
 
   -- what is found, and then called
-  pub found_then_preserves : {A : Type 0} (m : Change (State S) Invocation) (k : Invocation → Run S A) → FindsInvocation m → ((u : State S) (i : Invocation) → CalledMethodStands u i → RunPreservesFrom relation u (k i)) → RunPreserves relation (lift m >>= k)
+  pub found_then_preserves : {A : Type 0} (m : Change (State S) Invocation) (k : Invocation → Run S A) → FindsInvocation m → ((u : State S) (i : Invocation) → CalledStands u i → RunPreservesFrom relation u (k i)) → RunPreserves relation (lift m >>= k)
   unfolding lift ◌>>=◌
   found_then_preserves m k f h = record { preserves = λ s. found_invocation_by_cases s.0 (m s.0).1 s.1 (m s.0).0 k (f.same s.0) (λ i e. h s.0 i (f.called s.0 i e)) }
 

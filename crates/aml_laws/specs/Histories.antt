@@ -1,5 +1,6 @@
--- What becomes of the operation regions and of the register space in an evaluation, change by change (ACPI 6.5, 5.5.2.4).
-use Rattle.std.specs.Prelude.{◌≡◌, ◌⊎◌, ℕ, ◌+◌, ◌-◌, List, ◌++◌, length, take, Result, Some, false}
+-- What becomes of the operation regions, of the field units in them and of the register space in an evaluation, change by change (ACPI 6.5,
+-- 5.5.2.4 and 19.6: Field, IndexField, BankField).
+use Rattle.std.specs.Prelude.{◌≡◌, ◌⊎◌, ℕ, ◌+◌, ◌-◌, List, ◌∷◌, ◌++◌, length, take, Contains, Result, Some, false}
 use Rattle.std.specs.List.{All}
 use Rattle.std.specs.FinMap.{get, insert, contains_key}
 use Rattle.ar_space.specs.declared.refusal.SpaceFault.{SpaceFault}
@@ -9,7 +10,11 @@ use Rattle.ar_space.specs.Accesses.{Accesses}
 use Rattle.recorded_space.specs.declared.exchange.Exchange.{Exchange}
 use Rattle.recorded_space.specs.declared.exchange.Exchange.TheVariants.{Read, Write}
 use Rattle.aml_path.specs.declared.segment.Seg.{Seg}
+use Rattle.aml_objects.specs.declared.entry.Bank.{Bank}
 use Rattle.aml_objects.specs.declared.entry.Entry.{Entry}
+use Rattle.aml_objects.specs.declared.entry.FieldSource.{FieldSource}
+use Rattle.aml_objects.specs.declared.entry.FieldSource.TheVariants as sources
+use Rattle.aml_objects.specs.declared.entry.FieldUnit.{FieldUnit}
 use Rattle.aml_objects.specs.declared.entry.NamedObject.{NamedObject}
 use Rattle.aml_objects.specs.declared.entry.NamedObject.TheVariants as object
 use Rattle.aml_objects.specs.declared.entry.OperationRegion.{OperationRegion}
@@ -18,7 +23,7 @@ use Rattle.aml_meaning.specs.declared.profile.Profile.{Profile}
 use Rattle.aml_meaning.specs.declared.profile.Profile.TheVariants as profiles
 use Rattle.aml_meaning.specs.State.{State}
 use Rattle.aml_laws.specs.Noted.{WithNotes}
-use Rattle.aml_laws.specs.RegionAccesses.{LiesWithin, AsksBridge}
+use Rattle.aml_laws.specs.RegionAccesses.{LiesWithin, ReachesUnit, AsksBridge}
 use Rattle.aml_laws.specs.RegionFunctions.{IsAtFunction}
 
 -- what was declared under a number
@@ -38,38 +43,64 @@ pub record RegionStands (names : Map) (region : OperationRegion) : Type 0 where
   pub number : ℕ
   pub there : RegionAt names path number region
 
+-- a field unit stands at a path, under the number of its declaration
+abbrev pub FieldUnitAt : Map → List Seg → ℕ → FieldUnit → Type 0
+FieldUnitAt names path number field = get names path ≡ Some (numbered_entry number (object.FieldUnit field))
+
+pub record FieldUnitStands (names : Map) (field : FieldUnit) : Type 0 where
+  pub path : List Seg
+  pub number : ℕ
+  pub there : FieldUnitAt names path number field
+
+-- A field unit lies in the operation region with a number: by a Field, or in one of its banks by a BankField. One of an IndexField lies in
+-- none: its index field and its data field are accessed, which do.
+pub data LiesInRegion : FieldSource → ℕ → Type 0 where
+  by_field : (n : ℕ) → LiesInRegion (sources.Region n) n
+  by_bank_field : (n : ℕ) (bank : Bank) → LiesInRegion (sources.Bank n bank) n
+
+-- an access of a unit of a field unit in a region that stands, and within that region
+pub record IsOfField (names : Map) (field : FieldUnit) (region : OperationRegion) (stands : RegionStands names region) (at : Place) (width : Width) : Type 0 where
+  pub lies : LiesInRegion field.source stands.number
+  pub reaches : ReachesUnit field region at width
+  pub within : LiesWithin region at width
+
 -- the scope that something at a path stands in: all segments of the path but the last
 abbrev pub scope_of : List Seg → List Seg
 scope_of path = take (length path - 1) path
 
--- whatever else changes: no register is accessed, no number is taken, the profile stays, and each operation region stood before, at its
--- path and under its number
+-- whatever else changes: no register is accessed, no number is taken, the profile stays, and each operation region and each field unit
+-- stood before, at its path and under its number
 pub record NothingNew {S : Type 0} (before after : State S) : Type 0 where
   pub space : after.space ≡ before.space
   pub next : after.names.next ≡ before.names.next
   pub profile : after.profile ≡ before.profile
   pub regions : (path : List Seg) (number : ℕ) (region : OperationRegion) → RegionAt after.names.map path number region
       → RegionAt before.names.map path number region
+  pub fields : (path : List Seg) (number : ℕ) (field : FieldUnit) → FieldUnitAt after.names.map path number field
+      → FieldUnitAt before.names.map path number field
 
--- From a world to another one, change by change. A name is declared where none stands, and takes the next number. A register is accessed
--- within an operation region that stood in one of the worlds before the access, and in PCI_Config at the function whose address the
--- region's scope has in that very world: behind the world in which a region is located, the objects of a PCI address are asked. In the wide
--- profile alone a byte of a PCI-to-PCI bridge is read that no operation region need hold.
-pub data History {S : Type 0} (accesses : Accesses S) : State S → State S → Type 0 where
-  same : (w : State S) → History accesses w w
-  changed : (w u v : State S) → History accesses w u → NothingNew u v → History accesses w v
-  declared : (w u : State S) (path : List Seg) (o : NamedObject) → History accesses w u → contains_key u.names.map path ≡ false
-      → History accesses w (record u { names = with_declaration path o u.names })
-  read : (w located u : State S) (region : OperationRegion) (at : Place) (width : Width) → History accesses w located
-      → (stands : RegionStands located.names.map region) → History accesses located u → LiesWithin region at width
+-- From a world to another one, change by change, where some field units are known: of these alone registers are accessed. One that stands in
+-- a world is known from there on. A name is declared where none stands, and takes the next number. A register is accessed as a unit of a
+-- field unit that is known, within the operation region that it lies in, which stood in one of the worlds before the access; in PCI_Config it
+-- is one of the function whose address the region's scope has in that very world: behind the world in which a region is located, the objects
+-- of a PCI address are asked. In the wide profile alone a byte of a PCI-to-PCI bridge is read that no operation region need hold.
+pub data History {S : Type 0} (accesses : Accesses S) : List FieldUnit → State S → State S → Type 0 where
+  same : (known : List FieldUnit) (w : State S) → History accesses known w w
+  changed : (known : List FieldUnit) (w u v : State S) → History accesses known w u → NothingNew u v → History accesses known w v
+  declared : (known : List FieldUnit) (w u : State S) (path : List Seg) (o : NamedObject) → History accesses known w u → contains_key u.names.map path ≡ false
+      → History accesses known w (record u { names = with_declaration path o u.names })
+  field_stands : (known : List FieldUnit) (w u v : State S) (field : FieldUnit) → History accesses known w u → FieldUnitStands u.names.map field → History accesses (field ∷ known) u v
+      → History accesses known w v
+  read : (known : List FieldUnit) (w located u : State S) (field : FieldUnit) (region : OperationRegion) (at : Place) (width : Width) → Contains known field → History accesses known w located
+      → (stands : RegionStands located.names.map region) → History accesses known located u → IsOfField located.names.map field region stands at width
       → IsAtFunction accesses located (scope_of stands.path) at
-      → History accesses w (record u { space = (accesses.reads u.space at width).1 })
-  written : (w located u : State S) (region : OperationRegion) (at : Place) (width : Width) (value : ℕ) → History accesses w located
-      → (stands : RegionStands located.names.map region) → History accesses located u → LiesWithin region at width
+      → History accesses known w (record u { space = (accesses.reads u.space at width).1 })
+  written : (known : List FieldUnit) (w located u : State S) (field : FieldUnit) (region : OperationRegion) (at : Place) (width : Width) (value : ℕ) → Contains known field → History accesses known w located
+      → (stands : RegionStands located.names.map region) → History accesses known located u → IsOfField located.names.map field region stands at width
       → IsAtFunction accesses located (scope_of stands.path) at
-      → History accesses w (record u { space = (accesses.writes u.space at width value).1 })
-  bridge_asked : (w u : State S) (at : Place) (width : Width) → History accesses w u → u.profile ≡ profiles.Wide → AsksBridge at width
-      → History accesses w (record u { space = (accesses.reads u.space at width).1 })
+      → History accesses known w (record u { space = (accesses.writes u.space at width value).1 })
+  bridge_asked : (known : List FieldUnit) (w u : State S) (at : Place) (width : Width) → History accesses known w u → u.profile ≡ profiles.Wide → AsksBridge at width
+      → History accesses known w (record u { space = (accesses.reads u.space at width).1 })
 
 -- ---- what notes tell of it
 
@@ -81,17 +112,19 @@ abbrev pub width_of : Exchange → Width
 width_of (Read at width answer) = width
 width_of (Write at width value answer) = width
 
--- an access lies wholly within an operation region that stands
+-- an access of a unit of a field unit that stands, within the operation region that it lies in, which stands too
 pub record IsDeclared (names : Map) (access : Exchange) : Type 0 where
+  pub field : FieldUnit
+  pub field_stands : FieldUnitStands names field
   pub region : OperationRegion
   pub stands : RegionStands names region
-  pub within : LiesWithin region (place_of access) (width_of access)
+  pub is_of : IsOfField names field region stands (place_of access) (width_of access)
 
 -- a read that asks a bridge
 pub data IsBridgeRead : Exchange → Type 0 where
   asks : (at : Place) (width : Width) (answer : Result ℕ SpaceFault) → AsksBridge at width → IsBridgeRead (Read at width answer)
 
--- what an access is: in the core profile it lies within an operation region that stands; in the wide one it may ask a bridge instead
+-- what an access is: in the core profile one of a field unit that stands, within its region; in the wide one it may ask a bridge instead
 abbrev pub IsExplained : Profile → Map → Exchange → Type 0
 IsExplained profiles.Core names access = IsDeclared names access
 IsExplained profiles.Wide names access = IsDeclared names access ⊎ IsBridgeRead access

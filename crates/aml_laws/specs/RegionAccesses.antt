@@ -1,13 +1,16 @@
--- Accesses that lie within an operation region (ACPI 6.5, 5.5.2.4), and reads that ask a PCI-to-PCI bridge for the bus behind it.
-use Rattle.std.specs.Prelude.{◌≡◌, ◌≤◌, ◌+◌, ℕ}
+-- Accesses that lie within an operation region, and those of a unit of a field in it (ACPI 6.5, 5.5.2.4 and 19.6.46), and reads that ask a PCI-to-PCI bridge for the bus behind it.
+use Rattle.std.specs.Prelude.{◌≡◌, ◌≤◌, ◌+◌, ℕ, Contains}
 use Rattle.ar_space.specs.declared.space.Width.{Width}
 use Rattle.ar_space.specs.declared.space.Width.TheVariants.{W8}
 use Rattle.ar_space.specs.declared.space.Place.{Place}
 use Rattle.ar_space.specs.declared.space.Place.TheVariants as place
 use Rattle.ar_space.specs.Accesses.{Accesses, byte_count}
+use Rattle.aml_objects.specs.declared.entry.FieldUnit.{FieldUnit}
 use Rattle.aml_objects.specs.declared.entry.OperationRegion.{OperationRegion}
+use Rattle.aml_fields.specs.declared.field_units.Unit.{Unit as Access}
 use Rattle.aml_fields.specs.declared.region.AddressSpace.{AddressSpace}
 use Rattle.aml_fields.specs.declared.region.AddressSpace.TheVariants as spaces
+use Rattle.aml_fields.specs.Units.{units_of}
 
 -- the address space of a place, as AML numbers it, and the address, port or register there
 abbrev pub space_of : Place → ℕ
@@ -26,6 +29,13 @@ pub record LiesWithin (region : OperationRegion) (at : Place) (width : Width) : 
   pub begins : region.offset ≤ address_of at
   pub ends : address_of at + byte_count width ≤ region.offset + region.length
 
+-- it is one of a unit of a field: at the unit's offset in the region, and as wide as the field's accesses are
+pub record ReachesUnit (field : FieldUnit) (region : OperationRegion) (at : Place) (width : Width) : Type 0 where
+  pub unit : Access
+  pub is_one : Contains (units_of field.bit_offset field.bits field.access) unit
+  pub begins : address_of at ≡ region.offset + unit.offset
+  pub wide : width ≡ field.access
+
 -- a place is one of memory, of the ports, or of the registers of a PCI function
 pub data IsPlaceOf : AddressSpace → Place → Type 0 where
   is_address : (n : ℕ) → IsPlaceOf spaces.Memory (place.Memory n)
@@ -38,10 +48,10 @@ pub data AsksBridge : Place → Width → Type 0 where
   header_type : (seg bus dev func : ℕ) → AsksBridge (place.Pci seg bus dev func 14) W8
   secondary_bus : (seg bus dev func : ℕ) → AsksBridge (place.Pci seg bus dev func 25) W8
 
--- the space before, and what any number of reads and writes that lie within a region in an address space makes of it, one after another
-pub data ReachedWithin {S : Type 0} (accesses : Accesses S) (region : OperationRegion) (space : AddressSpace) (before : S) : S → Type 0 where
-  none : ReachedWithin accesses region space before before
-  read : (s : S) (at : Place) (width : Width) → LiesWithin region at width → IsPlaceOf space at → ReachedWithin accesses region space before s
-      → ReachedWithin accesses region space before (accesses.reads s at width).1
-  written : (s : S) (at : Place) (width : Width) (value : ℕ) → LiesWithin region at width → IsPlaceOf space at → ReachedWithin accesses region space before s
-      → ReachedWithin accesses region space before (accesses.writes s at width value).1
+-- the space before, and what any number of reads and writes of units of a field in a region make of it, one after another
+pub data ReachedWithin {S : Type 0} (accesses : Accesses S) (field : FieldUnit) (region : OperationRegion) (space : AddressSpace) (before : S) : S → Type 0 where
+  none : ReachedWithin accesses field region space before before
+  read : (s : S) (at : Place) (width : Width) → LiesWithin region at width → ReachesUnit field region at width → IsPlaceOf space at → ReachedWithin accesses field region space before s
+      → ReachedWithin accesses field region space before (accesses.reads s at width).1
+  written : (s : S) (at : Place) (width : Width) (value : ℕ) → LiesWithin region at width → ReachesUnit field region at width → IsPlaceOf space at → ReachedWithin accesses field region space before s
+      → ReachedWithin accesses field region space before (accesses.writes s at width value).1
