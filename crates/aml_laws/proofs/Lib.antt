@@ -97,6 +97,7 @@ pub mod EvaluationsPreserve
 pub mod EvaluationsTogether
 pub mod EventsBehind
 pub mod EventsCounted
+pub mod EventsGone
 pub mod EventsNamed
 pub mod EventsPreserve
 pub mod EventsTogether

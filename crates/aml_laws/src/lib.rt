@@ -135,6 +135,7 @@ pub use ends::an_object_that_is_no_control_method_answers_what_it_holds;
 pub use ends::the_end_of_a_call_takes_its_frame_and_names_away;
 pub use ends::the_first_argument_that_is_refused_refuses_the_call;
 pub use events::a_wait_takes_a_signal;
+pub use events::an_event_that_is_gone_takes_no_signal;
 pub use events::signals_are_counted_one_by_one;
 pub use events::signals_outlive_an_answer;
 pub use events::what_is_no_event_takes_no_signal;
