@@ -143,6 +143,7 @@ pub mod IndexedFields
 pub mod BankedFields
 pub mod IntegersAsked
 pub mod IntegersClaimed
+pub mod IntegersHandedIn
 pub mod IntegersInStrings
 pub mod IntegersOfAnswers
 pub mod IntegersOfContents

@@ -169,6 +169,7 @@ pub use handed::a_path_is_handed_in_as_a_reference_to_what_it_finds;
 pub use handed::a_reference_without_a_path_is_not_handed_in;
 pub use handed::arguments_are_handed_in_in_their_order;
 pub use handed::data_nests_at_most_64_deep;
+pub use handed::integers_are_handed_in_modulo_two_to_the_width;
 pub use handed::what_is_handed_in_is_handed_out_as_it_was;
 pub use handed::what_is_within_the_limits_is_handed_in;
 pub use index_fields::index_fields_are_accessed_unit_by_unit;
