@@ -173,6 +173,7 @@ pub mod OperandsStop
 pub mod OperatorLaws
 pub mod OperatorsComputed
 pub mod OsiAsked
+pub mod OsiCalled
 pub mod OsiKept
 pub mod PartsAsked
 pub mod PartsCounted

@@ -204,6 +204,7 @@ pub use names_in_packages::a_package_is_handed_out_with_what_its_names_find;
 pub use names_used::a_name_gives_what_it_holds;
 pub use names_used::a_name_that_is_not_found_is_refused;
 pub use names_used::evaluation_keeps_the_texts_that_osi_knows;
+pub use names_used::osi_answers_its_callers;
 pub use names_used::osi_is_called_as_control_methods_are;
 pub use names_used::osi_tells_of_known_texts;
 pub use notes::noting_changes_nothing;
