@@ -98,6 +98,7 @@ pub mod EvaluationsPreserve
 pub mod EvaluationsTogether
 pub mod EventsBehind
 pub mod EventsCounted
+pub mod EventsGone
 pub mod EventsNamed
 pub mod EventsPreserve
 pub mod EventsTogether
@@ -144,6 +145,7 @@ pub mod IndexedFields
 pub mod BankedFields
 pub mod IntegersAsked
 pub mod IntegersClaimed
+pub mod IntegersHandedIn
 pub mod IntegersInStrings
 pub mod IntegersOfAnswers
 pub mod IntegersOfContents
@@ -173,6 +175,7 @@ pub mod OperandsStop
 pub mod OperatorLaws
 pub mod OperatorsComputed
 pub mod OsiAsked
+pub mod OsiCalled
 pub mod OsiKept
 pub mod PartsAsked
 pub mod PartsCounted

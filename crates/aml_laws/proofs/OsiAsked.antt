@@ -56,7 +56,7 @@ among_by : (t : List ℕ) (ts : List (List ℕ)) (text : List ℕ) (b : Bool) �
 among_by t ts text true is others e = subst (λ u. IsAmong text (u ∷ ts)) (sym (same_so t text is)) (first ts)
 among_by t ts text false is others e = later t ts (others e)
 
-among_so : (texts : List (List ℕ)) (text : List ℕ) → is_known texts text ≡ true → IsAmong text texts
+pub among_so : (texts : List (List ℕ)) (text : List ℕ) → is_known texts text ≡ true → IsAmong text texts
 among_so [] text e = absurd (cc e)
 among_so (t ∷ ts) text e = among_by t ts text (same_text t text) refl (among_so ts text) e
 
@@ -72,7 +72,7 @@ known_so : (text : List ℕ) (texts : List (List ℕ)) → IsAmong text texts �
 known_so text _ (first others) = first_known (same_text text text) (is_known others text) (same_itself text)
 known_so text _ (later other others h) = later_known (same_text other text) (is_known others text) (known_so text others h)
 
-not_among : (texts : List (List ℕ)) (text : List ℕ) → is_known texts text ≡ false → IsAmong text texts → ⊥
+pub not_among : (texts : List (List ℕ)) (text : List ℕ) → is_known texts text ≡ false → IsAmong text texts → ⊥
 not_among texts text e h = let both : true ≡ false = sym (known_so text texts h) ∙ e in absurd (cc both)
 
 module _ {S : Type 0} (accesses : Accesses S) (scope : List Seg) (depth : ℕ) (n : Name) (x : Tree) (w : State S) (steps : ℕ) (text : List ℕ) (after : State S × ℕ) (h : AsksOsi accesses scope depth n x (w, steps) text after) where
@@ -91,7 +91,7 @@ buffer_refused width texts (Some (object.String bytes)) = refl
 buffer_refused width texts (Some (object.Buffer bytes)) = refl
 buffer_refused width texts (Some (object.Package elements)) = refl
 
-refused_by : (width : IntegerWidth) (texts : List (List ℕ)) (objects : List Object) (v : Value) → ((o : ℕ) → v ≡ value.String o → ⊥) → osi_answer width texts (content_in objects v) ≡ Err (refusal.Value WrongType)
+pub refused_by : (width : IntegerWidth) (texts : List (List ℕ)) (objects : List Object) (v : Value) → ((o : ℕ) → v ≡ value.String o → ⊥) → osi_answer width texts (content_in objects v) ≡ Err (refusal.Value WrongType)
 refused_by width texts objects value.Uninitialized h = refl
 refused_by width texts objects (value.Integer n) h = refl
 refused_by width texts objects (value.String o) h = absurd (h o refl)

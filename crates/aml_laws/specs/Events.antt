@@ -1,6 +1,6 @@
 -- What stands at the name of an event.
-use Rattle.std.specs.Prelude.{◌≡◌, ℕ, List}
-use Rattle.std.specs.FinMap.{insert}
+use Rattle.std.specs.Prelude.{◌≡◌, ℕ, List, Some}
+use Rattle.std.specs.FinMap.{get, insert}
 use Rattle.aml_path.specs.declared.segment.Seg.{Seg}
 use Rattle.aml_objects.specs.declared.entry.Entry.{Entry}
 use Rattle.aml_objects.specs.declared.entry.NamedObject.{NamedObject}
@@ -18,3 +18,7 @@ with_signals w path n count = record w { names = record w.names { map = insert w
 -- what a name stands for that is no event
 abbrev pub IsNoEvent : NamedObject → Type 0
 IsNoEvent o = (count : ℕ) → o ≡ object.Event count → ⊥
+
+-- no declaration that stands has this number, so what had it is gone
+abbrev pub NoneStands : {S : Type 0} → State S → ℕ → Type 0
+NoneStands w n = (path : List Seg) (e : Entry) → get w.names.map path ≡ Some e → e.number ≡ n → ⊥

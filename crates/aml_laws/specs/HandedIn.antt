@@ -1,11 +1,14 @@
--- Data that can be handed in, how many objects are made of it, how deep packages nest, and data with a path that leads nowhere.
-use Rattle.std.specs.Prelude.{◌≡◌, ◌≤◌, ◌+◌, ℕ, zero, suc, List, [], ◌∷◌, ◌++◌, length, Some, Ok, Err}
+-- Data that can be handed in, how many objects are made of it, how deep packages nest, data whose integers fit the
+-- width, and data with a path that leads nowhere.
+use Rattle.std.specs.Prelude.{◌≡◌, ◌≤◌, ◌+◌, ◌%◌, ◌^◌, ℕ, zero, suc, List, [], ◌∷◌, ◌++◌, length, Some, Ok, Err}
 use Rattle.std.specs.FinMap.{get}
+use Rattle.ar_space.specs.declared.integer_width.IntegerWidth.{IntegerWidth}
 use Rattle.ar_space.specs.declared.refusal.Refusal.{Refusal}
 use Rattle.aml_path.specs.declared.segment.Seg.{Seg}
 use Rattle.aml_objects.specs.declared.entry.Entry.{Entry}
 use Rattle.aml_namespace.specs.Namespace.{Map}
 use Rattle.aml_namespace.specs.Search.{found}
+use Rattle.aml_convert.specs.Integers.{bits_of}
 use Rattle.aml_meaning.specs.Given.{Given, Nothing, Integer, Text, Bytes, Package, Named, Reference, Givens, none, more, givens}
 use Rattle.aml_laws.specs.NamesFound.{LeadsTo}
 use Rattle.aml_laws.specs.NamesWritten.{from_root}
@@ -40,6 +43,21 @@ abbrev mutual
   pub AllHavePaths : Givens → Type 0
   AllHavePaths none = Unit {0}
   AllHavePaths (more g gs) = HasPaths g × AllHavePaths gs
+
+-- the same data, with each integer modulo two to the width, wherever in a package it stands
+abbrev mutual
+  pub with_integers_cut : IntegerWidth → Given → Given
+  with_integers_cut width Nothing = Nothing
+  with_integers_cut width (Integer n) = Integer (n % 2 ^ bits_of width)
+  with_integers_cut width (Text bytes) = Text bytes
+  with_integers_cut width (Bytes bytes) = Bytes bytes
+  with_integers_cut width (Package gs) = Package (all_with_integers_cut width gs)
+  with_integers_cut width (Named path) = Named path
+  with_integers_cut width Reference = Reference
+
+  pub all_with_integers_cut : IntegerWidth → Givens → Givens
+  all_with_integers_cut width none = none
+  all_with_integers_cut width (more g gs) = more (with_integers_cut width g) (all_with_integers_cut width gs)
 
 -- how many elements a package has
 abbrev pub many : Givens → ℕ

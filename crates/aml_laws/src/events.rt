@@ -1,24 +1,31 @@
 //! Events.
-ghost use Rattle.std.specs.Prelude.{◌≡◌, ◌<◌, ◌+◌, ◌-◌, ◌^◌, ℕ, List, length, Some, Ok, Err};
+ghost use Rattle.std.specs.Prelude.{◌≡◌, ◌<◌, ◌+◌, ◌-◌, ◌^◌, ℕ, suc, List, length, Some, Ok, Err};
 ghost use Rattle.std.specs.FinMap.{get};
 ghost use Rattle.ar_space.specs.declared.refusal.Refusal.{Refusal};
 ghost use Rattle.ar_space.specs.declared.refusal.Refusal.TheVariants as refusal;
-ghost use Rattle.ar_space.specs.declared.refusal.EvaluationFault.TheVariants.{ObjectLimit};
+ghost use Rattle.ar_space.specs.declared.refusal.EvaluationFault.TheVariants.{DeadReference, ObjectLimit};
 ghost use Rattle.ar_space.specs.declared.refusal.ValueFault.TheVariants.{WrongType};
 ghost use Rattle.ar_space.specs.Accesses.{Accesses};
 ghost use Rattle.aml_path.specs.declared.segment.Seg.{Seg};
+ghost use Rattle.aml_grammar.specs.Tree.{Tree, Part};
+ghost use Rattle.aml_grammar.specs.declared.opcode.Opcode.TheVariants as opcodes;
 ghost use Rattle.aml_namespace.specs.Numbering.{Numbered};
 ghost use Rattle.aml_objects.specs.declared.entry.Entry.{Entry};
 ghost use Rattle.aml_objects.specs.declared.value.Value.{Value};
 ghost use Rattle.aml_objects.specs.declared.value.Value.TheVariants.{Integer};
 ghost use Rattle.aml_convert.specs.Integers.{ones};
+ghost use Rattle.aml_meaning.specs.declared.profile.Profile.TheVariants as profiles;
+ghost use Rattle.aml_meaning.specs.declared.store_target.StoreTarget.{StoreTarget};
 ghost use Rattle.aml_meaning.specs.declared.term_kind.EventChange.TheVariants.{Signal, Reset};
 ghost use Rattle.aml_meaning.specs.Given.{Given};
 ghost use Rattle.aml_meaning.specs.State.{State};
 ghost use Rattle.aml_meaning.specs.Readings.{integer_in};
 ghost use Rattle.aml_meaning.specs.Events.{event_changed, waited};
 ghost use Rattle.aml_meaning.specs.Calling.{with_steps, table_run, loaded, answer_exported, answered};
-ghost use Rattle.aml_laws.specs.Events.{event_entry, with_signals, IsNoEvent};
+ghost use Rattle.aml_laws.specs.Events.{event_entry, with_signals, IsNoEvent, NoneStands};
+ghost use Rattle.aml_laws.specs.ObjectTerms.{on_target_with, Declared};
+ghost use Rattle.aml_laws.specs.OperatorTerms.{GivesValue, IsRefused};
+ghost use Rattle.aml_laws.specs.TargetsNamed.{NamesAt};
 
 /// A Wait takes what a Signal of the same event gave: it gives False, and the world is the one before both. Where its
 /// timeout doesn't convert to an integer it is refused for that, and leaves the signal. A Wait that leaves the count,
@@ -69,6 +76,24 @@ pub fn what_is_no_event_takes_no_signal<S>()
         IsNoEvent e.object → (event_changed Signal (Some e.number) w ≡ (Err (refusal.Value WrongType), w)) ×
         (event_changed Reset (Some e.number) w ≡ (Err (refusal.Value WrongType), w)) × ((timeout : Value) →
         waited (Some e.number) timeout w ≡ (Err (refusal.Value WrongType), w)) }
+{}
+
+/// An event whose declaration is gone can neither be signaled nor reset nor waited for: each of these is refused as
+/// `DeadReference`, whatever the timeout of the Wait is, and nothing changes (ACPI 6.5, 19.6: Reset, Signal, Wait). So
+/// a Wait is refused whose event stood when it was found, and goes while the timeout is evaluated, as where a control
+/// method that is called there takes it away; the world is the one that the timeout left. A Wait that takes what is
+/// gone for an event without signals is refused by this.
+pub fn an_event_that_is_gone_takes_no_signal<S>()
+    ensures gone { (w : State S) (number : ℕ) → NoneStands w number →
+        (event_changed Signal (Some number) w ≡ (Err (refusal.Evaluation DeadReference), w)) ×
+        (event_changed Reset (Some number) w ≡ (Err (refusal.Evaluation DeadReference), w)) × ((timeout : Value) →
+        waited (Some number) timeout w ≡ (Err (refusal.Evaluation DeadReference), w)) }
+    ensures meanwhile { (accesses : Accesses S) (scope : List Seg) (depth : ℕ) (p : Part) (t : StoreTarget)
+        (w : State S) (steps : ℕ) (between : State S × ℕ) → w.profile ≡ profiles.Wide →
+        NamesAt accesses scope depth (w, steps) p t between → (number : ℕ) → Declared between.0 t number → (x : Tree)
+        (timeout : Value) (after : State S × ℕ) → GivesValue accesses scope depth x between timeout after →
+        NoneStands after.0 number → IsRefused accesses scope depth (on_target_with opcodes.Wait p x) (w, suc steps)
+        (refusal.Evaluation DeadReference) after }
 {}
 
 /// Signals that no Wait took outlive the table or the answer in which they were given: where it ends, all mutexes are

@@ -1,5 +1,5 @@
 //! Data that is handed in and handed out again.
-ghost use Rattle.std.specs.Prelude.{◌≡◌, ◌≤◌, ◌++◌, ◌+◌, ◌%◌, [], ℕ, List, length, Some, Ok, Err};
+ghost use Rattle.std.specs.Prelude.{◌≡◌, ◌≤◌, ◌++◌, ◌+◌, ◌%◌, ◌^◌, [], ℕ, List, length, Some, Ok, Err};
 ghost use Rattle.std.specs.FinMap.{get};
 ghost use Rattle.ar_space.specs.Accesses.{Accesses};
 ghost use Rattle.ar_space.specs.declared.refusal.Refusal.{Refusal};
@@ -14,7 +14,8 @@ ghost use Rattle.aml_objects.specs.declared.value.Value.{Value};
 ghost use Rattle.aml_objects.specs.declared.value.Value.TheVariants as value;
 ghost use Rattle.aml_namespace.specs.Numbering.{Numbered};
 ghost use Rattle.aml_namespace.specs.Search.{found};
-ghost use Rattle.aml_meaning.specs.Given.{Given, Named, Reference};
+ghost use Rattle.aml_convert.specs.Integers.{bits_of};
+ghost use Rattle.aml_meaning.specs.Given.{Given, Integer, Named, Reference};
 ghost use Rattle.aml_meaning.specs.State.{State};
 ghost use Rattle.aml_meaning.specs.Importing.{imported};
 ghost use Rattle.aml_meaning.specs.Exporting.{exported};
@@ -23,7 +24,7 @@ ghost use Rattle.aml_meaning.specs.Invocations.{method_value};
 ghost use Rattle.aml_meaning.specs.Meaning.{meaning};
 ghost use Rattle.aml_laws.specs.CallTerms.{method_entry, HandedInTurn};
 ghost use Rattle.aml_laws.specs.HandedBack.{ComesBack, elements_of};
-ghost use Rattle.aml_laws.specs.HandedIn.{NestsWithin, HasPaths, MayBeHandedIn, BeginsWithLost};
+ghost use Rattle.aml_laws.specs.HandedIn.{NestsWithin, HasPaths, MayBeHandedIn, BeginsWithLost, with_integers_cut};
 ghost use Rattle.aml_laws.specs.NamesFound.{LeadsTo};
 ghost use Rattle.aml_laws.specs.NamesWritten.{from_root};
 
@@ -37,6 +38,15 @@ pub fn what_is_handed_in_is_handed_out_as_it_was<S>()
     ensures same { (accesses : Accesses S) (g : Given) (v : Value) (w after : State S) (steps rest : ℕ) →
         Numbered w.names → ComesBack w.width w.names.map g → imported g w ≡ (Ok v, after) →
         steps ≡ elements_of g + rest → exported accesses v (after, steps) ≡ (Ok g, (after, rest)) }
+{}
+
+/// An integer is handed in modulo two to the width of integers, and nothing changes: one that doesn't fit the width as
+/// its lowest bits. So is each integer in a package, however deep: any data is handed in as the same data in which the
+/// integers are taken so. An integer that doesn't fit and is handed in as 0 is refused by this.
+pub fn integers_are_handed_in_modulo_two_to_the_width<S>()
+    ensures alone { (w : State S) (n : ℕ) →
+        imported (Integer n) w ≡ (Ok (value.Integer (n % 2 ^ bits_of w.width)), w) }
+    ensures inside { (w : State S) (g : Given) → imported g w ≡ imported (with_integers_cut w.width g) w }
 {}
 
 /// What is within the limits is handed in: texts and bytes of at most 1,048,576 bytes, packages of at most 65,535

@@ -1,16 +1,17 @@
 //! Names, locals and arguments where values stand.
-ghost use Rattle.std.specs.Prelude.{◌≡◌, ◌≤◌, ◌<◌, [], ℕ, suc, List, Ok, Err};
+ghost use Rattle.std.specs.Prelude.{◌≡◌, ◌≤◌, ◌<◌, ◌∷◌, [], ℕ, suc, List, length, slice_get, Some, Ok, Err};
 ghost use Rattle.ar_space.specs.Accesses.{Accesses};
 ghost use Rattle.ar_space.specs.declared.integer_width.IntegerWidth.{IntegerWidth};
 ghost use Rattle.ar_space.specs.declared.refusal.Refusal.{Refusal};
 ghost use Rattle.ar_space.specs.declared.refusal.Refusal.TheVariants as refusal;
-ghost use Rattle.ar_space.specs.declared.refusal.EvaluationFault.TheVariants.{CallDepth, DepthSetting, NoValue};
+ghost use Rattle.ar_space.specs.declared.refusal.EvaluationFault.TheVariants.{ArityChanged, CallDepth, DepthSetting, NoValue};
 ghost use Rattle.ar_space.specs.declared.refusal.ValueFault.TheVariants.{WrongType};
 ghost use Rattle.aml_path.specs.declared.segment.Seg.{Seg};
 ghost use Rattle.aml_path.specs.Paths.{Name};
 ghost use Rattle.aml_grammar.specs.Tree.{Tree};
 ghost use Rattle.aml_grammar.specs.declared.opcode.Opcode.{Opcode};
 ghost use Rattle.aml_objects.specs.declared.entry.Entry.{Entry};
+ghost use Rattle.aml_objects.specs.declared.object.Object.TheVariants as object;
 ghost use Rattle.aml_objects.specs.declared.value.Reference.TheVariants as reference;
 ghost use Rattle.aml_objects.specs.declared.value.Slot.{Slot};
 ghost use Rattle.aml_objects.specs.declared.value.Value.{Value};
@@ -18,12 +19,15 @@ ghost use Rattle.aml_objects.specs.declared.value.Value.TheVariants as value;
 ghost use Rattle.aml_namespace.specs.Search.{found};
 ghost use Rattle.aml_meaning.specs.declared.settings.EvaluationSettings.{EvaluationSettings};
 ghost use Rattle.aml_meaning.specs.Calling.{called, answered};
+ghost use Rattle.aml_meaning.specs.Given as given;
 ghost use Rattle.aml_meaning.specs.Given.{Given};
+ghost use Rattle.aml_meaning.specs.Importing.{imported};
 ghost use Rattle.aml_meaning.specs.Predefined.{fresh_as, predefined};
 ghost use Rattle.aml_meaning.specs.State.{State};
 ghost use Rattle.aml_laws.specs.Becomes.{Becomes};
 ghost use Rattle.aml_laws.specs.CallTerms.{call_of, IsNoMethod};
 ghost use Rattle.aml_laws.specs.Ends.{EndsAs};
+ghost use Rattle.aml_laws.specs.JoinedTerms.{with_object, Fits};
 ghost use Rattle.aml_laws.specs.NamesWritten.{from_root};
 ghost use Rattle.aml_laws.specs.StoredNames.{data_entry};
 ghost use Rattle.aml_laws.specs.StoredParts.{HoldsNothing};
@@ -66,6 +70,36 @@ pub fn osi_tells_of_known_texts<S>()
         (steps : ℕ) (v : Value) (after : State S × ℕ) → AsksOsiOf accesses scope depth n x (w, steps) v after →
         ((o : ℕ) → v ≡ value.String o → ⊥) → IsRefused accesses scope depth
         (call_of_one n x) (w, suc steps) (refusal.Value WrongType) after }
+{}
+
+/// Asked by a caller, whose path finds it itself or by an alias, the predefined control method \_OSI is True of a string
+/// whose text is one of those that its world knows, and else False: it takes no step and changes nothing. Of any other
+/// value, also of none, it is refused as one of the wrong type, and with more values than one, or without any, as
+/// `ArityChanged`. What it answers to a caller is so too, of a text that is handed in and of anything else, and the world
+/// is the one in which this was handed in. One that answers each caller False is refused by this.
+pub fn osi_answers_its_callers<S>()
+    ensures text { (accesses : Accesses S) (p : List Seg) (w : State S) (steps : ℕ) → FindsOsi w [] (from_root p) →
+        (o : ℕ) (text : List ℕ) → slice_get w.objects o ≡ Some (object.String text) →
+        (k : ℕ) × IsTruth w.width (IsAmong text w.osi) k ×
+        (called accesses p (value.String o ∷ []) (w, steps) ≡ (Ok (value.Integer k), (w, steps))) }
+    ensures no_string { (accesses : Accesses S) (p : List Seg) (w : State S) (steps : ℕ) →
+        FindsOsi w [] (from_root p) → (v : Value) → ((o : ℕ) → v ≡ value.String o → ⊥) →
+        called accesses p (v ∷ []) (w, steps) ≡ (Err (refusal.Value WrongType), (w, steps)) }
+    ensures other_number { (accesses : Accesses S) (p : List Seg) (w : State S) (steps : ℕ) →
+        FindsOsi w [] (from_root p) → (vs : List Value) → (length vs ≡ 1 → ⊥) →
+        called accesses p vs (w, steps) ≡ (Err (refusal.Evaluation ArityChanged), (w, steps)) }
+    ensures text_handed_in { (accesses : Accesses S) (p : List Seg) (w : State S) (steps : ℕ) →
+        FindsOsi w [] (from_root p) → (text : List ℕ) → Fits w text →
+        (k : ℕ) × IsTruth w.width (IsAmong text w.osi) k ×
+        EndsAs (Ok (given.Integer k), (with_object w (object.String text), steps))
+        (answered accesses p (given.Text text ∷ []) steps w) }
+    ensures no_text_handed_in { (accesses : Accesses S) (p : List Seg) (w : State S) (steps : ℕ) →
+        FindsOsi w [] (from_root p) → (g : Given) → ((text : List ℕ) → g ≡ given.Text text → ⊥) → (v : Value)
+        (after : State S) → imported g w ≡ (Ok v, after) → EndsAs (Err (refusal.Value WrongType), (after, steps))
+        (answered accesses p (g ∷ []) steps w) }
+    ensures other_number_handed_in { (accesses : Accesses S) (p : List Seg) (w : State S) (steps : ℕ) →
+        FindsOsi w [] (from_root p) → (gs : List Given) → (length gs ≡ 1 → ⊥) →
+        EndsAs (Err (refusal.Evaluation ArityChanged), (w, steps)) (answered accesses p gs steps w) }
 {}
 
 /// The texts that \_OSI knows are those that its world was made with: no evaluation changes them, however it ends. A
