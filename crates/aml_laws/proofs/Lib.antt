@@ -266,6 +266,7 @@ pub mod ScopesDeclared
 pub mod SignalsTaken
 pub mod SlotsPut
 pub mod SetDepths
+pub mod SettingsKept
 pub mod SpaceFaultsExplained
 pub mod SpaceFaultsNoted
 pub mod SpaceReached

@@ -1,5 +1,5 @@
 -- A chain of references is followed to its end where enough of them may be followed, and refused where it is longer.
-use Rattle.std.specs.Prelude.{◌≡◌, ◌≢◌, ◌≤◌, ◌<◌, ◌+◌, ◌-◌, ℕ, zero, suc, List, Bool, true, false, Some, Ok, Err, refl}
+use Rattle.std.specs.Prelude.{◌≡◌, ◌≢◌, ◌≤◌, ◌<◌, ◌+◌, ◌-◌, ℕ, zero, suc, List, Bool, true, false, Option, Some, None, Ok, Err, refl}
 use Rattle.std.specs.FinMap.{get}
 use Rattle.std.proofs.Common.{arith, ap, subst, sym, ◌∙◌}
 use Rattle.ar_space.specs.declared.refusal.Refusal.{Refusal}
@@ -19,6 +19,7 @@ use Rattle.aml_objects.specs.declared.entry.NamedObject.TheVariants as object
 use Rattle.aml_objects.specs.declared.value.Value.{Value}
 use Rattle.aml_objects.specs.declared.value.Value.TheVariants as value
 use Rattle.aml_objects.specs.declared.value.Slot.{Slot}
+use Rattle.aml_objects.specs.declared.value.Slot.TheVariants.{Local, Argument}
 use Rattle.aml_objects.specs.declared.value.Reference.{Reference}
 use Rattle.aml_objects.specs.declared.value.Reference.TheVariants as reference
 use Rattle.aml_meaning.specs.declared.store_target.Held.{Held}
@@ -31,8 +32,9 @@ use Rattle.aml_meaning.specs.declared.object_type.Referent.{Referent}
 use Rattle.aml_meaning.specs.declared.object_type.Referent.TheVariants as referent
 use Rattle.aml_meaning.specs.State.{State, on_objects}
 use Rattle.aml_meaning.specs.Readings.{entry_found}
-use Rattle.aml_meaning.specs.StoreTargets.{frame_found, slot_held, declaration, once, declared_once, value_once, slot_once, named_once, name_once, element_once, held_once, byte_once, dereferenced, referent_of, byte_followed, value_followed, referent_followed, declared_followed, slot_followed, element_named, name_followed, element_followed, held_followed, reference_followed, followed, own_slot, slot_referent, declared_referent, name_referent, target_referent}
-use Rattle.aml_meaning.specs.Stores.{store_in_frame, store_in_frame_numbered, store_at_reference, stored_through}
+use Rattle.aml_meaning.specs.Slots.{frame_index, slot_at}
+use Rattle.aml_meaning.specs.StoreTargets.{or_ended, frame_found, slot_held, declaration, once, declared_once, value_once, slot_once, named_once, name_once, element_once, held_once, byte_once, dereferenced, referent_of, byte_followed, value_followed, referent_followed, declared_followed, slot_followed, element_named, name_followed, element_followed, held_followed, reference_followed, followed, own_slot, slot_referent, declared_referent, name_referent, target_referent}
+use Rattle.aml_meaning.specs.Stores.{store_over_slot, store_in_frame, store_in_frame_numbered, store_at_reference, stored_through}
 use Rattle.aml_laws.specs.Limits.{is_reference, is_byte, HasType, of_scope, of_device, of_processor, of_power_resource, of_thermal_zone, of_method, of_region, of_field_unit, of_buffer_field, of_mutex, of_event, RefersLast, to_value, to_name, to_field, to_byte, Chain, last, next, IsLink, ArgumentChain, alone, link}
 
 -- what a byte gives is no reference
@@ -259,4 +261,50 @@ module _ {S : Type 0} (w : State S) (v : Value) where
   arguments_refused n (suc m) r end (alone _) less = absurd (omega arith)
   arguments_refused n (suc m) r end (link k _ q _ l c) less = one_on m r q l ∙ arguments_refused k m q end c (omega arith)
 
-pub ruleset at_most_64_references_are_followed = (chain_followed, chain_refused, name_followed_through, slot_followed_through, arguments_followed, arguments_refused)
+  -- ---- what is stored to at the end of such a chain doesn't depend on how references are followed
+
+  by_value : (f g : Reference → Value → Change (State S) Stored) (k i : ℕ) (h : Value) → ((q : Reference) → h ≡ value.Reference q → ⊥) → store_over_slot f k (Argument i) h v ≡ store_over_slot g k (Argument i) h v
+  by_value f g k i (value.Reference q) none = absurd (none q refl)
+  by_value f g k i value.Uninitialized none = refl
+  by_value f g k i (value.Integer n) none = refl
+  by_value f g k i (value.String o) none = refl
+  by_value f g k i (value.Buffer o) none = refl
+  by_value f g k i (value.Package o) none = refl
+
+  by_held : (f g : Reference → Value → Change (State S) Stored) (k i : ℕ) (h : Outcome Value) → ((q : Reference) → h ≡ Ok (value.Reference q) → ⊥)
+      → go_on h w (λ held. store_over_slot f k (Argument i) held v) ≡ go_on h w (λ held. store_over_slot g k (Argument i) held v)
+  unfolding go_on
+  by_held f g k i (Err e) none = refl
+  by_held f g k i (Ok h) none = ap (λ (m : Change (State S) Stored). m w) (by_value f g k i h (λ q is. none q (ap Ok is)))
+
+  in_frame : (f g : Reference → Value → Change (State S) Stored) (k i : ℕ) → ((q : Reference) → slot_at (Argument i) w.frames (Some k) ≡ Ok (value.Reference q) → ⊥)
+      → store_in_frame f k (Argument i) v w ≡ store_in_frame g k (Argument i) v w
+  unfolding store_in_frame slot_held ◌>>=◌
+  in_frame f g k i none = by_held f g k i (slot_at (Argument i) w.frames (Some k)) none
+
+  by_frame : (f g : Reference → Value → Change (State S) Stored) (n i : ℕ) (o : Option ℕ) → frame_index n w.frames ≡ o → ((q : Reference) → IsLink w (reference.Slot (Argument i) n) q → ⊥)
+      → go_on (or_ended o) w (λ k. store_in_frame f k (Argument i) v) ≡ go_on (or_ended o) w (λ k. store_in_frame g k (Argument i) v)
+  unfolding go_on
+  by_frame f g n i None is none = refl
+  by_frame f g n i (Some k) is none = in_frame f g k i (λ q holds. none q (record { argument = i; number = n; is = refl; frame = k; stands = is; holds = holds }))
+
+  no_link_alike : (f g : Reference → Value → Change (State S) Stored) (end : Reference) → ((q : Reference) → IsLink w end q → ⊥) → store_at_reference f end v w ≡ store_at_reference g end v w
+  unfolding store_in_frame_numbered store_in_frame frame_found ◌>>=◌
+  no_link_alike f g (reference.Name n) none = refl
+  no_link_alike f g (reference.Slot (Local i) n) none = refl
+  no_link_alike f g (reference.Slot (Argument i) n) none = by_frame f g n i (frame_index n w.frames) refl none
+  no_link_alike f g (reference.Element o i) none = refl
+  no_link_alike f g (reference.Byte o i) none = refl
+
+  last_alike : (m k : ℕ) (end : Reference) → ((q : Reference) → IsLink w end q → ⊥) → stored_through (suc m) end v w ≡ stored_through (suc k) end v w
+  unfolding stored_through
+  last_alike m k end none = no_link_alike (stored_through m) (stored_through k) end none
+
+  pub arguments_ended : (n : ℕ) (r end : Reference) → ArgumentChain w n r end → n ≤ 64 → ((q : Reference) → IsLink w end q → ⊥) → stored_through 64 r v w ≡ stored_through 64 end v w
+  arguments_ended n r end c le none =
+      arguments_followed n 64 r end c le
+      ∙ ap (λ k. stored_through k end v w) (omega (arith, le))
+      ∙ last_alike (64 - n) 63 end none
+      ∙ ap (λ k. stored_through k end v w) (omega arith)
+
+pub ruleset at_most_64_references_are_followed = (chain_followed, chain_refused, name_followed_through, slot_followed_through, arguments_ended, arguments_refused)

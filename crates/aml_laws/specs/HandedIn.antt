@@ -1,9 +1,12 @@
--- Data that can be handed in, how many objects are made of it, how deep packages nest, data whose integers fit the
--- width, and data with a path that leads nowhere.
-use Rattle.std.specs.Prelude.{◌≡◌, ◌≤◌, ◌+◌, ◌%◌, ◌^◌, ℕ, zero, suc, List, [], ◌∷◌, ◌++◌, length, Some, Ok, Err}
+-- Data that can be handed in, how many objects are made of it, how deep packages nest, data whose integers fit the width, and data with a
+-- part that can't be handed in.
+use Rattle.std.specs.Prelude.{◌≡◌, ◌≤◌, ◌<◌, ◌+◌, ◌%◌, ◌^◌, ℕ, zero, suc, List, [], ◌∷◌, ◌++◌, length, Some, Ok, Err}
 use Rattle.std.specs.FinMap.{get}
 use Rattle.ar_space.specs.declared.integer_width.IntegerWidth.{IntegerWidth}
 use Rattle.ar_space.specs.declared.refusal.Refusal.{Refusal}
+use Rattle.ar_space.specs.declared.refusal.Refusal.TheVariants as refusal
+use Rattle.ar_space.specs.declared.refusal.EvaluationFault.TheVariants.{ObjectLimit}
+use Rattle.ar_space.specs.declared.refusal.ValueFault.TheVariants.{WrongType}
 use Rattle.aml_path.specs.declared.segment.Seg.{Seg}
 use Rattle.aml_objects.specs.declared.entry.Entry.{Entry}
 use Rattle.aml_namespace.specs.Namespace.{Map}
@@ -82,9 +85,18 @@ mutual
     one_more : (deep count rest : ℕ) (g : Given) (gs : Givens) → MayBeHandedIn names deep count g
         → AllMayBeHandedIn names deep rest gs → AllMayBeHandedIn names deep (count + rest) (more g gs)
 
--- The first part of it that can't be handed in is the path of a name that isn't found, wherever in a package: what stands before it is
--- within the limits, and so many objects are made of that.
-pub data BeginsWithLost (names : Map) (e : Refusal) : ℕ → ℕ → Given → Type 0 where
-  lost : (deep : ℕ) (path : List Seg) → found names [] (from_root path) ≡ Err e → BeginsWithLost names e deep 0 (Named path)
+-- The first part of it, from left to right and however deep, that can't be handed in, and as what it is refused: the path of a name that
+-- isn't found, a reference without a path, a text or bytes that are too long, a package inside too many others, and one of too many elements,
+-- behind these. What stands before it is within the limits, and so many objects are made of that.
+pub data BeginsWithRefused (names : Map) (e : Refusal) : ℕ → ℕ → Given → Type 0 where
+  lost : (deep : ℕ) (path : List Seg) → found names [] (from_root path) ≡ Err e → BeginsWithRefused names e deep 0 (Named path)
+  without_path : (deep : ℕ) → e ≡ refusal.Value WrongType → BeginsWithRefused names e deep 0 Reference
+  long_text : (deep : ℕ) (bytes : List ℕ) → 1048576 < length bytes → e ≡ refusal.Evaluation ObjectLimit
+      → BeginsWithRefused names e deep 0 (Text bytes)
+  many_bytes : (deep : ℕ) (bytes : List ℕ) → 1048576 < length bytes → e ≡ refusal.Evaluation ObjectLimit
+      → BeginsWithRefused names e deep 0 (Bytes bytes)
+  too_deep : (gs : Givens) → e ≡ refusal.Evaluation ObjectLimit → BeginsWithRefused names e 0 0 (Package gs)
+  many_elements : (deep count : ℕ) (gs : Givens) → 65535 < many gs → AllMayBeHandedIn names deep count gs
+      → e ≡ refusal.Evaluation ObjectLimit → BeginsWithRefused names e (suc deep) count (Package gs)
   inside : (deep count rest : ℕ) (front others : List Given) (g : Given) → AllMayBeHandedIn names deep count (givens front)
-      → BeginsWithLost names e deep rest g → BeginsWithLost names e (suc deep) (count + rest) (Package (givens (front ++ g ∷ others)))
+      → BeginsWithRefused names e deep rest g → BeginsWithRefused names e (suc deep) (count + rest) (Package (givens (front ++ g ∷ others)))

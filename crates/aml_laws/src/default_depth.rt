@@ -1,5 +1,6 @@
 //! The default depth of calls and terms, and what a setting of fewer levels refuses.
-ghost use Rattle.std.specs.Prelude.{◌≡◌, ◌↔◌, ◌<◌, ◌≤◌, ℕ, List, [], Bool, false, Err};
+ghost use Rattle.std.specs.Prelude.{◌≡◌, ◌↔◌, ◌<◌, ◌≤◌, ℕ, List, [], Bool, false, Ok, Err};
+ghost use Rattle.ar_space.specs.declared.integer_width.IntegerWidth.{IntegerWidth};
 ghost use Rattle.ar_space.specs.declared.refusal.Refusal.TheVariants.{Term};
 ghost use Rattle.ar_space.specs.declared.refusal.TermFault.TheVariants.{TooDeep};
 ghost use Rattle.ar_space.specs.Accesses.{Accesses};
@@ -12,7 +13,23 @@ ghost use Rattle.aml_meaning.specs.Given.{Given};
 ghost use Rattle.aml_meaning.specs.Tasks.{Task};
 ghost use Rattle.aml_meaning.specs.Meaning.{meaning};
 ghost use Rattle.aml_meaning.specs.Calling.{loaded, evaluated, answered};
+ghost use Rattle.aml_meaning.specs.Predefined.{fresh, predefined};
+ghost use Rattle.aml_meaning.specs.Settings.{deepest, settings_of};
+ghost use Rattle.aml_meaning.specs.declared.profile.Profile.{Profile};
+ghost use Rattle.aml_meaning.specs.declared.profile.Profile.TheVariants.{Core};
 ghost use Rattle.aml_laws.specs.Deepened.{IsDepthSetting};
+
+/// By default a world allows 32 calls one inside another, and 64 levels of terms, in either profile; and a world that is
+/// made without settings is in the core profile. A default of fewer calls or levels, and a world that is in the wide
+/// profile unasked, are refused by this.
+pub fn the_default_is_the_core_profile_in_full_depth<S>()
+    ensures settings { (profile : Profile) → ((settings_of profile).profile ≡ profile) ×
+        (((settings_of profile).nesting.calls ≡ 32) × ((settings_of profile).nesting.levels ≡ 64)) }
+    ensures deepest { (deepest.calls ≡ 32) × (deepest.levels ≡ 64) }
+    ensures world { (width : IntegerWidth) (osi : List (List ℕ)) (space : S) (w : State S) →
+        predefined (fresh width osi space) ≡ (Ok tt, w) →
+        (w.profile ≡ Core) × ((w.nesting.calls ≡ 32) × (w.nesting.levels ≡ 64)) }
+{}
 
 /// Where 32 calls and 64 levels are allowed, as by default, or more, no evaluation is refused for the setting
 /// (`DepthSetting`): what is too deep then is deeper than it may ever be, and refused as that. A setting that refuses

@@ -24,7 +24,7 @@ ghost use Rattle.aml_meaning.specs.Invocations.{method_value};
 ghost use Rattle.aml_meaning.specs.Meaning.{meaning};
 ghost use Rattle.aml_laws.specs.CallTerms.{method_entry, HandedInTurn};
 ghost use Rattle.aml_laws.specs.HandedBack.{ComesBack, elements_of};
-ghost use Rattle.aml_laws.specs.HandedIn.{NestsWithin, HasPaths, MayBeHandedIn, BeginsWithLost, with_integers_cut};
+ghost use Rattle.aml_laws.specs.HandedIn.{NestsWithin, HasPaths, MayBeHandedIn, BeginsWithRefused, with_integers_cut};
 ghost use Rattle.aml_laws.specs.NamesFound.{LeadsTo};
 ghost use Rattle.aml_laws.specs.NamesWritten.{from_root};
 
@@ -98,8 +98,7 @@ pub fn arguments_are_handed_in_in_their_order<S>()
 {}
 
 /// The path of a name is handed in as a reference to that name, the path of an alias as one to what the alias leads to,
-/// and nothing changes. The path of a name that isn't found is refused as the search for it is, and so is a package of
-/// whose elements it is the first that can't be handed in, however deep it stands in packages; nothing changes. One
+/// and nothing changes. The path of a name that isn't found is refused as the search for it is, and nothing changes. One
 /// that is handed in as nothing, and the path of an alias that is a reference to the alias, are refused by this.
 pub fn a_path_is_handed_in_as_a_reference_to_what_it_finds<S>()
     ensures there { (w : State S) (path at : List Seg) (entry other : Entry) → get w.names.map path ≡ Some entry →
@@ -107,6 +106,15 @@ pub fn a_path_is_handed_in_as_a_reference_to_what_it_finds<S>()
         imported (Named path) w ≡ (Ok (value.Reference (reference.Name other.number)), w) }
     ensures nowhere { (w : State S) (path : List Seg) (e : Refusal) → found w.names.map [] (from_root path) ≡ Err e →
         imported (Named path) w ≡ (Err e, w) }
-    ensures inside { (w : State S) (count : ℕ) (g : Given) (e : Refusal) → BeginsWithLost w.names.map e 64 count g →
+{}
+
+/// What is handed in is refused by the first part of it that can't be handed in, from left to right and however deep it
+/// stands in packages: a text and bytes of more than 1,048,576 bytes, a package inside 64 others, and one of more than
+/// 65,535 elements, behind these, as too much; a reference without a path as one of the wrong type; and the path of a
+/// name that isn't found as the search for it is. Nothing changes, and there is room for the objects of what stands
+/// before that part. Another refusal for one of these, and a later part that decides, are refused by this.
+#[tactic(auto, using(crate::proofs::PathsHandedIn::refused_by_its_part))]
+pub fn the_first_part_that_cannot_be_handed_in_refuses_it<S>()
+    ensures { (w : State S) (count : ℕ) (g : Given) (e : Refusal) → BeginsWithRefused w.names.map e 64 count g →
         length w.objects + count ≤ 262144 → imported g w ≡ (Err e, w) }
 {}

@@ -1,5 +1,5 @@
 //! Limits.
-ghost use Rattle.std.specs.Prelude.{◌≡◌, ◌≤◌, ◌<◌, ◌+◌, ◌-◌, ◌++◌, ◌∷◌, [], ℕ, List, length, Some, Ok, Err};
+ghost use Rattle.std.specs.Prelude.{◌≡◌, ◌≤◌, ◌<◌, ◌+◌, ◌++◌, ◌∷◌, [], ℕ, List, length, Some, Ok, Err};
 ghost use Rattle.std.specs.FinMap.{get};
 ghost use Rattle.ar_space.specs.declared.refusal.Refusal.TheVariants.{Evaluation};
 ghost use Rattle.ar_space.specs.declared.refusal.EvaluationFault.TheVariants.{ObjectLimit, CallDepth, DepthSetting, DeadReference};
@@ -21,11 +21,11 @@ ghost use Rattle.aml_meaning.specs.State.{State};
 ghost use Rattle.aml_meaning.specs.Invocations.{invoked};
 ghost use Rattle.aml_meaning.specs.Meaning.{meaning};
 ghost use Rattle.aml_meaning.specs.StoreTargets.{own_slot, target_referent};
-ghost use Rattle.aml_meaning.specs.Stores.{copied_to, stored_through};
+ghost use Rattle.aml_meaning.specs.Stores.{copied_to};
 ghost use Rattle.aml_meaning.specs.Importing.{imported};
 ghost use Rattle.aml_meaning.specs.Exporting.{exported};
 ghost use Rattle.aml_laws.specs.Calls.{body_frame};
-ghost use Rattle.aml_laws.specs.Limits.{Chain, ArgumentChain, nested, IsNested};
+ghost use Rattle.aml_laws.specs.Limits.{Chain, ArgumentChain, IsLink, nested, IsNested};
 
 /// An object is refused from the 262,145th on, and not before (of strings, buffers and packages
 /// `no_object_is_made_behind_the_last` says so); strings and buffers of more than 1,048,576 bytes, packages of more
@@ -72,9 +72,10 @@ pub fn what_is_within_the_limits_is_taken<S>()
 /// A chain of at most 64 references is followed to its end, as SizeOf and ObjectType do, and answers what the last one
 /// refers to: a value, the type of a name that holds none, a field that a package names, or a byte. A longer chain is
 /// refused as a dead reference. Either changes nothing. A name or a slot that holds a reference stands for it. So it is
-/// with CopyObject through arguments that hold references: it goes to the last, from which as many more are followed
-/// as are left, and changes nothing where there are more than 64. An answer that is another name's type, or that stops
-/// at a reference on the way, is refused by this.
+/// with CopyObject through arguments that hold references: it goes to what the last one refers to, which is no argument
+/// that holds a reference, and does there what it does without the others; where there are more than 64 it changes
+/// nothing. An answer that is another name's type, or that stops at a reference on the way, and a store that fewer than
+/// 64 arguments refuse, are refused by this.
 #[tactic(auto, using(crate::proofs::ReferenceChains::at_most_64_references_are_followed))]
 pub fn at_most_64_references_are_followed<S>()
     ensures followed { (w : State S) (n : ℕ) (r : Reference) (x : Referent) → Chain w n r x → n ≤ 64 →
@@ -87,7 +88,8 @@ pub fn at_most_64_references_are_followed<S>()
     ensures slots { (w : State S) (slot : Slot) (r : Reference) → own_slot slot w ≡ (Ok (value.Reference r), w) →
         target_referent (targets.Slot slot) w ≡ target_referent (targets.Refers r) w }
     ensures stored { (w : State S) (v : Value) (n : ℕ) (r end : Reference) → ArgumentChain w n r end → n ≤ 64 →
-        copied_to (targets.Refers r) v w ≡ stored_through (64 + 1 - n) end v w }
+        ((q : Reference) → IsLink w end q → ⊥) →
+        copied_to (targets.Refers r) v w ≡ copied_to (targets.Refers end) v w }
     ensures not_stored { (w : State S) (v : Value) (n : ℕ) (r end : Reference) → ArgumentChain w n r end → 64 < n →
         copied_to (targets.Refers r) v w ≡ (Err (Evaluation DeadReference), w) }
 {}

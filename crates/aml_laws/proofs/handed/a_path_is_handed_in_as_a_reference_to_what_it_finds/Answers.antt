@@ -1,4 +1,4 @@
-use Rattle.aml_laws.proofs.PathsHandedIn.{path_refers, path_is_lost, lost_inside}
+use Rattle.aml_laws.proofs.PathsHandedIn.{path_refers, path_is_lost}
 use Rattle.aml_laws.proofs.handed.a_path_is_handed_in_as_a_reference_to_what_it_finds.Goals as goal
 
 pub returns-clause-there : goal.returns-clause-there
@@ -6,6 +6,3 @@ returns-clause-there g c = path_refers
 
 pub returns-clause-nowhere : goal.returns-clause-nowhere
 returns-clause-nowhere g c = path_is_lost
-
-pub returns-clause-inside : goal.returns-clause-inside
-returns-clause-inside g c = lost_inside
