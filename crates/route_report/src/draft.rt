@@ -6,7 +6,7 @@ ghost use Rattle.route_report.specs.Reading.{with_option, with_rule, with_give, 
 ghost use Rattle.route_report.specs.Reading.{claimed};
 ghost use Rattle.route_report.specs.Ordered.{barred_by};
 
-use crate::ordered::{barred, bound_in_order, gives_in_order, links_in_order, wired_in_order};
+use crate::ordered::{barred, bound_in_order, gives_in_order, in_order, links_in_order};
 use crate::report::Rule;
 use crate::version::Version;
 use crate::words::bad_line;
@@ -185,7 +185,7 @@ impl Draft {
     }
 
     /// The claim, each of its lists in order, of a report that has n - 1 lines.
-    #[tactic(auto, using(ar_space::proofs::Outcomes::answering), unfolding(crate::specs::Reading::claimed))]
+    #[tactic(auto, using(ar_space::proofs::Outcomes::answering, crate::proofs::Orders::wired_exact), unfolding(crate::specs::Reading::claimed))]
     pub(crate) fn claim(self, n: usize) -> Result<Claim>
         ensures { Answers result (claimed n self) }
     {
@@ -197,7 +197,7 @@ impl Draft {
         let avoid = barred_by(avoid, self.spared)?;
         Ok(Claim {
             links: links_in_order(self.links),
-            wired: wired_in_order(self.wired),
+            wired: in_order(self.wired),
             sci,
             avoid,
             gives: gives_in_order(self.gives),

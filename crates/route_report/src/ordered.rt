@@ -4,7 +4,7 @@ ghost use Rattle.std.specs.List.{dedup};
 ghost use Rattle.std.specs.FinMap.{IsAntisymmetric};
 ghost use Rattle.aml_path.specs.Paths.{path_cmp};
 ghost use Rattle.ar_space.specs.Outcome.{Answers, seen};
-ghost use Rattle.route_report.specs.Ordered.{in_order, barred, link_order, wired_order, give_order, bound_in_order};
+ghost use Rattle.route_report.specs.Ordered.{in_order, barred, link_order, give_order, bound_in_order};
 
 use aml_path::Path;
 use ar_space::Result;
@@ -13,7 +13,7 @@ use route_model::Link;
 use std::cmp::Ordering;
 
 /// A list in the order of its elements, of which none ties with another.
-fn in_order<T: Ord>(mut xs: Vec<T>) -> Vec<T>
+pub(crate) fn in_order<T: Ord>(mut xs: Vec<T>) -> Vec<T>
     requires { IsAntisymmetric T.cmp }
     ensures { result.items ≡ in_order T.cmp xs.items }
 {
@@ -45,13 +45,6 @@ pub(crate) fn links_in_order(mut links: Vec<Link>) -> Vec<Link>
 {
     links.sort_unstable_by(|one, other| link_order(one, other));
     links
-}
-
-/// Wired interrupts by their numbers.
-pub(crate) fn wired_in_order(wired: Vec<(u32, u32)>) -> Vec<(u32, u32)>
-    ensures { result.items ≡ in_order wired_order wired.items }
-{
-    in_order(wired)
 }
 
 /// Gives by their paths.
