@@ -21,6 +21,7 @@ pub mod ArgumentsReferring
 pub mod ArgumentsRefused
 pub mod AritiesKept
 pub mod AskedBridges
+pub mod AskedFromOutside
 pub mod BanksDeclared
 pub mod BanksSelected
 pub mod BeyondLimits

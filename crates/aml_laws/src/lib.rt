@@ -2,6 +2,7 @@
 #![tactic(auto)]
 
 mod arities;
+mod asked;
 mod bank_declarations;
 mod bank_fields;
 mod budgets;
@@ -79,6 +80,8 @@ pub use arities::a_path_takes_the_arguments_that_are_told_last;
 pub use arities::a_table_is_read_with_what_was_told_before_it;
 pub use arities::evaluation_keeps_the_arguments_that_are_told;
 pub use arities::the_list_of_a_scope_is_read_at_the_nearest_count;
+pub use asked::a_control_method_is_asked_with_as_many_arguments_as_it_takes;
+pub use asked::an_object_that_holds_no_value_answers_its_path;
 pub use bank_declarations::a_bank_field_is_declared_in_order;
 pub use bank_fields::a_bank_is_selected_before_each_unit;
 pub use bank_fields::a_bank_is_selected_by_a_write_of_its_field;
