@@ -232,6 +232,7 @@ pub mod OperandsTogether
 pub mod OrderedValues
 pub mod OutOfSteps
 pub mod OutsideOfMethods
+pub mod PackedBits
 pub mod PathsBelow
 pub mod PathsHandedIn
 pub mod PathsTaken
