@@ -17,7 +17,7 @@ use Rattle.aml_fields.proofs.UnitWrites.{extended_at}
 pub as_many_bits : (bytes : List ℕ) (offset count : ℕ) → length (field_bits bytes offset count) ≡ count
 as_many_bits bytes offset count = length_extended count (drop offset (bits_of bytes))
 
-of_source : (bytes : List ℕ) (offset count m : ℕ) → m < count → get_or (field_bits bytes offset count) m false ≡ get_or (bits_of bytes) (offset + m) false
+pub of_source : (bytes : List ℕ) (offset count m : ℕ) → m < count → get_or (field_bits bytes offset count) m false ≡ get_or (bits_of bytes) (offset + m) false
 of_source bytes offset count m less = extended_at count (drop offset (bits_of bytes)) m less ∙ get_or-drop offset (bits_of bytes) m false
 
 pub own_bit : (bytes : List ℕ) (offset count m b : ℕ) → m < count → slice_get bytes ((offset + m) / 8) ≡ Some b → get_or (field_bits bytes offset count) m false ≡ bit b ((offset + m) % 8)

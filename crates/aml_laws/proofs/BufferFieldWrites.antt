@@ -16,7 +16,7 @@ use Rattle.aml_fields.specs.BufferFields.{lies_within, still_within, with_field,
 use Rattle.aml_fields.proofs.BitLists.{length_of}
 use Rattle.aml_fields.proofs.BufferWrites.{lies}
 use Rattle.aml_fields.proofs.Putting.{length_extended}
-use Rattle.aml_fields.proofs.SpaceBits.{bits_again, length_put, put_before, put_behind}
+use Rattle.aml_fields.proofs.SpaceBits.{bits_again, length_put, put_before, put_inside, put_behind}
 
 -- ---- bits that are packed into bytes, and taken apart again
 
@@ -32,7 +32,7 @@ bits_of_more : (b : ℕ) (bytes : List ℕ) → bits_of (b ∷ bytes) ≡ bits_f
 unfolding bits_of
 bits_of_more b bytes = refl
 
-taken_apart : (n : ℕ) (bits : List Bool) → length bits ≡ 8 * n → bits_of (bytes_within n bits) ≡ bits
+pub taken_apart : (n : ℕ) (bits : List Bool) → length bits ≡ 8 * n → bits_of (bytes_within n bits) ≡ bits
 unfolding bytes_within
 taken_apart zero bits h = bits_of_none ∙ no_bits_left bits (omega (arith, h))
 taken_apart (suc n) bits h =
@@ -134,6 +134,12 @@ module _ (f : BufferField) (source bytes : List ℕ) (within : lies_within f.bit
   within_after : lies_within f.bit_offset f.bits (with_field f source bytes) ≡ true
   within_after = ap (λ n. nat_lt (f.bit_offset + f.bits) (2 ^ 64) && nat_le (f.bit_offset + f.bits) (8 * n)) long_after ∙ within
 
+  own_after : (k : ℕ) → k < f.bits → get_or (bits_of (with_field f source bytes)) (f.bit_offset + k) false ≡ get_or (field_bits source 0 f.bits) k false
+  own_after k less =
+      let m = many in
+      ap (λ bits. get_or bits (f.bit_offset + k) false) bits_after
+      ∙ put_inside f.bit_offset k (field_bits source 0 f.bits) (bits_of bytes) (omega (arith, m, less)) (let r = room in omega (arith, r))
+
   others_after : (k : ℕ) → (k < f.bit_offset) ⊎ (f.bit_offset + f.bits ≤ k) → get_or (bits_of (with_field f source bytes)) k false ≡ get_or (bits_of bytes) k false
   others_after k (inl before) = ap (λ bits. get_or bits k false) bits_after ∙ put_before f.bit_offset k (field_bits source 0 f.bits) (bits_of bytes) before (let r = room in omega (arith, r))
   others_after k (inr behind) = ap (λ bits. get_or bits k false) bits_after ∙ put_behind f.bit_offset k (field_bits source 0 f.bits) (bits_of bytes) (let m = many in omega (arith, m, behind)) room_for
@@ -174,6 +180,13 @@ keeps_other_bits f source h after before new k e at at_new outside =
     let w = written f source h after e in
     let is_new : with_field f source w.bytes ≡ new = cc (sym (buffer_after f source h after w) ∙ at_new) in
     ap (λ bytes. get_or (bits_of bytes) k false) (sym is_new) ∙ others_after f source w.bytes w.within k outside ∙ ap (λ bytes. get_or (bits_of bytes) k false) (bytes_are f source h after w before at)
+
+pub puts_bits : (f : BufferField) (source : List ℕ) (h after : Objects) (new : List ℕ) → write_buffer_field f source h ≡ (Ok tt, after) → slice_get after f.buffer ≡ Some (object.Buffer new) → (k : ℕ) → k < f.bits
+    → get_or (bits_of new) (f.bit_offset + k) false ≡ get_or (field_bits source 0 f.bits) k false
+puts_bits f source h after new e at k less =
+    let w = written f source h after e in
+    let is_new : with_field f source w.bytes ≡ new = cc (sym (stands_after f source h after w) ∙ at) in
+    ap (λ bytes. get_or (bits_of bytes) (f.bit_offset + k) false) (sym is_new) ∙ own_after f source w.bytes w.within k less
 
 pub keeps_other_objects : (f : BufferField) (source : List ℕ) (h after : Objects) (o : ℕ) → write_buffer_field f source h ≡ (Ok tt, after) → o ≢ f.buffer → slice_get after o ≡ slice_get h o
 keeps_other_objects f source h after o e ne =

@@ -22,6 +22,7 @@ pub mod ArgumentsReferring
 pub mod ArgumentsRefused
 pub mod AritiesKept
 pub mod AskedBridges
+pub mod AskedFromOutside
 pub mod BanksDeclared
 pub mod BanksSelected
 pub mod BeyondLimits
@@ -236,6 +237,7 @@ pub mod OperandsTogether
 pub mod OrderedValues
 pub mod OutOfSteps
 pub mod OutsideOfMethods
+pub mod PackedBits
 pub mod PathsBelow
 pub mod PathsHandedIn
 pub mod PathsTaken

@@ -66,6 +66,7 @@ pub mod OperandTerms
 pub mod OperatorTerms
 pub mod Ordered
 pub mod Outside
+pub mod PackedBits
 pub mod Parts
 pub mod PassedNotes
 pub mod PassedNumbers

@@ -2,6 +2,7 @@
 #![tactic(auto)]
 
 mod arities;
+mod asked;
 mod bank_declarations;
 mod bank_fields;
 mod budgets;
@@ -46,6 +47,7 @@ mod object_terms;
 mod objects;
 mod operands;
 mod operators;
+mod packed_bits;
 mod passing;
 mod pci_functions;
 mod predefined_names;
@@ -79,6 +81,8 @@ pub use arities::a_path_takes_the_arguments_that_are_told_last;
 pub use arities::a_table_is_read_with_what_was_told_before_it;
 pub use arities::evaluation_keeps_the_arguments_that_are_told;
 pub use arities::the_list_of_a_scope_is_read_at_the_nearest_count;
+pub use asked::a_control_method_is_asked_with_as_many_arguments_as_it_takes;
+pub use asked::an_object_that_holds_no_value_answers_its_path;
 pub use bank_declarations::a_bank_field_is_declared_in_order;
 pub use bank_fields::a_bank_is_selected_before_each_unit;
 pub use bank_fields::a_bank_is_selected_by_a_write_of_its_field;
@@ -230,6 +234,9 @@ pub use operators::bits_are_combined_one_by_one;
 pub use operators::set_bits_are_numbered_from_one;
 pub use operators::shifts_multiply_and_divide_by_powers_of_two;
 pub use operators::sums_differences_and_products_are_modulo_two_to_the_width;
+pub use packed_bits::a_field_is_read_in_as_many_bytes_as_its_bits_need;
+pub use packed_bits::a_field_is_written_with_the_bits_of_its_source;
+pub use packed_bits::a_field_of_few_bits_is_the_integer_of_its_bits;
 pub use passing::a_list_goes_on_behind_an_item_that_is_passed_over;
 pub use passing::control_methods_pass_nothing_over;
 pub use passing::no_list_is_refused_by_what_is_passed_over;
