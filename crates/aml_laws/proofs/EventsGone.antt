@@ -21,7 +21,7 @@ use Rattle.aml_meaning.specs.StoreTargets.{entry_declared}
 use Rattle.aml_meaning.specs.Events.{signals_under, event_changed, waited}
 use Rattle.aml_meaning.specs.WideTerms.{wait_rule}
 use Rattle.aml_meaning.specs.Meaning.{meaning}
-use Rattle.aml_laws.specs.Events.{NoneStands}
+use Rattle.aml_laws.specs.Events.{NoDeclarationHas}
 use Rattle.aml_laws.specs.ObjectTerms.{on_target_with, Declared}
 use Rattle.aml_laws.specs.OperatorTerms.{GivesValue, IsRefused}
 use Rattle.aml_laws.specs.TargetsNamed.{NamesAt}
@@ -29,7 +29,7 @@ use Rattle.aml_laws.proofs.EventsNamed.{declared_is}
 use Rattle.aml_laws.proofs.ObjectTermsDone.{wait_begins}
 use Rattle.aml_laws.proofs.TargetsActedOn.{named_at}
 
-module _ {S : Type 0} (w : State S) (n : ℕ) (gone : NoneStands w n) where
+module _ {S : Type 0} (w : State S) (n : ℕ) (gone : NoDeclarationHas w n) where
   dead_under : signals_under n w ≡ (Err (refusal.Evaluation DeadReference), w)
   unfolding signals_under entry_declared go_on ◌>>=◌
   dead_under = rw (numbered_none w.names.map n gone) refl
@@ -47,7 +47,7 @@ module _ {S : Type 0} (w : State S) (n : ℕ) (gone : NoneStands w n) where
   gone_refused = (dead_changed changes.Signal, dead_changed changes.Reset, dead_waited)
 
 module _ {S : Type 0} (accesses : Accesses S) (scope : List Seg) (depth : ℕ) (p : Part) (t : StoreTarget) (w : State S) (steps : ℕ) (between : State S × ℕ) (is_wide : w.profile ≡ profiles.Wide) (names : NamesAt accesses scope depth (w, steps) p t between) (n : ℕ) (declared : Declared between.0 t n)
-    (x : Tree) (timeout : Value) (after : State S × ℕ) (gives : GivesValue accesses scope depth x between timeout after) (gone : NoneStands after.0 n) where
+    (x : Tree) (timeout : Value) (after : State S × ℕ) (gives : GivesValue accesses scope depth x between timeout after) (gone : NoDeclarationHas after.0 n) where
   waited_so : wait_rule accesses (meaning accesses) scope depth (on_target_with opcodes.Wait p x) (w, steps) ≡ (Err (refusal.Evaluation DeadReference), after)
   unfolding wait_rule value_at operand_value settle lift give go_on ◌>>=◌
   waited_so = rw (named_at accesses scope depth (on_target_with opcodes.Wait p x) 0 w steps p t between refl names, declared_is between.0 t n declared, gives, dead_waited after.0 n gone timeout) refl

@@ -21,7 +21,7 @@ use Rattle.aml_meaning.specs.Given.{Given, Givens, Named, givens}
 use Rattle.aml_meaning.specs.State.{State, on_objects}
 use Rattle.aml_meaning.specs.Readings.{absolute, entry_found}
 use Rattle.aml_meaning.specs.Importing.{reference_to, imported_by, each_imported, elements_imported, package_imported, taken_back, imported}
-use Rattle.aml_laws.specs.HandedIn.{many, AllMayBeHandedIn, no_more, one_more, BeginsWithRefused, lost, without_path, long_text, many_bytes, too_deep, many_elements, inside}
+use Rattle.aml_laws.specs.HandedIn.{many, AllMayBeHandedIn, no_more, one_more, FirstRefusedPart, not_found, without_path, long_text, many_bytes, too_deep, many_elements, inside}
 use Rattle.aml_laws.specs.NamesFound.{LeadsTo}
 use Rattle.aml_laws.specs.NamesWritten.{from_root}
 use Rattle.aml_laws.proofs.HandedIn.{over, given_takes, all_take, absolute_resolved}
@@ -103,9 +103,9 @@ module _ {S : Type 0} (w : State S) where
       ap (λ (p : Outcome (List Element) × State S). (go_on p.0 p.1 (λ es. on_objects (make_package es))).0) taken.takes.is
       ∙ ap (λ (p : Outcome Value × Objects). p.0) (package_refused taken.takes.given (h ++ taken.takes.made) (omega (arith, as_many, long)))
 
-  refused_stops : (e : Refusal) (deep count : ℕ) (g : Given) (h : Objects) → BeginsWithRefused w.names.map e deep count g → length h + count ≤ 262144 → (imported_by (package_imported deep) g (over w h)).0 ≡ Err e
+  refused_stops : (e : Refusal) (deep count : ℕ) (g : Given) (h : Objects) → FirstRefusedPart w.names.map e deep count g → length h + count ≤ 262144 → (imported_by (package_imported deep) g (over w h)).0 ≡ Err e
   unfolding stop
-  refused_stops e deep _ _ h (lost _ path is) room = ap (λ (p : Outcome Value × State S). p.0) (refused_so h path e is)
+  refused_stops e deep _ _ h (not_found _ path is) room = ap (λ (p : Outcome Value × State S). p.0) (refused_so h path e is)
   refused_stops e deep _ _ h (without_path _ is) room = ap Err (sym is)
   refused_stops e deep _ _ h (long_text _ bytes long is) room = text_stops h bytes long ∙ ap Err (sym is)
   refused_stops e deep _ _ h (many_bytes _ bytes long is) room = bytes_stop h bytes long ∙ ap Err (sym is)
@@ -114,7 +114,7 @@ module _ {S : Type 0} (w : State S) where
   refused_stops e _ _ _ h (inside deep count rest front others g before is) room =
       package_stops deep e (givens (front ++ g ∷ others)) h (each_stops deep count rest e front others g [] h before (λ o within. refused_stops e deep rest g o is within) room)
 
-  pub refused_by_its_part : (count : ℕ) (g : Given) (e : Refusal) → BeginsWithRefused w.names.map e 64 count g → length w.objects + count ≤ 262144 → imported g w ≡ (Err e, w)
+  pub refused_by_its_part : (count : ℕ) (g : Given) (e : Refusal) → FirstRefusedPart w.names.map e 64 count g → length w.objects + count ≤ 262144 → imported g w ≡ (Err e, w)
   unfolding imported
   refused_by_its_part count g e is room = refused_is g e (taken_back (length w.objects) (imported_by (package_imported 64) g w)) refl (still_refused (length w.objects) (imported_by (package_imported 64) g w) e (refused_stops e 64 count g w.objects is room))
     where

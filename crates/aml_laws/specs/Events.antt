@@ -19,6 +19,6 @@ with_signals w path n count = record w { names = record w.names { map = insert w
 abbrev pub IsNoEvent : NamedObject → Type 0
 IsNoEvent o = (count : ℕ) → o ≡ object.Event count → ⊥
 
--- no declaration that stands has this number, so what had it is gone
-abbrev pub NoneStands : {S : Type 0} → State S → ℕ → Type 0
-NoneStands w n = (path : List Seg) (e : Entry) → get w.names.map path ≡ Some e → e.number ≡ n → ⊥
+-- no declaration has this number: the one that had it is gone, or none ever had it
+abbrev pub NoDeclarationHas : {S : Type 0} → State S → ℕ → Type 0
+NoDeclarationHas w n = (path : List Seg) (e : Entry) → get w.names.map path ≡ Some e → e.number ≡ n → ⊥

@@ -1,5 +1,5 @@
--- Data that can be handed in, how many objects are made of it, how deep packages nest, data whose integers fit the width, and data with a
--- part that can't be handed in.
+-- Data that can be handed in, how many objects are made of it, how deep packages nest, data with its integers cut to the width, and data
+-- with a part that can't be handed in.
 use Rattle.std.specs.Prelude.{◌≡◌, ◌≤◌, ◌<◌, ◌+◌, ◌%◌, ◌^◌, ℕ, zero, suc, List, [], ◌∷◌, ◌++◌, length, Some, Ok, Err}
 use Rattle.std.specs.FinMap.{get}
 use Rattle.ar_space.specs.declared.integer_width.IntegerWidth.{IntegerWidth}
@@ -47,7 +47,7 @@ abbrev mutual
   AllHavePaths none = Unit {0}
   AllHavePaths (more g gs) = HasPaths g × AllHavePaths gs
 
--- the same data, with each integer modulo two to the width, wherever in a package it stands
+-- the same data, with each integer n replaced by n mod 2^width, at any depth of packages
 abbrev mutual
   pub with_integers_cut : IntegerWidth → Given → Given
   with_integers_cut width Nothing = Nothing
@@ -85,18 +85,19 @@ mutual
     one_more : (deep count rest : ℕ) (g : Given) (gs : Givens) → MayBeHandedIn names deep count g
         → AllMayBeHandedIn names deep rest gs → AllMayBeHandedIn names deep (count + rest) (more g gs)
 
--- The first part of it, from left to right and however deep, that can't be handed in, and as what it is refused: the path of a name that
--- isn't found, a reference without a path, a text or bytes that are too long, a package inside too many others, and one of too many elements,
--- behind these. What stands before it is within the limits, and so many objects are made of that.
-pub data BeginsWithRefused (names : Map) (e : Refusal) : ℕ → ℕ → Given → Type 0 where
-  lost : (deep : ℕ) (path : List Seg) → found names [] (from_root path) ≡ Err e → BeginsWithRefused names e deep 0 (Named path)
-  without_path : (deep : ℕ) → e ≡ refusal.Value WrongType → BeginsWithRefused names e deep 0 Reference
+-- Data with a part that can't be handed in, the refusal of the first such part, and how many objects the parts before it need. Parts are
+-- taken from left to right, at any depth. Such a part is the path of a name that isn't found, a reference without a path, a text or bytes
+-- that are too long, a package inside too many others, or a package of too many elements, all of which can be handed in. The parts before
+-- it are within the limits.
+pub data FirstRefusedPart (names : Map) (e : Refusal) : ℕ → ℕ → Given → Type 0 where
+  not_found : (deep : ℕ) (path : List Seg) → found names [] (from_root path) ≡ Err e → FirstRefusedPart names e deep 0 (Named path)
+  without_path : (deep : ℕ) → e ≡ refusal.Value WrongType → FirstRefusedPart names e deep 0 Reference
   long_text : (deep : ℕ) (bytes : List ℕ) → 1048576 < length bytes → e ≡ refusal.Evaluation ObjectLimit
-      → BeginsWithRefused names e deep 0 (Text bytes)
+      → FirstRefusedPart names e deep 0 (Text bytes)
   many_bytes : (deep : ℕ) (bytes : List ℕ) → 1048576 < length bytes → e ≡ refusal.Evaluation ObjectLimit
-      → BeginsWithRefused names e deep 0 (Bytes bytes)
-  too_deep : (gs : Givens) → e ≡ refusal.Evaluation ObjectLimit → BeginsWithRefused names e 0 0 (Package gs)
+      → FirstRefusedPart names e deep 0 (Bytes bytes)
+  too_deep : (gs : Givens) → e ≡ refusal.Evaluation ObjectLimit → FirstRefusedPart names e 0 0 (Package gs)
   many_elements : (deep count : ℕ) (gs : Givens) → 65535 < many gs → AllMayBeHandedIn names deep count gs
-      → e ≡ refusal.Evaluation ObjectLimit → BeginsWithRefused names e (suc deep) count (Package gs)
+      → e ≡ refusal.Evaluation ObjectLimit → FirstRefusedPart names e (suc deep) count (Package gs)
   inside : (deep count rest : ℕ) (front others : List Given) (g : Given) → AllMayBeHandedIn names deep count (givens front)
-      → BeginsWithRefused names e deep rest g → BeginsWithRefused names e (suc deep) (count + rest) (Package (givens (front ++ g ∷ others)))
+      → FirstRefusedPart names e deep rest g → FirstRefusedPart names e (suc deep) (count + rest) (Package (givens (front ++ g ∷ others)))

@@ -52,13 +52,13 @@ pub record FieldUnitStands (names : Map) (field : FieldUnit) : Type 0 where
   pub number : ℕ
   pub there : FieldUnitAt names path number field
 
--- A field unit lies in the operation region with a number: by a Field, or in one of its banks by a BankField. One of an IndexField lies in
--- none: its index field and its data field are accessed, which do.
+-- A field unit of a Field or of a BankField lies in the operation region with this number. One of an IndexField lies in no region: its index
+-- field and its data field are accessed, and these lie in regions.
 pub data LiesInRegion : FieldSource → ℕ → Type 0 where
   by_field : (n : ℕ) → LiesInRegion (sources.Region n) n
   by_bank_field : (n : ℕ) (bank : Bank) → LiesInRegion (sources.Bank n bank) n
 
--- an access of a unit of a field unit in a region that stands, and within that region
+-- an access of a field unit: one of its units, in the region that it lies in, and wholly within that region
 pub record IsOfField (names : Map) (field : FieldUnit) (region : OperationRegion) (stands : RegionStands names region) (at : Place) (width : Width) : Type 0 where
   pub lies : LiesInRegion field.source stands.number
   pub reaches : ReachesUnit field region at width
@@ -68,8 +68,8 @@ pub record IsOfField (names : Map) (field : FieldUnit) (region : OperationRegion
 abbrev pub scope_of : List Seg → List Seg
 scope_of path = take (length path - 1) path
 
--- whatever else changes: no register is accessed, no number is taken, the profile stays, and each operation region and each field unit
--- stood before, at its path and under its number
+-- any other change: no register is accessed, no number is taken, the profile stays, and each operation region and each field unit stood
+-- before, at its path and under its number
 pub record NothingNew {S : Type 0} (before after : State S) : Type 0 where
   pub space : after.space ≡ before.space
   pub next : after.names.next ≡ before.names.next
@@ -79,11 +79,11 @@ pub record NothingNew {S : Type 0} (before after : State S) : Type 0 where
   pub fields : (path : List Seg) (number : ℕ) (field : FieldUnit) → FieldUnitAt after.names.map path number field
       → FieldUnitAt before.names.map path number field
 
--- From a world to another one, change by change, where some field units are known: of these alone registers are accessed. One that stands in
--- a world is known from there on. A name is declared where none stands, and takes the next number. A register is accessed as a unit of a
--- field unit that is known, within the operation region that it lies in, which stood in one of the worlds before the access; in PCI_Config it
--- is one of the function whose address the region's scope has in that very world: behind the world in which a region is located, the objects
--- of a PCI address are asked. In the wide profile alone a byte of a PCI-to-PCI bridge is read that no operation region need hold.
+-- The changes from one world to another, one by one. The list holds the field units that stood in a world so far; only their registers are
+-- accessed, and the law starts with an empty list. A field unit that stands in a world may join the list (`field_stands`). A name is declared
+-- where none stands, and takes the next number. An access is one of a listed field unit, within its operation region, which stood in an
+-- earlier world (`located`). In PCI_Config the access is at the function whose address the region's scope has in that world; the objects of
+-- that address are evaluated after it. In the wide profile, a byte of the header of a PCI-to-PCI bridge may be read that lies in no region.
 pub data History {S : Type 0} (accesses : Accesses S) : List FieldUnit → State S → State S → Type 0 where
   same : (known : List FieldUnit) (w : State S) → History accesses known w w
   changed : (known : List FieldUnit) (w u v : State S) → History accesses known w u → NothingNew u v → History accesses known w v

@@ -1,4 +1,5 @@
--- Accesses that lie within an operation region, and those of a unit of a field in it (ACPI 6.5, 5.5.2.4 and 19.6.46), and reads that ask a PCI-to-PCI bridge for the bus behind it.
+-- Accesses that lie within an operation region, accesses of a field's units in it (ACPI 6.5, 5.5.2.4 and 19.6: Field), and reads that ask a
+-- PCI-to-PCI bridge for the bus behind it.
 use Rattle.std.specs.Prelude.{◌≡◌, ◌≤◌, ◌+◌, ℕ, Contains}
 use Rattle.ar_space.specs.declared.space.Width.{Width}
 use Rattle.ar_space.specs.declared.space.Width.TheVariants.{W8}
@@ -29,7 +30,7 @@ pub record LiesWithin (region : OperationRegion) (at : Place) (width : Width) : 
   pub begins : region.offset ≤ address_of at
   pub ends : address_of at + byte_count width ≤ region.offset + region.length
 
--- it is one of a unit of a field: at the unit's offset in the region, and as wide as the field's accesses are
+-- an access is one of those of a field: at the offset of one of its units in the region, and of the field's width
 pub record ReachesUnit (field : FieldUnit) (region : OperationRegion) (at : Place) (width : Width) : Type 0 where
   pub unit : Access
   pub is_one : Contains (units_of field.bit_offset field.bits field.access) unit

@@ -1,4 +1,5 @@
-//! Objects that are asked from outside for their value and their answer.
+//! What a caller of the library gets of an object: its value (`evaluated`), which may refer to objects of the world, and
+//! its answer (`answered`), which is that value as data of its own.
 ghost use Rattle.std.specs.Prelude.{◌≡◌, ◌%◌, [], ℕ, List, length, Ok, Err};
 ghost use Rattle.ar_space.specs.Accesses.{Accesses};
 ghost use Rattle.ar_space.specs.declared.refusal.Refusal.TheVariants as refusal;
@@ -21,11 +22,12 @@ ghost use Rattle.aml_laws.specs.Ends.{EndsAs};
 ghost use Rattle.aml_laws.specs.NamesWritten.{from_root};
 ghost use Rattle.aml_laws.specs.StoredParts.{HoldsNothing};
 
-/// An object that holds neither a value nor the bits of a field and is no control method, as a device, a scope, the
-/// root or a mutex, is read as a name where it is asked from outside: its value is a reference to it, and what it
-/// answers is the path at which it stands, which is that of its target where an alias was asked. It takes no step and
-/// changes nothing. The numbers of declarations are apart, as they are in each world that evaluations make of the
-/// predefined names. A device that is refused as one of the wrong type is refused by this.
+/// An object that holds neither a value nor the bits of a field and is no control method, such as a device, a scope,
+/// the root or a mutex, stands for its name. Its value is a reference to it. Its answer to a caller is its path; where
+/// the caller asked for an alias, it is the path of the alias's target. No step is taken, and nothing changes, but the
+/// answer leaves all mutexes free. The clause of answers is about worlds in which no two declarations have the same
+/// number (`Numbered`), as in each world that evaluation makes of the predefined names. The law excludes a definition
+/// that refuses a device as one of the wrong type.
 pub fn an_object_that_holds_no_value_answers_its_path<S>()
     ensures value { (accesses : Accesses S) (p : List Seg) (w : State S) (steps : ℕ) (path : List Seg) (e : Entry) →
         found w.names.map [] (from_root p) ≡ Ok (path, e) → HoldsNothing e.object → IsNoMethod e.object →
@@ -36,10 +38,10 @@ pub fn an_object_that_holds_no_value_answers_its_path<S>()
         Numbered w.names → EndsAs (Ok (given.Named path), (w, steps)) (answered accesses p [] steps w) }
 {}
 
-/// A control method, with a body in AML or predefined, that is asked from outside with another number of arguments than
-/// bits 0 to 2 of its flags tell, is refused as `ArityChanged`: its value is, and so is its answer, before any argument
-/// is handed in (ACPI 6.5, 20.2.5.2). Nothing is evaluated, no step is taken, and nothing changes but that the answer
-/// leaves all mutexes free. A control method of two arguments that is evaluated with one is refused by this.
+/// A caller that gives a control method, predefined or with a body in AML, another number of arguments than bits 0 to 2
+/// of its flags say gets `ArityChanged`, for its value and for its answer (ACPI 6.5, 20.2.5.2). This comes before any
+/// argument is handed in. Nothing is evaluated, no step is taken, and nothing changes, but the answer leaves all
+/// mutexes free. The law excludes a definition that evaluates a control method of two arguments with one.
 pub fn a_control_method_is_asked_with_as_many_arguments_as_it_takes<S>()
     ensures value { (accesses : Accesses S) (p : List Seg) (w : State S) (steps : ℕ) (path : List Seg) (e : Entry)
         (m : Method) → found w.names.map [] (from_root p) ≡ Ok (path, e) → e.object ≡ named.Method m →

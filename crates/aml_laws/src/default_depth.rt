@@ -19,9 +19,9 @@ ghost use Rattle.aml_meaning.specs.declared.profile.Profile.{Profile};
 ghost use Rattle.aml_meaning.specs.declared.profile.Profile.TheVariants.{Core};
 ghost use Rattle.aml_laws.specs.Deepened.{IsDepthSetting};
 
-/// By default a world allows 32 calls one inside another, and 64 levels of terms, in either profile; and a world that is
-/// made without settings is in the core profile. A default of fewer calls or levels, and a world that is in the wide
-/// profile unasked, are refused by this.
+/// The default settings of either profile allow 32 nested calls and 64 nested levels of terms. A world that is made
+/// without settings is in the core profile and allows as many. A default of fewer calls or levels, and a wide profile
+/// that nobody chose, are refused by this.
 pub fn the_default_is_the_core_profile_in_full_depth<S>()
     ensures settings { (profile : Profile) → ((settings_of profile).profile ≡ profile) ×
         (((settings_of profile).nesting.calls ≡ 32) × ((settings_of profile).nesting.levels ≡ 64)) }

@@ -22,7 +22,7 @@ ghost use Rattle.aml_meaning.specs.State.{State};
 ghost use Rattle.aml_meaning.specs.Readings.{integer_in};
 ghost use Rattle.aml_meaning.specs.Events.{event_changed, waited};
 ghost use Rattle.aml_meaning.specs.Calling.{with_steps, table_run, loaded, answer_exported, answered};
-ghost use Rattle.aml_laws.specs.Events.{event_entry, with_signals, IsNoEvent, NoneStands};
+ghost use Rattle.aml_laws.specs.Events.{event_entry, with_signals, IsNoEvent, NoDeclarationHas};
 ghost use Rattle.aml_laws.specs.ObjectTerms.{on_target_with, Declared};
 ghost use Rattle.aml_laws.specs.OperatorTerms.{GivesValue, IsRefused};
 ghost use Rattle.aml_laws.specs.TargetsNamed.{NamesAt};
@@ -78,13 +78,13 @@ pub fn what_is_no_event_takes_no_signal<S>()
         waited (Some e.number) timeout w ≡ (Err (refusal.Value WrongType), w)) }
 {}
 
-/// An event whose declaration is gone can neither be signaled nor reset nor waited for: each of these is refused as
-/// `DeadReference`, whatever the timeout of the Wait is, and nothing changes (ACPI 6.5, 19.6: Reset, Signal, Wait). So
-/// a Wait is refused whose event stood when it was found, and goes while the timeout is evaluated, as where a control
-/// method that is called there takes it away; the world is the one that the timeout left. A Wait that takes what is
-/// gone for an event without signals is refused by this.
+/// An event whose declaration is gone can't be signaled, reset or waited for: Signal, Reset and Wait are refused as
+/// `DeadReference`, whatever the timeout of the Wait is, and nothing changes (ACPI 6.5, 19.6: Reset, Signal, Wait). In
+/// the wide profile this also holds of a Wait term that finds its event and loses it while the timeout is evaluated, for
+/// example by a call of a control method that removes it; the world is then the one that the timeout left. A Wait that
+/// treats an event that is gone as one without signals is refused by this.
 pub fn an_event_that_is_gone_takes_no_signal<S>()
-    ensures gone { (w : State S) (number : ℕ) → NoneStands w number →
+    ensures gone { (w : State S) (number : ℕ) → NoDeclarationHas w number →
         (event_changed Signal (Some number) w ≡ (Err (refusal.Evaluation DeadReference), w)) ×
         (event_changed Reset (Some number) w ≡ (Err (refusal.Evaluation DeadReference), w)) × ((timeout : Value) →
         waited (Some number) timeout w ≡ (Err (refusal.Evaluation DeadReference), w)) }
@@ -92,7 +92,7 @@ pub fn an_event_that_is_gone_takes_no_signal<S>()
         (w : State S) (steps : ℕ) (between : State S × ℕ) → w.profile ≡ profiles.Wide →
         NamesAt accesses scope depth (w, steps) p t between → (number : ℕ) → Declared between.0 t number → (x : Tree)
         (timeout : Value) (after : State S × ℕ) → GivesValue accesses scope depth x between timeout after →
-        NoneStands after.0 number → IsRefused accesses scope depth (on_target_with opcodes.Wait p x) (w, suc steps)
+        NoDeclarationHas after.0 number → IsRefused accesses scope depth (on_target_with opcodes.Wait p x) (w, suc steps)
         (refusal.Evaluation DeadReference) after }
 {}
 

@@ -24,7 +24,7 @@ ghost use Rattle.aml_meaning.specs.Invocations.{method_value};
 ghost use Rattle.aml_meaning.specs.Meaning.{meaning};
 ghost use Rattle.aml_laws.specs.CallTerms.{method_entry, HandedInTurn};
 ghost use Rattle.aml_laws.specs.HandedBack.{ComesBack, elements_of};
-ghost use Rattle.aml_laws.specs.HandedIn.{NestsWithin, HasPaths, MayBeHandedIn, BeginsWithRefused, with_integers_cut};
+ghost use Rattle.aml_laws.specs.HandedIn.{NestsWithin, HasPaths, MayBeHandedIn, FirstRefusedPart, with_integers_cut};
 ghost use Rattle.aml_laws.specs.NamesFound.{LeadsTo};
 ghost use Rattle.aml_laws.specs.NamesWritten.{from_root};
 
@@ -40,9 +40,9 @@ pub fn what_is_handed_in_is_handed_out_as_it_was<S>()
         steps ≡ elements_of g + rest → exported accesses v (after, steps) ≡ (Ok g, (after, rest)) }
 {}
 
-/// An integer is handed in modulo two to the width of integers, and nothing changes: one that doesn't fit the width as
-/// its lowest bits. So is each integer in a package, however deep: any data is handed in as the same data in which the
-/// integers are taken so. An integer that doesn't fit and is handed in as 0 is refused by this.
+/// An integer n is handed in as n mod 2^width, so one that doesn't fit keeps its lowest bits; nothing changes. The same
+/// holds at any depth of packages: to hand data in is to hand in the same data with its integers cut so. The law
+/// excludes a definition by which an integer that doesn't fit becomes 0.
 pub fn integers_are_handed_in_modulo_two_to_the_width<S>()
     ensures alone { (w : State S) (n : ℕ) →
         imported (Integer n) w ≡ (Ok (value.Integer (n % 2 ^ bits_of w.width)), w) }
@@ -97,9 +97,9 @@ pub fn arguments_are_handed_in_in_their_order<S>()
         (answered accesses p gs steps w).0 ≡ Err (refusal.Evaluation ArityChanged) }
 {}
 
-/// The path of a name is handed in as a reference to that name, the path of an alias as one to what the alias leads to,
-/// and nothing changes. The path of a name that isn't found is refused as the search for it is, and nothing changes. One
-/// that is handed in as nothing, and the path of an alias that is a reference to the alias, are refused by this.
+/// The path of a name is handed in as a reference to that name, the path of an alias as one to what the alias leads to.
+/// The path of a name that isn't found is refused as the search for it is. Nothing changes in either case. A path that
+/// is handed in as nothing, and the path of an alias that becomes a reference to the alias, are refused by this.
 pub fn a_path_is_handed_in_as_a_reference_to_what_it_finds<S>()
     ensures there { (w : State S) (path at : List Seg) (entry other : Entry) → get w.names.map path ≡ Some entry →
         LeadsTo w.names.map path entry (Ok (at, other)) →
@@ -108,13 +108,14 @@ pub fn a_path_is_handed_in_as_a_reference_to_what_it_finds<S>()
         imported (Named path) w ≡ (Err e, w) }
 {}
 
-/// What is handed in is refused by the first part of it that can't be handed in, from left to right and however deep it
-/// stands in packages: a text and bytes of more than 1,048,576 bytes, a package inside 64 others, and one of more than
-/// 65,535 elements, behind these, as too much; a reference without a path as one of the wrong type; and the path of a
-/// name that isn't found as the search for it is. Nothing changes, and there is room for the objects of what stands
-/// before that part. Another refusal for one of these, and a later part that decides, are refused by this.
+/// Data that is handed in is refused by its first part that can't be handed in, from left to right and at any depth of
+/// packages, if there is room for the objects of the parts before it. A text or bytes of more than 1,048,576 bytes, a
+/// package inside 64 others, and a package of more than 65,535 elements are refused as `ObjectLimit`; the last one only
+/// after all its elements. A reference without a path is refused as `WrongType`, and the path of a name that isn't
+/// found as the search for it. Nothing changes. Another refusal of such a part, and one by a later part, are refused by
+/// this.
 #[tactic(auto, using(crate::proofs::PathsHandedIn::refused_by_its_part))]
 pub fn the_first_part_that_cannot_be_handed_in_refuses_it<S>()
-    ensures { (w : State S) (count : ℕ) (g : Given) (e : Refusal) → BeginsWithRefused w.names.map e 64 count g →
+    ensures { (w : State S) (count : ℕ) (g : Given) (e : Refusal) → FirstRefusedPart w.names.map e 64 count g →
         length w.objects + count ≤ 262144 → imported g w ≡ (Err e, w) }
 {}

@@ -1,4 +1,6 @@
 //! What holds of every evaluation (ACPI 6.5, 5.3 and 5.5): each law is the contract of a function that does nothing.
+//! Where the comment of a law says that X "is refused by this", a wrong definition by which X happens doesn't satisfy
+//! the law.
 #![tactic(auto)]
 
 mod arities;

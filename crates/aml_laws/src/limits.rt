@@ -71,11 +71,12 @@ pub fn what_is_within_the_limits_is_taken<S>()
 
 /// A chain of at most 64 references is followed to its end, as SizeOf and ObjectType do, and answers what the last one
 /// refers to: a value, the type of a name that holds none, a field that a package names, or a byte. A longer chain is
-/// refused as a dead reference. Either changes nothing. A name or a slot that holds a reference stands for it. So it is
-/// with CopyObject through arguments that hold references: it goes to what the last one refers to, which is no argument
-/// that holds a reference, and does there what it does without the others; where there are more than 64 it changes
-/// nothing. An answer that is another name's type, or that stops at a reference on the way, and a store that fewer than
-/// 64 arguments refuse, are refused by this.
+/// refused as a dead reference. Neither changes anything. A name or a slot that holds a reference stands for it.
+/// CopyObject follows references to arguments, each of which holds the next reference, in the same way. Through at most
+/// 64 references it does what it does through the last one alone, if that isn't itself one to an argument that holds a
+/// reference; through more it is refused as a dead reference, and changes nothing. An answer that is another name's
+/// type, or that stops at a reference on the way, and a CopyObject that is refused where at most 64 references lead on,
+/// are refused by this.
 #[tactic(auto, using(crate::proofs::ReferenceChains::at_most_64_references_are_followed))]
 pub fn at_most_64_references_are_followed<S>()
     ensures followed { (w : State S) (n : ℕ) (r : Reference) (x : Referent) → Chain w n r x → n ≤ 64 →

@@ -72,11 +72,12 @@ pub fn osi_tells_of_known_texts<S>()
         (call_of_one n x) (w, suc steps) (refusal.Value WrongType) after }
 {}
 
-/// Asked by a caller, whose path finds it itself or by an alias, the predefined control method \_OSI is True of a string
-/// whose text is one of those that its world knows, and else False: it takes no step and changes nothing. Of any other
-/// value, also of none, it is refused as one of the wrong type, and with more values than one, or without any, as
-/// `ArityChanged`. What it answers to a caller is so too, of a text that is handed in and of anything else, and the world
-/// is the one in which this was handed in. One that answers each caller False is refused by this.
+/// A caller evaluates \_OSI by its path or by an alias. With one string it returns True if its world knows the text, and
+/// else False. With one argument that is no string, or is uninitialized, it is refused as `WrongType`; with any other
+/// number of arguments it is refused as `ArityChanged`. It takes no step and changes nothing. Its answer is the same for
+/// data that is handed in: the world has what was handed in, such as a new object for a text that fits, and all mutexes
+/// are free. With another number of arguments none is handed in. An \_OSI that returns False to every caller is refused
+/// by this.
 pub fn osi_answers_its_callers<S>()
     ensures text { (accesses : Accesses S) (p : List Seg) (w : State S) (steps : ℕ) → FindsOsi w [] (from_root p) →
         (o : ℕ) (text : List ℕ) → slice_get w.objects o ≡ Some (object.String text) →

@@ -27,11 +27,12 @@ ghost use Rattle.aml_laws.specs.PackedBits.{ArePackedBits, IsIntegerOf, Packs, b
 ghost use Rattle.aml_laws.specs.UnitValues.{IsFilledWith, IsMergedInto};
 ghost use Rattle.aml_laws.specs.UnitsInTurn.{InTurn, bits_in_units};
 
-/// A field of any number of bits is read as its bits, the lowest first, in as many bytes as they need: their number
-/// divided by eight, rounded up. Bit k of the field is bit k mod 8 of byte k / 8, and the bits of the last byte above
-/// the field are zeros (ACPI 6.5, 5.5.2.4 and 19.6: Field, CreateField). So any bits are packed, those that the units
-/// of a field hold, one unit behind another, those of a field in a buffer, and whatever is read of a field. Bytes that
-/// leave out the bits behind the last whole byte, and bits that are filled up with zeros below, are refused by this.
+/// A field of any number of bits is read as bytes, as many as its bits need: their number divided by eight, rounded up.
+/// Bit k of the field is bit k mod 8 of byte k / 8, and the bits of the last byte above the field are 0 (ACPI 6.5,
+/// 5.5.2.4 and 19.6: Field, CreateField). This is said of any list of bits, of the bits that the units of a field hold,
+/// one unit after another, and of a field in a buffer. Of any other read of a field the law says the number of bytes
+/// and the zeros. A read that drops the bits after the last whole byte, and one that pads at the low end, are refused
+/// by this.
 pub fn a_field_is_read_in_as_many_bytes_as_its_bits_need<S>()
     ensures packed { (bits : List Bool) → Packs (length bits) (bit_in bits) (packed bits) }
     ensures units { (read : Access → Change S ℕ) (field : FieldUnit) (s : S) (numbers : List ℕ) (after : S) →
@@ -47,10 +48,10 @@ pub fn a_field_is_read_in_as_many_bytes_as_its_bits_need<S>()
         bits_in accesses call f s ≡ (Ok bytes, after) → ArePackedBits bits bytes }
 {}
 
-/// A field of a bit at least, and of no more than an integer has, is the integer with just its bits, wherever a name of
-/// it stands for a value (ACPI 6.5, 19.6: Field): bit k of the integer is bit k of the field, and it has no bit above
-/// them. A field of seven bits that is refused as one without a byte, and one of twelve bits that is its lowest eight,
-/// are refused by this.
+/// A field of at least one bit, and of no more bits than an integer has, gives an integer where its name stands for a
+/// value (ACPI 6.5, 19.6: Field). If its bits are read without a refusal, bit k of the integer is bit k of what was
+/// read, and the integer has no further bit. A field of 7 bits that is refused because it fills no byte, and one of 12
+/// bits that gives its lowest 8, are refused by this.
 pub fn a_field_of_few_bits_is_the_integer_of_its_bits<S>()
     ensures { (accesses : Accesses S) (scope : List Seg) (depth : ℕ) (w : State S) (steps : ℕ) (n : Name) (f : Field)
         (bits : ℕ) (bytes : List ℕ) (after : State S × ℕ) → NamesField w scope n f bits → 1 ≤ bits →
@@ -58,10 +59,11 @@ pub fn a_field_of_few_bits_is_the_integer_of_its_bits<S>()
         (Gives accesses scope depth (use_of n) (w, suc steps) m after × IsIntegerOf bits (bit_of bytes) m) }
 {}
 
-/// A field of any number of bits is written with the bits of its source, the lowest first, one behind another, and
-/// with zeros where the source ends (ACPI 6.5, 19.3.5.8): bit k of the field becomes bit k mod 8 of byte k / 8 of the
-/// source. So are the bits of a field in a buffer, and those of the field in each unit that is written. Bits that are
-/// written in another order, or that begin with each unit anew, are refused by this.
+/// A field of any number of bits is written with the bits of its source, the lowest first, and with zeros after the end
+/// of the source (ACPI 6.5, 19.3.5.8): bit k of the field becomes bit k mod 8 of byte k / 8 of the source. The clause
+/// `in_buffer` says this of a write of a buffer field; `filled` and `merged` say it of the values with which
+/// `ones_and_zeros_read_nothing` and `a_unit_that_keeps_bits_is_read_once` write a unit. Bits in another order, and a
+/// source that is read from its start for each unit, are refused by this.
 pub fn a_field_is_written_with_the_bits_of_its_source()
     ensures in_buffer { (field : BufferField) (source : List ℕ) (before after : Objects) (buffer : List ℕ) →
         write_buffer_field field source before ≡ (Ok tt, after) →
