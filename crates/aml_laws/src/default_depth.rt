@@ -13,19 +13,22 @@ ghost use Rattle.aml_meaning.specs.Given.{Given};
 ghost use Rattle.aml_meaning.specs.Tasks.{Task};
 ghost use Rattle.aml_meaning.specs.Meaning.{meaning};
 ghost use Rattle.aml_meaning.specs.Calling.{loaded, evaluated, answered};
-ghost use Rattle.aml_meaning.specs.Predefined.{fresh, predefined};
+ghost use Rattle.aml_meaning.specs.Predefined.{fresh, fresh_as, predefined};
 ghost use Rattle.aml_meaning.specs.Settings.{deepest, settings_of};
 ghost use Rattle.aml_meaning.specs.declared.profile.Profile.{Profile};
 ghost use Rattle.aml_meaning.specs.declared.profile.Profile.TheVariants.{Core};
 ghost use Rattle.aml_laws.specs.Deepened.{IsDepthSetting};
 
 /// The default settings of either profile allow 32 nested calls and 64 nested levels of terms. A world that is made
-/// without settings is in the core profile and allows as many. A default of fewer calls or levels, and a wide profile
-/// that nobody chose, are refused by this.
+/// without settings is made as one with those of the core profile, from the same width, texts and register space; it is
+/// in the core profile and allows as many. A default of fewer calls or levels, a wide profile that nobody chose, and
+/// texts of `_OSI` that are left out are refused by this.
 pub fn the_default_is_the_core_profile_in_full_depth<S>()
     ensures settings { (profile : Profile) → ((settings_of profile).profile ≡ profile) ×
         (((settings_of profile).nesting.calls ≡ 32) × ((settings_of profile).nesting.levels ≡ 64)) }
     ensures deepest { (deepest.calls ≡ 32) × (deepest.levels ≡ 64) }
+    ensures fresh { (width : IntegerWidth) (osi : List (List ℕ)) (space : S) → fresh width osi space ≡ fresh_as
+        (record { profile = Core; nesting = record { calls = 32; levels = 64 } }) width osi space }
     ensures world { (width : IntegerWidth) (osi : List (List ℕ)) (space : S) (w : State S) →
         predefined (fresh width osi space) ≡ (Ok tt, w) →
         (w.profile ≡ Core) × ((w.nesting.calls ≡ 32) × (w.nesting.levels ≡ 64)) }

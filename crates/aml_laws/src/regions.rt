@@ -10,14 +10,16 @@ ghost use Rattle.aml_laws.specs.Histories.{History, NotesExplained};
 /// access of an evaluation is one of the accesses (`units_of`) that make up a field unit: at the offset of that access
 /// in the field unit's operation region, of the field's access width, and wholly within that region and its address
 /// space. The field unit and the region each stood at some moment before the access, possibly before the evaluation.
-/// The law doesn't say at which of these moments they were found.
+/// The law says that there are such moments between, each made from the one before by a change that it allows
+/// (`History`). It doesn't say that they are the evaluation's own, so it is whole where no name is declared.
 ///
 /// A field unit of a Field or a BankField lies in the region that its term names. One of an IndexField lies in no
 /// region: its index field and its data field are accessed instead.
 ///
 /// In PCI_Config the access is at the function whose address the region's scope has at the moment at which the region
 /// stood: in the segment group, on the bus, and at the device and the function that the objects of the nearest device
-/// with an `_ADR`, of the scope and those above it, answer when they are evaluated then.
+/// with an `_ADR`, of the scope and those above it, answer when they are evaluated then. That it is the evaluation's own
+/// function, `a_region_of_pci_config_is_located_by_its_own_scope` and `a_pci_address_is_told_by_its_objects` say.
 ///
 /// Each region and each field unit that stands at such a moment stood before the evaluation or was declared in it, at a
 /// free path and under the next number. So where no name is declared, all accesses are of field units that stood
