@@ -202,6 +202,7 @@ pub use mutexes::no_mutex_stays_acquired;
 pub use mutexes::what_is_no_mutex_is_neither_acquired_nor_released;
 pub use names::a_path_is_below_its_shorter_fronts;
 pub use names::declared_names_stand;
+pub use names::names_are_ordered_by_their_characters;
 pub use names::names_stay;
 pub use names::outside_of_control_methods;
 pub use names_in_packages::a_match_compares_what_a_name_finds;

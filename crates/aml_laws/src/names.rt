@@ -1,9 +1,11 @@
 //! Which names stand after an evaluation.
-ghost use Rattle.std.specs.Prelude.{◌≡◌, ℕ, List, [], ◌∷◌, ◌++◌, true, false, Ok, Some};
+ghost use Rattle.std.specs.Prelude.{◌≡◌, ◌<◌, ℕ, List, [], ◌∷◌, ◌++◌, true, false, Ok, Some};
 ghost use Rattle.std.specs.FinMap.{get};
+ghost use Rattle.std.specs.declared.cmp.Ordering.TheVariants.{Less, Equal, Greater};
 ghost use Rattle.ar_space.specs.Accesses.{Accesses};
 ghost use Rattle.aml_path.specs.declared.segment.Seg.{Seg};
-ghost use Rattle.aml_path.specs.Paths.{is_below};
+ghost use Rattle.aml_path.specs.Paths.{is_below, path_cmp};
+ghost use Rattle.aml_path.specs.Segments.{seg_cmp};
 ghost use Rattle.aml_grammar.specs.Tree.{Tree, Trees};
 ghost use Rattle.aml_meaning.specs.declared.flow.Flow.{Flow};
 ghost use Rattle.aml_meaning.specs.declared.flow.Flow.TheVariants as flow;
@@ -24,6 +26,27 @@ pub fn a_path_is_below_its_shorter_fronts()
         is_below path (path ++ segment ∷ rest) ≡ true }
     ensures no_other { (path q : List Seg) → is_below path q ≡ true →
         (segment : Seg) × (rest : List Seg) × (q ≡ path ++ segment ∷ rest) }
+{}
+
+/// Path order. Of two segments with the same characters in front of one that differs, the segment with the lower
+/// character there comes first; segments with the same characters are equal. Of two paths with the same segments in
+/// front of one that differs, the path whose segment comes first there comes first. A path comes before each longer
+/// path that begins with it (the law `comes_before_those_below` of `aml_path`), and that one behind it. So the order of
+/// any two paths is told: it is that in which names are walked, links are asked and the lines of a report stand. An
+/// order by falling characters, or by the last character first, is refused by this.
+#[tactic(auto, using(crate::proofs::NamesOrdered::same_characters, crate::proofs::NamesOrdered::earlier_segment_first, crate::proofs::NamesOrdered::later_segment_last, crate::proofs::NamesOrdered::longer_last, crate::proofs::NamesOrdered::same_paths))]
+pub fn names_are_ordered_by_their_characters()
+    ensures segments { (s t : Seg) (front behind after : List ℕ) (a b : ℕ) →
+        s.bytes ≡ front ++ a ∷ behind → t.bytes ≡ front ++ b ∷ after → a < b →
+        (seg_cmp s t ≡ Less) × (seg_cmp t s ≡ Greater) }
+    ensures same_segments { (s t : Seg) → s.bytes ≡ t.bytes → seg_cmp s t ≡ Equal }
+    ensures first { (front p q : List Seg) (s t : Seg) → seg_cmp s t ≡ Less →
+        path_cmp (front ++ s ∷ p) (front ++ t ∷ q) ≡ Less }
+    ensures second { (front p q : List Seg) (s t : Seg) → seg_cmp s t ≡ Greater →
+        path_cmp (front ++ s ∷ p) (front ++ t ∷ q) ≡ Greater }
+    ensures longer { (path : List Seg) (segment : Seg) (rest : List Seg) →
+        path_cmp (path ++ segment ∷ rest) path ≡ Greater }
+    ensures same_paths { (path : List Seg) → path_cmp path path ≡ Equal }
 {}
 
 /// A path is outside of control methods where at each path above it stands a name, and that of no control method. So
