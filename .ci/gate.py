@@ -33,7 +33,7 @@ def in_lanes(tasks, *more, **named):
     its lines, the memory that it needs, and a call that takes what was given so far and a number of processes."""
     planned = None if more or named or os.environ.get("RT_JOBS") else plan_of(tasks)
     stamps = kit.stamps(rt)
-    given = in_order(*planned, tasks) if planned else KITS_OWN(tasks, *more, **named)
+    given = in_order(planned, tasks) if planned else KITS_OWN(tasks, *more, **named)
     for key in tasks:
         if key[1] == "proof" and given[key]:
             kit.mark_built(stamps, key[0])
@@ -57,36 +57,43 @@ def keep_checks():
 
 
 def plan_of(tasks):
-    """The plan of the tasks, and how many bytes of memory they may take together; or None where a kit describes them in another way than
-    this script knows, which costs nothing but time."""
+    """The plan of the tasks, or None where a kit describes them in another way than this script knows, which costs nothing but time."""
     try:
         plan = gate_plan.Plan(tasks, gate_plan.read_table(), rt.processors())
         for key, (_, _, _, call) in tasks.items():
             # (asked now, so that a plan that can't answer is found here)
             if not callable(call) or plan.memory(key, plan.processes(key)) < 0 or plan.niceness(key) < 0:
                 raise TypeError(key)
-        return plan, 0.85 * rt.free()
+        room_for_all()
+        return plan
     except (TypeError, ValueError, LookupError, AttributeError, OSError) as why:
         print(f"gate: this kit's tasks can't be planned ({why!r}), so they run in the kit's own order")
         return None
 
 
-def in_order(plan, memory, tasks):
+def room_for_all():
+    """How many bytes of memory the tasks may take together, as far as what is free now tells."""
+    return 0.85 * rt.free()
+
+
+def in_order(plan, tasks):
     """Runs the tasks in the order of a plan."""
     # this removes the folders that some kits make for edits
     with getattr(rt, "ending", contextlib.nullcontext)():
         running = {}
         try:
-            return ended_in_order(plan, memory, tasks, running)
+            return ended_in_order(plan, tasks, running)
         finally:
             # (after this the kit removes files and puts others back, so no task may still run)
             for thread, _ in running.values():
                 thread.join()
 
 
-def ended_in_order(plan, memory, tasks, running):
-    left, given, ended = plan.in_order(), {}, queue.SimpleQueue()
+def ended_in_order(plan, tasks, running):
+    left, given, ended, memory = plan.in_order(), {}, queue.SimpleQueue(), 0
     while left or running:
+        # (what other programs give back is used, too)
+        memory = max(memory, room_for_all())
         for key in [it for it in left if all(low in given for low in tasks[it][0])]:
             processes = fitting(plan, key, memory - sum(it for _, it in running.values()))
             if len(running) < 2 * plan.processors and (processes or not running):
