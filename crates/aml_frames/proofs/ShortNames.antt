@@ -325,8 +325,6 @@ counted_at_name accesses ev c levels k number w steps x n h is counts puts =
 -- these close the functions of such names
 pub ruleset short_values = (value_at_name, behind_value)
 
-pub ruleset short_integers = (value_at_name, behind_value, reads_integer, behind_target, put_at_name, puts_integer)
-
 pub ruleset short_targets = (behind_target, put_at_name, put_refused, counted_at_name)
 
 pub ruleset short_mutexes = (behind_target, behind_acquired, acquired_at_name, released_at_name)

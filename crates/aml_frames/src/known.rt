@@ -12,10 +12,9 @@ ghost use Rattle.aml_frames.specs.Places.{behind_term};
 ghost use Rattle.aml_frames.specs.Uses.{super, behind_target, target_ends, target_run};
 
 use crate::activation::Activation;
-use crate::short_names::{integer_at_name, put_integer_at_name};
-use crate::short_operands::count_integer;
+use crate::short_names::{count_at_name, integer_at_name, put_integer_at_name};
 use crate::short_operations::operation_integer;
-use crate::short_terms::{put_integer_to_slot, short_integer};
+use crate::short_terms::{count_slot, put_integer_to_slot, short_integer};
 use crate::uses::TargetUse;
 use aml_meaning::{Count, Running};
 use aml_objects::Value;
@@ -125,8 +124,11 @@ fn count_known<S: Space>(
     ensures none { result ≡ None → run.new ≡ run.old }
     ensures stays { result ≡ None → act.new ≡ act.old }
 {
-    match count_integer(run, act, levels, count) {
+    match count_slot(run, act, levels, count) {
         Some(number) => Some(Value::Integer(number)),
-        None => None,
+        None => match count_at_name(run, act, levels, count) {
+            Some(number) => Some(Value::Integer(number)),
+            None => None,
+        },
     }
 }

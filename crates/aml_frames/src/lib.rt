@@ -44,7 +44,6 @@ mod searching;
 mod short_items;
 mod short_names;
 mod short_opcodes;
-mod short_operands;
 mod short_operations;
 mod short_terms;
 mod stack;

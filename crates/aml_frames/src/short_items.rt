@@ -1,11 +1,11 @@
-//! Items of a list that are done at once: a local, an argument or a named integer is counted, or takes an integer that
-//! is there already or what an operator gives of two of them (ACPI 6.5, 19.6).
+//! Items of a list that are done at once: a local or an argument is counted, or takes an integer that is there already
+//! or what an operator gives of two of them (ACPI 6.5, 19.6).
 //!
 //! Each function does its term whole, or answers none. Then steps may have been taken and the place may have moved, and
 //! nothing else has changed: `try_item` gives both back.
 //!
-//! A term with a field unit as an operand or as its target is given up here, since an access can't be taken back. It is
-//! done the long way (`begin_term`), whose operators read and write field units at once (`known`).
+//! A term with a name as an operand or as its target is given up here. It is done the long way (`begin_term`), whose
+//! operators look for the integer at the name (`known`).
 ghost use Rattle.std.specs.Prelude.{◌≡◌, ◌≤◌, ◌<◌, Ok, None, IfSome};
 ghost use Rattle.ar_space.specs.Change.{Does};
 ghost use Rattle.aml_objects.specs.declared.value.Value.TheVariants as values;
@@ -19,8 +19,8 @@ ghost use Rattle.aml_frames.specs.Places.{at_place, behind_term};
 
 use crate::activation::Activation;
 use crate::short_opcodes::take_operator;
-use crate::short_operands::{count_integer, integer_there, put_integer};
 use crate::short_operations::operation_integer;
+use crate::short_terms::{count_slot, put_integer_to_slot, short_integer};
 use aml_convert::BinaryOperator;
 use aml_meaning::{Count, OperatorKind, Running, TwoOperands};
 use ar_space::Space;
@@ -72,18 +72,18 @@ fn operator_item<S: Space>(
 {
     match kind {
         OperatorKind::Two(TwoOperands::Integers(operator)) => {
-            binary_item(run, act, levels, operator)
+            binary_to_slot(run, act, levels, operator)
         }
-        OperatorKind::Count(count) => count_item(run, act, levels, count),
-        OperatorKind::Store => store_item(run, act, levels),
+        OperatorKind::Count(count) => count_of_slot(run, act, levels, count),
+        OperatorKind::Store => store_to_slot(run, act, levels),
         _ => None,
     }
 }
 
-/// As `operator_item`, of an operator on two integers whose result is stored.
+/// As `operator_item`, of an operator on two integers whose target is a local or an argument.
 #[inline(always)]
 #[tactic(auto, using(crate::proofs::ShortItems::items))]
-fn binary_item<S: Space>(
+fn binary_to_slot<S: Space>(
     run: &mut Running<S>,
     act: &mut Activation,
     levels: u8,
@@ -112,7 +112,7 @@ fn binary_item<S: Space>(
     let Ok(number) = run.world.operate_on_integers(operator, x, y) else {
         return None;
     };
-    if put_integer(run, act, levels, number) {
+    if put_integer_to_slot(run, act, levels, number) {
         return Some(number);
     }
     None
@@ -129,16 +129,16 @@ fn operand_integer<S: Space>(run: &mut Running<S>, act: &mut Activation, levels:
     ensures none { result ≡ None → run.new ≡ run.old }
     ensures stays { result ≡ None → act.new ≡ act.old }
 {
-    match integer_there(run, act, levels) {
+    match short_integer(run, act, levels) {
         Some(number) => Some(number),
         None => operation_integer(run, act, levels),
     }
 }
 
-/// As `operator_item`, of Increment and Decrement.
+/// As `operator_item`, of Increment and Decrement of a local or an argument.
 #[inline(always)]
 #[tactic(auto, using(crate::proofs::ShortItems::items))]
-fn count_item<S: Space>(
+fn count_of_slot<S: Space>(
     run: &mut Running<S>,
     act: &mut Activation,
     levels: u8,
@@ -152,16 +152,16 @@ fn count_item<S: Space>(
     ensures kept { result ≡ None → run.new.0 ≡ run.old.0 }
     ensures moves { act.new ≡ at_place act.old act.new.place }
 {
-    match count_integer(run, act, levels, count) {
+    match count_slot(run, act, levels, count) {
         Some(number) => Some(number),
         None => None,
     }
 }
 
-/// As `operator_item`, of Store.
+/// As `operator_item`, of a Store to a local or an argument.
 #[inline(always)]
 #[tactic(auto, using(crate::proofs::ShortItems::items))]
-fn store_item<S: Space>(run: &mut Running<S>, act: &mut Activation, levels: u8) -> Option<u64>
+fn store_to_slot<S: Space>(run: &mut Running<S>, act: &mut Activation, levels: u8) -> Option<u64>
     ensures integer { IfSome result (λ n. Leads S.accesses (meaning S.accesses)
         (Ok (next.Flow (flows.Value (values.Integer n)))) act.new run.new
         (operator_run S.accesses (meaning S.accesses) operators.Store act.old levels) run.old) }
@@ -170,10 +170,10 @@ fn store_item<S: Space>(run: &mut Running<S>, act: &mut Activation, levels: u8) 
     ensures kept { result ≡ None → run.new.0 ≡ run.old.0 }
     ensures moves { act.new ≡ at_place act.old act.new.place }
 {
-    let Some(number) = integer_there(run, act, levels) else {
+    let Some(number) = short_integer(run, act, levels) else {
         return None;
     };
-    if put_integer(run, act, levels, number) {
+    if put_integer_to_slot(run, act, levels, number) {
         return Some(number);
     }
     None

@@ -127,36 +127,6 @@ pub(crate) fn integer_at_name<S: Space>(
     }
 }
 
-/// The integer of the name that stands next, where it is one segment that no argument follows, and holds one. It takes
-/// a step, as the term does. No field unit is read, so nothing else changes.
-#[tactic(auto, using(crate::proofs::ShortNames::short_integers))]
-pub(crate) fn named_integer<S: Space>(
-    run: &mut Running<S>,
-    act: &mut Activation,
-    levels: u8,
-) -> Option<u64>
-    ensures integer { IfSome result (λ n. Does (Ok (flows.Value (values.Integer n))) run.new
-        (term_run S.accesses (meaning S.accesses) act.old levels) run.old) }
-    ensures behind { IfSome result (λ n. act.new ≡ behind_term act.old levels) }
-    ensures kept { run.new.0 ≡ run.old.0 }
-    ensures paid { IfSome result (λ n. run.new.1 < run.old.1) }
-    ensures none { result ≡ None → run.new ≡ run.old }
-    ensures stays { result ≡ None → act.new ≡ act.old }
-{
-    let Some(id) = node_of_value(&run.world, act, levels) else {
-        return None;
-    };
-    let Some(number) = run.world.node_integer(id) else {
-        return None;
-    };
-    if run.steps == 0 {
-        return None;
-    }
-    run.steps -= 1;
-    act.advance(SEGMENT_LENGTH);
-    Some(number)
-}
-
 /// Stores an integer to the node with an id, where a name holds an integer there, or it is a field unit whose bits
 /// are written at once.
 #[tactic(auto, using(crate::proofs::ShortNames::puts_integer))]
@@ -206,32 +176,6 @@ pub(crate) fn put_integer_at_name<S: Space>(
         return Ok(true);
     }
     Ok(false)
-}
-
-/// Stores an integer to the name that stands next, where it is one segment and holds an integer.
-#[tactic(auto, using(crate::proofs::ShortNames::short_integers))]
-pub(crate) fn put_named_integer<S: Space>(
-    run: &mut Running<S>,
-    act: &mut Activation,
-    levels: u8,
-    number: u64,
-) -> bool
-    ensures done { result ≡ true → Does (Ok (flows.Value (values.Integer number))) run.new
-        (target_run S.accesses (meaning S.accesses) (super levels)
-        (uses.Store (values.Integer number)) act.old) run.old }
-    ensures behind { result ≡ true → act.new ≡ behind_target (super levels) act.old }
-    ensures spent { run.new.1 ≤ run.old.1 }
-    ensures none { result ≡ false → run.new ≡ run.old }
-    ensures stays { result ≡ false → act.new ≡ act.old }
-{
-    let Some(id) = node_at(&run.world, act) else {
-        return false;
-    };
-    if !run.world.put_integer_at(id, number) {
-        return false;
-    }
-    act.advance(SEGMENT_LENGTH);
-    true
 }
 
 /// Counts up or down the integer that the name of one segment holds which stands next, and gives it as it is then.

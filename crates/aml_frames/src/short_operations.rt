@@ -1,5 +1,5 @@
-//! Operators without a target whose operands are locals, arguments, constants or names that are integers (ACPI 6.5,
-//! 19.6): most predicates.
+//! Operators without a target whose operands are locals, arguments or constants that are integers (ACPI 6.5, 19.6):
+//! most predicates.
 //!
 //! Each function does its term whole, or answers none. Then steps may have been taken and the place may have moved, and
 //! nothing else has changed: `operation_integer` gives both back.
@@ -16,7 +16,7 @@ ghost use Rattle.aml_frames.specs.Places.{at_place, behind_term};
 
 use crate::activation::Activation;
 use crate::short_opcodes::take_operator;
-use crate::short_operands::integer_there;
+use crate::short_terms::short_integer;
 use aml_convert::BinaryOperator;
 use aml_meaning::{OperatorKind, Running, Test, TwoOperands};
 use ar_space::Space;
@@ -95,10 +95,10 @@ fn binary_without_target<S: Space>(
     ensures kept { run.new.0 ≡ run.old.0 }
     ensures moves { act.new ≡ at_place act.old act.new.place }
 {
-    let Some(x) = integer_there(run, act, levels) else {
+    let Some(x) = short_integer(run, act, levels) else {
         return None;
     };
-    let Some(y) = integer_there(run, act, levels) else {
+    let Some(y) = short_integer(run, act, levels) else {
         return None;
     };
     // Anything but a NullName: a target is there.
@@ -130,10 +130,10 @@ fn test_of_integers<S: Space>(
     ensures kept { run.new.0 ≡ run.old.0 }
     ensures moves { act.new ≡ at_place act.old act.new.place }
 {
-    let Some(x) = integer_there(run, act, levels) else {
+    let Some(x) = short_integer(run, act, levels) else {
         return None;
     };
-    let Some(y) = integer_there(run, act, levels) else {
+    let Some(y) = short_integer(run, act, levels) else {
         return None;
     };
     Some(run.world.test_integers(test, x, y))
@@ -151,7 +151,7 @@ fn not_of_integer<S: Space>(run: &mut Running<S>, act: &mut Activation, levels: 
     ensures kept { run.new.0 ≡ run.old.0 }
     ensures moves { act.new ≡ at_place act.old act.new.place }
 {
-    let Some(x) = integer_there(run, act, levels) else {
+    let Some(x) = short_integer(run, act, levels) else {
         return None;
     };
     Some(run.world.logical_not_of_integer(x))

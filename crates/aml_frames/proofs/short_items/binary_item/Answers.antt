@@ -1,7 +1,0 @@
-use Rattle.std.proofs.Common.{rules}
-use Rattle.aml_meaning.specs.declared.term_kind.TwoOperands.TheVariants as two
-use Rattle.aml_frames.proofs.ShortItems.{behind_two_stored}
-use Rattle.aml_frames.proofs.short_items.binary_item.Goals as goal
-
-pub returns-then-put_integer-clause-behind : goal.returns-then-put_integer-clause-behind
-returns-then-put_integer-clause-behind g c = behind_two_stored c.args.act.now c.operand_integer.new.act c.operand_integer-2.new.act c.put_integer.new.act (two.Integers c.args.operator) c.args.levels c.in-Some.ensures.behind c.in-Some-operand_integer.ensures.behind (search rules) (c.put_integer.ensures.behind c.if-put_integer.true)
