@@ -39,7 +39,7 @@ impl ArgumentBytes {
     pub fn as_slice(&self) -> &[u8]
         ensures { result.now ≡ self.now }
     {
-        self.list.as_slice()
+        &self.list
     }
 }
 
@@ -81,6 +81,6 @@ impl Arguments {
     pub fn as_slice(&self) -> &[Argument]
         ensures { result.now ≡ self.now }
     {
-        self.list.as_slice()
+        &self.list
     }
 }

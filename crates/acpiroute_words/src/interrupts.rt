@@ -32,7 +32,7 @@ impl Interrupts {
     pub fn as_slice(&self) -> &[u32]
         ensures { result.now ≡ self.now }
     {
-        self.list.as_slice()
+        &self.list
     }
 }
 
