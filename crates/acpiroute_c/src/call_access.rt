@@ -1,13 +1,12 @@
 //! Accesses of registers, as C has them.
-ghost use Rattle.std.specs.Prelude.{◌≡◌, ◌^◌, nat_lt, All, IfOk, IfErr, Some, map};
-ghost use Rattle.ar_space.specs.Accesses.{bit_count};
-ghost use Rattle.recorded_space.specs.Exchanges.{kept};
+ghost use Rattle.std.specs.Prelude.{◌≡◌, All, IfOk, IfErr, Some, map};
 ghost use Rattle.acpiroute_c.specs.Accesses.{port_at, register_at, place_of, width_of, answer_of, done, read_with};
 ghost use Rattle.acpiroute_c.specs.Accesses.{exchange_with, exchange_of, place_form, access_form, wanted_form, IsEntry};
 ghost use Rattle.acpiroute_c.specs.declared.call_access.Unmade.TheVariants.{Malformed};
 
 use ar_space::{Place, SpaceFault, Width};
 use recorded_route::{Access, Exchange, WantedAccess};
+use recorded_space::kept;
 use std::alloc::Global;
 
 /// An access of a register, and in a record what was answered.
@@ -122,34 +121,6 @@ fn done(answer: Result<u64, SpaceFault>) -> Result<(), SpaceFault>
     match answer {
         Ok(_) => Ok(()),
         Err(fault) => Err(fault),
-    }
-}
-
-/// Whether a value has no bit above a width.
-fn fits(width: Width, value: u64) -> bool
-    ensures { result ≡ nat_lt value (2 ^ bit_count width) }
-{
-    match width {
-        Width::W8 => value < 0x100,
-        Width::W16 => value < 0x1_0000,
-        Width::W32 => value < 0x1_0000_0000,
-        Width::W64 => true,
-    }
-}
-
-/// An answer whose value fits the width.
-fn kept(width: Width, answer: Result<u64, SpaceFault>) -> Option<Result<u64, SpaceFault>>
-    ensures { result ≡ kept width answer }
-{
-    match answer {
-        Ok(value) => {
-            if fits(width, value) {
-                Some(Ok(value))
-            } else {
-                None
-            }
-        }
-        Err(fault) => Some(Err(fault)),
     }
 }
 

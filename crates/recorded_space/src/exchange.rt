@@ -65,8 +65,8 @@ impl Exchange {
     }
 }
 
-/// An answer whose value fits the width.
-fn kept(width: Width, answer: Result<u64, SpaceFault>) -> Option<Result<u64, SpaceFault>>
+/// An answer whose value fits the width; nothing where it doesn't.
+pub fn kept(width: Width, answer: Result<u64, SpaceFault>) -> Option<Result<u64, SpaceFault>>
     ensures { result ≡ kept width answer }
 {
     match answer {

@@ -6,6 +6,6 @@ mod exchange;
 pub mod laws;
 mod recorded;
 
-pub use exchange::Exchange;
+pub use exchange::{Exchange, kept};
 pub use recorded::Recorded;
 pub use space_trace::Access;
