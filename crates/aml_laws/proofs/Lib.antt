@@ -84,6 +84,7 @@ pub mod CountsTold
 pub mod DataBeyondLimits
 pub mod DataFormed
 pub mod DataNotFormed
+pub mod DataSeen
 pub mod DeadEnds
 pub mod DeadStores
 pub mod DecimalCodes

@@ -77,6 +77,7 @@ mod trees;
 mod units;
 mod updates;
 mod values;
+mod views;
 
 pub use arities::a_name_takes_the_arguments_of_the_nearest_count;
 pub use arities::a_path_takes_the_arguments_that_are_told_last;
@@ -345,3 +346,4 @@ pub use values::joined_resources_have_the_items_of_both;
 pub use values::the_second_value_is_compared_as_the_first_one;
 pub use values::values_of_one_type_are_in_a_total_order;
 pub use values::what_is_no_coded_decimal_is_refused;
+pub use views::data_are_seen_as_they_are;
