@@ -81,6 +81,7 @@ pub mod Counting
 pub mod CountsPut
 pub mod CountsSought
 pub mod CountsTold
+pub mod CutItems
 pub mod DataBeyondLimits
 pub mod DataFormed
 pub mod DataNotFormed
