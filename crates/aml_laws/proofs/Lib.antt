@@ -168,6 +168,7 @@ pub mod NamesOrdered
 pub mod NamesPredefined
 pub mod NamesSought
 pub mod NamesTyped
+pub mod NamesUnresolved
 pub mod NotesKept
 pub mod NothingLeft
 pub mod NothingPassed

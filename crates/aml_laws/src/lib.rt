@@ -126,6 +126,7 @@ pub use data_terms::packages_hold_their_elements_in_order;
 pub use data_terms::strings_and_buffers_hold_what_is_written_out;
 pub use declarations::refused_names_change_nothing;
 pub use declared_objects::a_declaration_leaves_what_its_term_says;
+pub use declared_objects::a_name_without_a_path_refuses_declarations;
 pub use declared_objects::a_path_that_takes_no_name_refuses_declarations;
 pub use declared_objects::an_alias_of_what_is_not_found_is_refused;
 pub use declared_objects::an_external_declares_nothing;
