@@ -216,6 +216,7 @@ pub mod ValuesOfTargets
 pub mod ValuesOfMatches
 pub mod ValuesOfWideTerms
 pub mod ValuesOfWorlds
+pub mod ValuesTold
 pub mod Invariants
 pub mod MeaningTogether
 pub mod MoreSteps
