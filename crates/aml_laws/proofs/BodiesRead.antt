@@ -1,8 +1,10 @@
 -- How the body of a control method is read, and how many arguments names take in it.
-use Rattle.std.specs.Prelude.{◌≡◌, ◌%◌, ℕ, List, Option, true, Some, None, Ok, Err, refl}
-use Rattle.std.proofs.Common.{ap, ◌∙◌}
+use Rattle.std.specs.Prelude.{◌≡◌, ◌<◌, ◌%◌, ℕ, nat_lt, List, Option, true, Some, None, Ok, Err, refl}
+use Rattle.std.proofs.Common.{arith, ap, ◌∙◌}
+use Rattle.std.proofs.lemmas.Bool.Decides.{nat_tests}
 use Rattle.std.specs.FinMap.{get}
 use Rattle.ar_space.specs.declared.refusal.Refusal.{Refusal}
+use Rattle.ar_space.specs.Change.{go_on, ◌>>=◌}
 use Rattle.ar_space.specs.Outcome.{seen}
 use Rattle.aml_path.specs.declared.segment.Seg.{Seg}
 use Rattle.aml_grammar.specs.Arities.{latest, arity_at}
@@ -13,9 +15,13 @@ use Rattle.aml_objects.specs.declared.entry.Entry.{Entry}
 use Rattle.aml_objects.specs.declared.entry.Method.{Method}
 use Rattle.aml_objects.specs.declared.entry.NamedObject.{NamedObject}
 use Rattle.aml_objects.specs.declared.entry.NamedObject.TheVariants as named
-use Rattle.aml_meaning.specs.Invocations.{count_through, count_of_entry, body_arities, body_terms}
+use Rattle.aml_objects.specs.declared.value.Value.{Value}
+use Rattle.aml_meaning.specs.declared.flow.Flow.{Flow}
+use Rattle.aml_meaning.specs.Invocations.{count_through, count_of_entry, body_arities, body_terms, call_allowed, invoked}
 use Rattle.aml_meaning.specs.Readings.{arguments_of}
+use Rattle.aml_meaning.specs.Run.{Run, lift}
 use Rattle.aml_meaning.specs.State.{State}
+use Rattle.aml_meaning.specs.Tasks.{Task}
 use Rattle.aml_meaning.proofs.BodyCounts.{body_declared, body_external}
 use Rattle.aml_laws.specs.CallTerms.{IsNoMethod}
 
@@ -27,6 +33,18 @@ module _ {S : Type 0} (w : State S) where
   pub body_is_refused : (p : List Seg) (body : List ℕ) (e : Refusal) → reading_within w.nesting.levels body p true (body_arities w) ≡ Err e → body_terms p body w ≡ (Err e, w)
   unfolding body_terms
   body_is_refused p body e is = ap (λ r. (seen trees_of r, w)) is
+
+  allowed : (depth : ℕ) → depth < 32 → depth < w.nesting.calls → call_allowed depth w ≡ (Ok tt, w)
+  unfolding call_allowed
+  allowed depth few within = rw (is_less depth 32 few, is_less depth w.nesting.calls within) refl
+    where
+      is_less : (n k : ℕ) → n < k → nat_lt n k ≡ true
+      is_less n k less = grind (arith, nat_tests)
+
+  pub unread_is_refused : (ev : Task → Run S Flow) (depth : ℕ) (p : List Seg) (body : List ℕ) (arguments : List Value) (steps : ℕ) (e : Refusal) → depth < 32 → depth < w.nesting.calls → reading_within w.nesting.levels body p true (body_arities w) ≡ Err e
+      → invoked ev depth p body arguments (w, steps) ≡ (Err e, (w, steps))
+  unfolding invoked lift go_on ◌>>=◌
+  unread_is_refused ev depth p body arguments steps e few within lost = rw (allowed depth few within, body_is_refused p body e lost) refl
 
   standing_counts : (path : List Seg) (e : Entry) → get w.names.map path ≡ Some e → arity_at (body_arities w) path ≡ Some (count_through w.names.map e.object)
   unfolding arity_at

@@ -1,5 +1,5 @@
 -- At the end of a call no name stands below its control method, and all other names stand as before.
-use Rattle.std.specs.Prelude.{◌≡◌, ℕ, ◌-◌, ◌^◌, ◌==◌, List, Bool, true, false, not, None, Ok, Err, refl, is_some, cond, if◌then◌else◌}
+use Rattle.std.specs.Prelude.{◌≡◌, ℕ, ◌-◌, ◌^◌, ◌==◌, List, Bool, true, false, not, None, Ok, Err, is_some, cond, if◌then◌else◌}
 use Rattle.std.proofs.Common.{ap, sym, ◌∙◌}
 use Rattle.std.specs.declared.cmp.Ordering.TheVariants.{Equal}
 use Rattle.std.specs.FinMap.{get, get-retain_keys}
@@ -37,7 +37,7 @@ none_below_removed w p q below = ap is_some (get-retain_keys w.names.map (λ x. 
 -- a call from here, beside what tells whether its body begins
 record BodyBegins {S : Type 0} (p : List Seg) (m : Run S Flow) (k : Change (State S) ℕ) : Type 0 where
   begun : (s : State S × ℕ) (n : ℕ) → (k s.0).0 ≡ Ok n → NoneBelow (m s).1.0 p
-  refused : (s : State S × ℕ) (e : Refusal) → (k s.0).0 ≡ Err e → (m s).1.0 ≡ s.0
+  refused : (s : State S × ℕ) (e : Refusal) → (k s.0).0 ≡ Err e → m s ≡ (Err e, s)
 
 module _ {S : Type 0} (p : List Seg) where
   go_on_begun : {A : Type 0} (r : Outcome A) (w : State S) (b n : ℕ) (m : A → Run S Flow) (k : A → Change (State S) ℕ) → ((a : A) → BodyBegins p (m a) (k a)) → (go_on r w k).0 ≡ Ok n → NoneBelow (go_on r (w, b) m).1.0 p
@@ -45,10 +45,10 @@ module _ {S : Type 0} (p : List Seg) where
   go_on_begun (Ok a) w b n m k h is = (h a).begun (w, b) n is
   go_on_begun (Err e) w b n m k h is = absurd (cc is)
 
-  go_on_refused : {A : Type 0} (r : Outcome A) (w : State S) (b : ℕ) (e : Refusal) (m : A → Run S Flow) (k : A → Change (State S) ℕ) → ((a : A) → BodyBegins p (m a) (k a)) → (go_on r w k).0 ≡ Err e → (go_on r (w, b) m).1.0 ≡ w
+  go_on_refused : {A : Type 0} (r : Outcome A) (w : State S) (b : ℕ) (e : Refusal) (m : A → Run S Flow) (k : A → Change (State S) ℕ) → ((a : A) → BodyBegins p (m a) (k a)) → (go_on r w k).0 ≡ Err e → go_on r (w, b) m ≡ (Err e, (w, b))
   unfolding go_on
   go_on_refused (Ok a) w b e m k h is = (h a).refused (w, b) e is
-  go_on_refused (Err x) w b e m k h is = refl
+  go_on_refused (Err x) w b e m k h is = let same : x ≡ e = cc is in ap (λ (y : Refusal). (Err y, (w, b))) same
 
   body_terms_body_begins : (body : List ℕ) (m : Trees → Run S Flow) (k : Trees → Change (State S) ℕ) → ((a : Trees) → BodyBegins p (m a) (k a)) → BodyBegins p (lift (body_terms p body) >>= m) (body_terms p body >>= k)
   unfolding lift body_terms ◌>>=◌
@@ -65,9 +65,9 @@ module _ {S : Type 0} (p : List Seg) where
   begun_by_cases false e n j c w v m is = none_below_removed (closed (m (v, c)).1.0) p
 
   refused_by_cases : (b : Bool) (e x : Refusal) (j c : ℕ) (w v : State S) (m : Run S Flow) → (if◌then◌else◌ {A = Outcome ℕ × State S} b (Err e, w) (Ok j, v)).0 ≡ Err x
-      → (go_on (if◌then◌else◌ {A = Outcome ℕ × State S} b (Err e, w) (Ok j, v)).0 ((if◌then◌else◌ {A = Outcome ℕ × State S} b (Err e, w) (Ok j, v)).1, c) (λ i. leaving p m)).1.0 ≡ w
+      → go_on (if◌then◌else◌ {A = Outcome ℕ × State S} b (Err e, w) (Ok j, v)).0 ((if◌then◌else◌ {A = Outcome ℕ × State S} b (Err e, w) (Ok j, v)).1, c) (λ i. leaving p m) ≡ (Err x, (w, c))
   unfolding go_on
-  refused_by_cases true e x j c w v m is = refl
+  refused_by_cases true e x j c w v m is = let same : e ≡ x = cc is in ap (λ (y : Refusal). (Err y, (w, c))) same
   refused_by_cases false e x j c w v m is = absurd (cc is)
 
   opened_body_begins : (vs : List Value) (m : Run S Flow) → BodyBegins p (lift (opened vs) >>= (λ n. leaving p m)) (opened vs)
@@ -84,8 +84,11 @@ module _ {S : Type 0} (p : List Seg) where
 pub none_below_after_call : {S : Type 0} (ev : Task → Run S Flow) (depth : ℕ) (p : List Seg) (body : List ℕ) (arguments : List Value) (s : State S × ℕ) (n : ℕ) → (body_frame depth p body arguments s.0).0 ≡ Ok n → NoneBelow (invoked ev depth p body arguments s).1.0 p
 none_below_after_call ev depth p body arguments s n is = (invoked_body_begins p ev depth body arguments).begun s n is
 
+pub not_begun_is_refused : {S : Type 0} (ev : Task → Run S Flow) (depth : ℕ) (p : List Seg) (body : List ℕ) (arguments : List Value) (s : State S × ℕ) (e : Refusal) → (body_frame depth p body arguments s.0).0 ≡ Err e → invoked ev depth p body arguments s ≡ (Err e, s)
+not_begun_is_refused ev depth p body arguments s e is = (invoked_body_begins p ev depth body arguments).refused s e is
+
 pub refused_call_changes_nothing : {S : Type 0} (ev : Task → Run S Flow) (depth : ℕ) (p : List Seg) (body : List ℕ) (arguments : List Value) (s : State S × ℕ) (e : Refusal) → (body_frame depth p body arguments s.0).0 ≡ Err e → (invoked ev depth p body arguments s).1.0 ≡ s.0
-refused_call_changes_nothing ev depth p body arguments s e is = (invoked_body_begins p ev depth body arguments).refused s e is
+refused_call_changes_nothing {S} ev depth p body arguments s e is = ap (λ (r : Outcome Flow × (State S × ℕ)). r.1.0) (not_begun_is_refused ev depth p body arguments s e is)
 
 -- at the end of a call no name is removed that isn't below its control method
 pub other_names_stay : {S : Type 0} (w : State S) (p q : List Seg) → is_below p q ≡ false → get (left p w).names.map q ≡ get w.names.map q

@@ -127,10 +127,10 @@ module _ {S : Type 0} (accesses : Accesses S) (scope : List Seg) (depth : ℕ) (
     unfolding rule size_rule lift give go_on ◌>>=◌
     size_not e is = rw (operand_leads accesses scope depth opcodes.SizeOf w steps p x between asks, read, is) refl
 
-    type_gives : Gives accesses scope depth (object_type p) (w, suc steps) (type_number (type_of_referent y)) after
+    pub type_gives : Gives accesses scope depth (object_type p) (w, suc steps) (type_number (type_of_referent y)) after
     type_gives = (term_begins accesses (task scope depth (object_type p))).paid w steps ∙ type_so
 
-    size_gives : (n : ℕ) → size_in y after.0 ≡ (Ok (value.Integer n), after.0) → Gives accesses scope depth (size_of p) (w, suc steps) n after
+    pub size_gives : (n : ℕ) → size_in y after.0 ≡ (Ok (value.Integer n), after.0) → Gives accesses scope depth (size_of p) (w, suc steps) n after
     size_gives n is = (term_begins accesses (task scope depth (size_of p))).paid w steps ∙ size_so n is
 
     size_refuses : (e : Refusal) → size_in y after.0 ≡ (Err e, after.0) → IsRefused accesses scope depth (size_of p) (w, suc steps) e after

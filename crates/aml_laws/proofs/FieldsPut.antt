@@ -10,10 +10,10 @@ use Rattle.ar_space.specs.declared.refusal.Refusal.TheVariants as refusal
 use Rattle.ar_space.specs.declared.refusal.FieldFault.TheVariants.{FieldLimit}
 use Rattle.ar_space.specs.declared.refusal.ValueFault.TheVariants.{WrongType}
 use Rattle.aml_path.specs.declared.segment.Seg.{Seg}
-use Rattle.aml_path.specs.Paths.{Name}
+use Rattle.aml_path.specs.Paths.{Name, resolved}
 use Rattle.aml_grammar.specs.declared.opcode.TermCode.TheVariants as codes
 use Rattle.aml_grammar.specs.Tree.{Tree, inner, Trees, no_trees, tree}
-use Rattle.aml_grammar.specs.Apart.{code_of, operand_of}
+use Rattle.aml_grammar.specs.Apart.{code_of, name_of, operand_of}
 use Rattle.aml_objects.specs.declared.entry.FieldSource.{FieldSource}
 use Rattle.aml_objects.specs.declared.entry.FieldSource.TheVariants as sources
 use Rattle.aml_objects.specs.declared.entry.NamedObject.{NamedObject}
@@ -38,7 +38,7 @@ use Rattle.aml_meaning.specs.Terms.{number_of}
 use Rattle.aml_laws.specs.BankDeclarations.{bank_field, Finds, FindsField}
 use Rattle.aml_laws.specs.DeclaredObjects.{IsFree, TakesNoName, with_name}
 use Rattle.aml_laws.specs.FieldLists.{unit_at, moved_on}
-use Rattle.aml_laws.specs.FieldsPut.{NamesBits, IsSized, ConnectsTo, Puts, no_more, a_field, no_name, no_bits, reserved_bits, a_field_too_far, reserved_too_far, an_access, a_connection, a_named_connection, no_connection, no_buffer, PutsAll, TakesList}
+use Rattle.aml_laws.specs.FieldsPut.{NamesBits, IsSized, ConnectsTo, Puts, no_more, a_field, no_name, no_path, no_bits, reserved_bits, a_field_too_far, reserved_too_far, an_access, a_connection, a_named_connection, no_connection, no_buffer, PutsAll, TakesList}
 use Rattle.aml_laws.specs.RegionTerms.{field, index_field}
 use Rattle.aml_laws.proofs.BanksDeclared.{fields_declared}
 use Rattle.aml_laws.proofs.NamesDeclared.{new_name_so}
@@ -95,6 +95,10 @@ module _ {S : Type 0} (group : FieldGroup) (scope : List Seg) (depth : ℕ) (at 
     size_stops : (bits ≡ 0) ⊎ (8388608 < bits) → named_field group scope depth at t w ≡ (Err (refusal.Field FieldLimit), w)
     unfolding named_field new_field settle go_on ◌>>=◌
     size_stops none = rw (h.names, h.resolves, h.counts, no_size bits none) refl
+
+  path_stops : (n : Name) (e : Refusal) → name_of (operand_of t 0) ≡ Ok n → resolved n scope ≡ Err e → named_field group scope depth at t w ≡ (Err e, w)
+  unfolding named_field settle go_on ◌>>=◌
+  path_stops n e names none = rw (names, none) refl
 
   passed_over : (bits : ℕ) → number_of (operand_of t 0) ≡ Ok bits → at.bit_offset + bits < 2 ^ 64 → reserved_field group scope depth at t w ≡ (Ok (moved_on at bits), w)
   unfolding reserved_field settle go_on ◌>>=◌
@@ -165,6 +169,7 @@ module _ {S : Type 0} (group : FieldGroup) (scope : List Seg) (depth : ℕ) wher
       next_laid at (moved_on at bits) t ts w (with_name w path (object.FieldUnit (unit_at group at bits))) (rw h.code (field_put group scope depth at t w path bits h size near free))
       ∙ all_put (moved_on at bits) ts (with_name w path (object.FieldUnit (unit_at group at bits))) r after rest
   all_put _ _ _ _ _ (no_name at t ts w path bits e h size none) = list_stops at t ts w w e (rw h.code (field_stops group scope depth at t w path bits h e size none))
+  all_put _ _ _ _ _ (no_path at t ts w n e code names none) = list_stops at t ts w w e (rw code (path_stops group scope depth at t w n e names none))
   all_put _ _ _ _ _ (no_bits at t ts w path bits h none) = list_stops at t ts w w (refusal.Field FieldLimit) (rw h.code (size_stops group scope depth at t w path bits h none))
   all_put _ _ _ _ _ (reserved_bits at t ts w bits r after code counts near rest) = next_laid at (moved_on at bits) t ts w w (rw code (passed_over group scope depth at t w bits counts near)) ∙ all_put (moved_on at bits) ts w r after rest
   all_put _ _ _ _ _ (a_field_too_far at t ts w path bits h size far free) =

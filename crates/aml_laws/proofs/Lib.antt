@@ -81,9 +81,11 @@ pub mod Counting
 pub mod CountsPut
 pub mod CountsSought
 pub mod CountsTold
+pub mod CutItems
 pub mod DataBeyondLimits
 pub mod DataFormed
 pub mod DataNotFormed
+pub mod DataSeen
 pub mod DeadEnds
 pub mod DeadStores
 pub mod DecimalCodes
@@ -166,6 +168,7 @@ pub mod NamesOrdered
 pub mod NamesPredefined
 pub mod NamesSought
 pub mod NamesTyped
+pub mod NamesUnresolved
 pub mod NotesKept
 pub mod NothingLeft
 pub mod NothingPassed
@@ -213,6 +216,7 @@ pub mod ValuesOfTargets
 pub mod ValuesOfMatches
 pub mod ValuesOfWideTerms
 pub mod ValuesOfWorlds
+pub mod ValuesTold
 pub mod Invariants
 pub mod MeaningTogether
 pub mod MoreSteps

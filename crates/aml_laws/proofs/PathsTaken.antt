@@ -73,10 +73,25 @@ module _ {S : Type 0} (w : State S) (path : List Seg) where
   no_new_name o depth _ (below_method parent m level stands is) = rw (in_method depth parent m level stands is) refl
   no_new_name o depth _ (without_number parent stands outside free last) = rw (out_of_methods depth parent stands outside, put_without_number o parent stands free last) refl
 
+-- whichever term would declare a name, it is refused so, and nothing changes
+abbrev pub NotDeclared : {S : Type 0} → Accesses S → List Seg → ℕ → Name → State S × ℕ → Refusal → Type 0
+NotDeclared accesses scope depth n s e = (t : Tree) (place : ℕ) (o : NamedObject) → operand_of t place ≡ Some (name n) → declaring (meaning accesses) scope depth t place o s ≡ (Err e, s)
+
+module _ {S : Type 0} (accesses : Accesses S) (scope : List Seg) (depth : ℕ) (s : State S × ℕ) where
+  pub scope_ruled : (code : Opcode) (o : NamedObject) (i : ℕ) (t : Tree) → DeclaresScope code o i → code_of t ≡ codes.Opcode code → rule accesses (meaning accesses) (task scope depth t) s ≡ new_scope (meaning accesses) o i scope depth t s
+  unfolding rule
+  scope_ruled _ _ _ t of_device coded = rw coded refl
+  scope_ruled _ _ _ t of_processor coded = rw coded refl
+  scope_ruled _ _ _ t of_power_resource coded = rw coded refl
+  scope_ruled _ _ _ t of_thermal_zone coded = rw coded refl
+
 module _ {S : Type 0} (accesses : Accesses S) (scope : List Seg) (depth : ℕ) (n : Name) (path : List Seg) (is : resolved n scope ≡ Ok path) where
-  pub declaring_stops : (t : Tree) (place : ℕ) (o : NamedObject) (s : State S × ℕ) (e : Refusal) → operand_of t place ≡ Some (name n) → TakesNoName depth s.0 path e → declaring (meaning accesses) scope depth t place o s ≡ (Err e, s)
+  declaring_stops : (t : Tree) (place : ℕ) (o : NamedObject) (s : State S × ℕ) (e : Refusal) → operand_of t place ≡ Some (name n) → TakesNoName depth s.0 path e → declaring (meaning accesses) scope depth t place o s ≡ (Err e, s)
   unfolding declaring settle lift go_on ◌>>=◌
   declaring_stops t place o s e at h = rw (at, is, no_new_name s.0 path o depth e h) refl
+
+  pub taken_declares_none : (s : State S × ℕ) (e : Refusal) → TakesNoName depth s.0 path e → NotDeclared accesses scope depth n s e
+  taken_declares_none s e h = λ t place o at. declaring_stops t place o s e at h
 
   module _ (w : State S) (steps : ℕ) (e : Refusal) where
     name_stops : (x : Tree) (v : Value) (after : State S × ℕ) → GivesValue accesses scope depth x (w, steps) v after → TakesNoName depth after.0 path e → rule accesses (meaning accesses) (task scope depth (name_term n x)) (w, steps) ≡ (Err e, after)
@@ -118,15 +133,8 @@ module _ {S : Type 0} (accesses : Accesses S) (scope : List Seg) (depth : ℕ) (
     unfolding new_scope settle lift go_on ◌>>=◌
     new_scope_stops o i t at h = rw (at, is, no_new_name w path o depth e h) refl
 
-    scope_ruled : (code : Opcode) (o : NamedObject) (i : ℕ) (t : Tree) → DeclaresScope code o i → code_of t ≡ codes.Opcode code → rule accesses (meaning accesses) (task scope depth t) (w, steps) ≡ new_scope (meaning accesses) o i scope depth t (w, steps)
-    unfolding rule
-    scope_ruled _ _ _ t of_device coded = rw coded refl
-    scope_ruled _ _ _ t of_processor coded = rw coded refl
-    scope_ruled _ _ _ t of_power_resource coded = rw coded refl
-    scope_ruled _ _ _ t of_thermal_zone coded = rw coded refl
-
     pub scope_refused : (code : Opcode) (o : NamedObject) (i : ℕ) (t : Tree) → DeclaresScope code o i → code_of t ≡ codes.Opcode code → name_of (operand_of t 0) ≡ Ok n → TakesNoName depth w path e → IsRefused accesses scope depth t (w, suc steps) e (w, steps)
-    scope_refused code o i t declares coded at h = (term_begins accesses (task scope depth t)).paid w steps ∙ (scope_ruled code o i t declares coded ∙ new_scope_stops o i t at h)
+    scope_refused code o i t declares coded at h = (term_begins accesses (task scope depth t)).paid w steps ∙ (scope_ruled accesses scope depth (w, steps) code o i t declares coded ∙ new_scope_stops o i t at h)
 
 -- ---- aliases of nothing
 

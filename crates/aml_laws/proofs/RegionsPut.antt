@@ -29,7 +29,7 @@ use Rattle.aml_meaning.specs.State.{State}
 use Rattle.aml_meaning.specs.Tasks.{Task, task, operand_value, value_at, two_values}
 use Rattle.aml_meaning.specs.Terms.{kind_of}
 use Rattle.aml_laws.specs.BufferFieldTerms.{create, create_field, HasSize, of_bit, of_byte, of_word, of_double_word, of_quad_word, HasBits, bits_from}
-use Rattle.aml_laws.specs.DeclaredObjects.{IsFree, TakesNoName, with_name}
+use Rattle.aml_laws.specs.DeclaredObjects.{IsFree, with_name}
 use Rattle.aml_laws.specs.FieldsPut.{IsSized}
 use Rattle.aml_laws.specs.ObjectTerms.{Passes}
 use Rattle.aml_laws.specs.OperatorTerms.{GivesValue, IsRefused}
@@ -38,7 +38,7 @@ use Rattle.aml_laws.specs.TestTerms.{TwoValues}
 use Rattle.aml_laws.proofs.BufferFieldsDeclared.{field_there}
 use Rattle.aml_laws.proofs.FieldsPut.{size_is}
 use Rattle.aml_laws.proofs.NamesDeclared.{declaring_so}
-use Rattle.aml_laws.proofs.PathsTaken.{declaring_stops}
+use Rattle.aml_laws.proofs.PathsTaken.{NotDeclared}
 use Rattle.aml_laws.proofs.TreesCost.{term_begins}
 
 -- ---- operands, and then the name
@@ -57,7 +57,7 @@ module _ {S : Type 0} (ev : Task → Run S Flow) (scope : List Seg) (depth : ℕ
 
 -- ---- operation regions
 
-module _ {S : Type 0} (accesses : Accesses S) (scope : List Seg) (depth : ℕ) (n : Name) (path : List Seg) (is : resolved n scope ≡ Ok path) (w : State S) (steps space : ℕ) (offset size : Tree) (between after : State S × ℕ) (v u : Value) (x y : ℕ) (first : GivesValue accesses scope depth offset (w, steps) v between)
+module _ {S : Type 0} (accesses : Accesses S) (scope : List Seg) (depth : ℕ) (n : Name) (w : State S) (steps space : ℕ) (offset size : Tree) (between after : State S × ℕ) (v u : Value) (x y : ℕ) (first : GivesValue accesses scope depth offset (w, steps) v between)
     (second : GivesValue accesses scope depth size between u after) (begins : integer_in v after.0 ≡ (Ok x, after.0)) (long : integer_in u after.0 ≡ (Ok y, after.0)) where
   region_ruled : rule accesses (meaning accesses) (task scope depth (operation_region n space offset size)) (w, steps) ≡ region_rule (meaning accesses) scope depth (operation_region n space offset size) (w, steps)
   unfolding rule
@@ -66,19 +66,19 @@ module _ {S : Type 0} (accesses : Accesses S) (scope : List Seg) (depth : ℕ) (
   region_begins : meaning accesses (task scope depth (operation_region n space offset size)) (w, suc steps) ≡ declaring (meaning accesses) scope depth (operation_region n space offset size) 0 (named.OperationRegion (record { space = space % 256; offset = x; length = y })) after
   region_begins = (term_begins accesses (task scope depth (operation_region n space offset size))).paid w steps ∙ (region_ruled ∙ region_so (meaning accesses) scope depth n (w, steps) after space offset size between v u x y first second begins long)
 
-  pub region_put : space < 256 → IsFree depth after.0 path → Passes accesses scope depth (operation_region n space offset size) (w, suc steps) (with_name after.0 path (named.OperationRegion (record { space = space; offset = x; length = y })), after.1)
-  region_put small free =
+  pub region_put : (path : List Seg) → resolved n scope ≡ Ok path → space < 256 → IsFree depth after.0 path → Passes accesses scope depth (operation_region n space offset size) (w, suc steps) (with_name after.0 path (named.OperationRegion (record { space = space; offset = x; length = y })), after.1)
+  region_put path is small free =
       let byte : space % 256 ≡ space = omega arith in
       region_begins
       ∙ (declaring_so accesses scope depth n path is (operation_region n space offset size) 0 (named.OperationRegion (record { space = space % 256; offset = x; length = y })) after refl free
       ∙ ap (λ k. (Ok flow.Next, (with_name after.0 path (named.OperationRegion (record { space = k; offset = x; length = y })), after.1))) byte)
 
-  pub region_not_put : (e : Refusal) → TakesNoName depth after.0 path e → IsRefused accesses scope depth (operation_region n space offset size) (w, suc steps) e after
-  region_not_put e none = region_begins ∙ declaring_stops accesses scope depth n path is (operation_region n space offset size) 0 (named.OperationRegion (record { space = space % 256; offset = x; length = y })) after e refl none
+  pub region_not_put : (e : Refusal) → NotDeclared accesses scope depth n after e → IsRefused accesses scope depth (operation_region n space offset size) (w, suc steps) e after
+  region_not_put e none = region_begins ∙ none (operation_region n space offset size) 0 (named.OperationRegion (record { space = space % 256; offset = x; length = y })) refl
 
 -- ---- fields of buffers
 
-module _ {S : Type 0} (accesses : Accesses S) (scope : List Seg) (depth : ℕ) (n : Name) (path : List Seg) (is : resolved n scope ≡ Ok path) (w : State S) (steps o i : ℕ) (after : State S × ℕ) (e : Refusal) (none : TakesNoName depth after.0 path e) where
+module _ {S : Type 0} (accesses : Accesses S) (scope : List Seg) (depth : ℕ) (n : Name) (w : State S) (steps o i : ℕ) (after : State S × ℕ) (e : Refusal) (none : NotDeclared accesses scope depth n after e) where
   create_ruled : (op : Opcode) (size : BufferFieldSize) (x y : Tree) → kind_of op ≡ kinds.Region (regions.SizedBufferField size) → rule accesses (meaning accesses) (task scope depth (create op x y n)) (w, steps) ≡ sized_field_rule (meaning accesses) size scope depth (create op x y n) (w, steps)
   unfolding rule
   create_ruled op size x y kind = rw kind refl
@@ -87,7 +87,7 @@ module _ {S : Type 0} (accesses : Accesses S) (scope : List Seg) (depth : ℕ) (
       → HasBits after.0 o (bits_of_step size * i + bits_of_size size) → IsRefused accesses scope depth (create op x y n) (w, suc steps) e after
   create_stops op size x y u kind h converts room =
       (term_begins accesses (task scope depth (create op x y n))).paid w steps
-      ∙ (create_ruled op size x y kind ∙ (sized_so (meaning accesses) scope depth n (w, steps) after op size x y h.between o i u h.first h.second converts room ∙ declaring_stops accesses scope depth n path is (create op x y n) 2 (named.BufferField (bits_from o (bits_of_step size * i) (bits_of_size size))) after e refl none))
+      ∙ (create_ruled op size x y kind ∙ (sized_so (meaning accesses) scope depth n (w, steps) after op size x y h.between o i u h.first h.second converts room ∙ none (create op x y n) 2 (named.BufferField (bits_from o (bits_of_step size * i) (bits_of_size size))) refl))
 
   pub sized_field_not_put : (op : Opcode) (step count : ℕ) (x y : Tree) (u : Value) → HasSize op step count → TwoValues accesses scope depth x y (w, steps) (value.Buffer o) u after → integer_in u after.0 ≡ (Ok i, after.0) → HasBits after.0 o (step * i + count)
       → IsRefused accesses scope depth (create op x y n) (w, suc steps) e after
@@ -107,4 +107,4 @@ module _ {S : Type 0} (accesses : Accesses S) (scope : List Seg) (depth : ℕ) (
       → integer_in u after.0 ≡ (Ok i, after.0) → integer_in v after.0 ≡ (Ok k, after.0) → IsSized k → HasBits after.0 o (i + k) → IsRefused accesses scope depth (create_field x y z n) (w, suc steps) e after
   field_not_put x y z one other u v k first second third converts counts sized room =
       (term_begins accesses (task scope depth (create_field x y z n))).paid w steps
-      ∙ (create_field_so x y z one other u v k first second third converts counts sized room ∙ declaring_stops accesses scope depth n path is (create_field x y z n) 3 (named.BufferField (bits_from o i k)) after e refl none)
+      ∙ (create_field_so x y z one other u v k first second third converts counts sized room ∙ none (create_field x y z n) 3 (named.BufferField (bits_from o i k)) refl)

@@ -49,8 +49,8 @@ abbrev pub ConnectsTo : Tree → Name → Type 0
 ConnectsTo t n = (code_of t ≡ codes.ConnectField) × (operand_of t 0 ≡ Some (name n))
 
 -- Element by element, with how many control methods being called: a named one is declared where its path is free and
--- is refused where the path takes no name, as each declaration is, and by the limit of fields where it has no bit or
--- too many. What elements in front of it declared stays. Where an element ends at 2^64 bits or behind them, the list
+-- is refused where the path takes no name and where its name stands for no path, as each declaration is, and by the
+-- limit of fields where it has no bit or too many. What elements in front of it declared stays. Where an element ends at 2^64 bits or behind them, the list
 -- is refused by that limit: a named one is declared before. A Connection that is a term isn't evaluated, and one that is
 -- a name has to find a buffer; neither moves the fields behind it.
 pub data Puts {S : Type 0} (group : FieldGroup) (scope : List Seg) (depth : ℕ) : FieldLayout → Trees → State S → Outcome (Unit {0}) → State S → Type 0 where
@@ -58,6 +58,7 @@ pub data Puts {S : Type 0} (group : FieldGroup) (scope : List Seg) (depth : ℕ)
   a_field : (at : FieldLayout) (t : Tree) (ts : Trees) (w : State S) (path : List Seg) (bits : ℕ) (r : Outcome (Unit {0})) (after : State S) → NamesBits scope t path bits → IsSized bits → at.bit_offset + bits < 2 ^ 64 → IsFree depth w path
       → Puts group scope depth (moved_on at bits) ts (with_name w path (object.FieldUnit (unit_at group at bits))) r after → Puts group scope depth at (tree t ts) w r after
   no_name : (at : FieldLayout) (t : Tree) (ts : Trees) (w : State S) (path : List Seg) (bits : ℕ) (e : Refusal) → NamesBits scope t path bits → IsSized bits → TakesNoName depth w path e → Puts group scope depth at (tree t ts) w (Err e) w
+  no_path : (at : FieldLayout) (t : Tree) (ts : Trees) (w : State S) (n : Name) (e : Refusal) → code_of t ≡ codes.NamedField → name_of (operand_of t 0) ≡ Ok n → resolved n scope ≡ Err e → Puts group scope depth at (tree t ts) w (Err e) w
   no_bits : (at : FieldLayout) (t : Tree) (ts : Trees) (w : State S) (path : List Seg) (bits : ℕ) → NamesBits scope t path bits → (bits ≡ 0) ⊎ (8388608 < bits) → Puts group scope depth at (tree t ts) w (Err (refusal.Field FieldLimit)) w
   reserved_bits : (at : FieldLayout) (t : Tree) (ts : Trees) (w : State S) (bits : ℕ) (r : Outcome (Unit {0})) (after : State S) → code_of t ≡ codes.ReservedField → number_of (operand_of t 0) ≡ Ok bits → at.bit_offset + bits < 2 ^ 64
       → Puts group scope depth (moved_on at bits) ts w r after → Puts group scope depth at (tree t ts) w r after

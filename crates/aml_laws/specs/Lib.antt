@@ -19,6 +19,7 @@ pub mod Counted
 pub mod CountedEvaluations
 pub mod CountedTrees
 pub mod CountsTold
+pub mod DataSeen
 pub mod DataTerms
 pub mod DeclaredObjects
 pub mod Declares

@@ -1,6 +1,6 @@
 -- Operands that name targets, by themselves or behind RefOf, DerefOf and Index (ACPI 6.5, 20.2.2: SuperName), and
 -- values that SizeOf and ObjectType tell of.
-use Rattle.std.specs.Prelude.{◌≡◌, ◌≢◌, ◌≤◌, ℕ, List, None, Err}
+use Rattle.std.specs.Prelude.{◌≡◌, ◌≢◌, ◌≤◌, ◌<◌, ℕ, List, None, Err}
 use Rattle.ar_space.specs.Accesses.{Accesses}
 use Rattle.ar_space.specs.declared.refusal.Refusal.{Refusal}
 use Rattle.aml_path.specs.declared.segment.Seg.{Seg}
@@ -21,6 +21,7 @@ use Rattle.aml_meaning.specs.declared.store_target.StoreTarget.TheVariants as ta
 use Rattle.aml_meaning.specs.Meaning.{meaning}
 use Rattle.aml_meaning.specs.State.{State}
 use Rattle.aml_meaning.specs.TargetTerms.{target_of}
+use Rattle.aml_laws.specs.Dereferenced.{IsEmpty, Leads}
 use Rattle.aml_laws.specs.Limits.{Chain}
 use Rattle.aml_laws.specs.OperatorTerms.{of_opcode, NamesTarget}
 use Rattle.aml_laws.specs.ReferringTargets.{NamesBehind}
@@ -50,7 +51,8 @@ pub data IsReferring : Tree → Type 0 where
   of_derefof : (ps : Parts) → IsReferring (of_opcode opcodes.DerefOf ps)
   of_index : (ps : Parts) → IsReferring (of_opcode opcodes.Index ps)
 
--- what a value stands for in the end: for itself, or for what at most 64 references lead to
+-- what a value stands for in the end: for itself, or for what at most 64 references lead to, a slot or an element without a value too
 pub data EndsAt {S : Type 0} (w : State S) : Value → Referent → Type 0 where
   to_itself : (v : Value) → ((r : Reference) → v ≢ value.Reference r) → EndsAt w v (referent.Value v)
   through_references : (r : Reference) (k : ℕ) (x : Referent) → Chain w k r x → k ≤ 64 → EndsAt w (value.Reference r) x
+  to_nothing : (r q : Reference) (k : ℕ) → Leads w k r q → k < 64 → IsEmpty w q → EndsAt w (value.Reference r) (referent.Value value.Uninitialized)

@@ -1,5 +1,5 @@
 //! Calls of control methods.
-ghost use Rattle.std.specs.Prelude.{◌≡◌, ◌+◌, ◌%◌, ◌∷◌, ◌++◌, ℕ, suc, List, length, true, false, Some, None, Ok, Err};
+ghost use Rattle.std.specs.Prelude.{◌≡◌, ◌<◌, ◌+◌, ◌%◌, ◌∷◌, ◌++◌, ℕ, suc, List, length, true, false, Some, None, Ok, Err};
 ghost use Rattle.std.specs.FinMap.{get};
 ghost use Rattle.ar_space.specs.Accesses.{Accesses};
 ghost use Rattle.ar_space.specs.declared.refusal.Refusal.{Refusal};
@@ -61,9 +61,10 @@ pub fn a_call_begins_with_its_arguments<S>()
 
 /// A call evaluates the terms of its body in turn, in the path of its control method and one call deeper, and gives
 /// what a Return in it gave; where the body comes to its end it gives nothing, and where it is refused it is refused
-/// so. What it gives is the value of the call, and where it gives nothing the call has no value. It takes the steps
-/// of its body and no others. A value that is lost, or a body that begins elsewhere is refused by this. That a list
-/// ends at a Return `items_are_evaluated_one_after_another` says.
+/// so. A call whose body doesn't begin is refused for that, and changes nothing. What a body gives is the value of the
+/// call, and where it gives nothing the call has no value. It takes the steps of its body and no others. A value that
+/// is lost, a body that begins elsewhere, and a call that passes where its body doesn't begin, are refused by this.
+/// That a list ends at a Return `items_are_evaluated_one_after_another` says.
 pub fn a_call_gives_what_its_body_returns<S>()
     ensures returned { (accesses : Accesses S) (depth : ℕ) (p : List Seg) (body : List ℕ) (arguments : List Value)
         (before inside : State S) (steps n : ℕ) → body_frame depth p body arguments before ≡ (Ok n, inside) →
@@ -81,6 +82,9 @@ pub fn a_call_gives_what_its_body_returns<S>()
         (ts : Trees) → body_terms p body before ≡ (Ok ts, before) → (end : State S × ℕ) (e : Refusal) →
         in_turn (meaning accesses) p (depth + 1) ts (inside, steps) ≡ (Err e, end) →
         invoked (meaning accesses) depth p body arguments (before, steps) ≡ (Err e, (left p end.0, end.1)) }
+    ensures not_begun { (accesses : Accesses S) (depth : ℕ) (p : List Seg) (body : List ℕ) (arguments : List Value)
+        (s : State S × ℕ) (e : Refusal) → (body_frame depth p body arguments s.0).0 ≡ Err e →
+        invoked (meaning accesses) depth p body arguments s ≡ (Err e, s) }
     ensures value { (accesses : Accesses S) (depth : ℕ) (p : List Seg) (body : List ℕ) (arguments : List Value)
         (s after : State S × ℕ) (v : Value) →
         invoked (meaning accesses) depth p body arguments s ≡ (Ok (flow.Value v), after) →
@@ -132,16 +136,22 @@ pub fn a_call_evaluates_its_arguments_in_turn<S>()
 
 /// The body of a control method is read as a body, so that a Return may stand in it, in the path of its control method,
 /// within the levels that are allowed, and with the numbers of arguments that names take where it is called. Where it
-/// can't be read the call is refused so. In it a name takes as many arguments as the control method that stands at its
-/// path, or to which an alias there leads; none where something else stands, or an alias that leads to something else
-/// or to nothing; and where nothing stands, as many as an External told last, which is not known where none told of it.
-/// Names that are declared while a table is evaluated are among them.
+/// can't be read, a call that may be made is refused for what is wrong in the body and where, and changes nothing. In it
+/// a name takes as many arguments as the control method that stands at its path, or to which an alias there leads; none
+/// where something else stands, or an alias that leads to something else or to nothing; and where nothing stands, as
+/// many as an External told last, which is not known where none told of it. Names that are declared while a table is
+/// evaluated are among them. A body that can't be read and counts as one without terms is refused by this, and one that
+/// is refused as a call that is too deep.
 pub fn a_body_is_read_under_its_own_path<S>()
     ensures read { (w : State S) (p : List Seg) (body : List ℕ) (ts : List Tree) →
         reading_within w.nesting.levels body p true (body_arities w) ≡ Ok ts →
         body_terms p body w ≡ (Ok (trees_of ts), w) }
     ensures refused { (w : State S) (p : List Seg) (body : List ℕ) (e : Refusal) →
         reading_within w.nesting.levels body p true (body_arities w) ≡ Err e → body_terms p body w ≡ (Err e, w) }
+    ensures uncalled { (accesses : Accesses S) (depth : ℕ) (p : List Seg) (body : List ℕ) (arguments : List Value)
+        (w : State S) (steps : ℕ) (e : Refusal) → depth < 32 → depth < w.nesting.calls →
+        reading_within w.nesting.levels body p true (body_arities w) ≡ Err e →
+        invoked (meaning accesses) depth p body arguments (w, steps) ≡ (Err e, (w, steps)) }
     ensures method { (w : State S) (path : List Seg) (e : Entry) (m : Method) → get w.names.map path ≡ Some e →
         e.object ≡ named.Method m → arity_at (body_arities w) path ≡ Some (m.flags.byte % 8) }
     ensures alias { (w : State S) (path at : List Seg) (e other : Entry) (m : Method) →

@@ -1,5 +1,5 @@
 //! What terms that declare names leave at their paths.
-ghost use Rattle.std.specs.Prelude.{◌≡◌, ◌<◌, ℕ, suc, List, Some, Ok, Err};
+ghost use Rattle.std.specs.Prelude.{◌≡◌, ◌<◌, ◌+◌, ◌*◌, ℕ, suc, List, Some, Ok, Err};
 ghost use Rattle.ar_space.specs.Accesses.{Accesses};
 ghost use Rattle.ar_space.specs.declared.refusal.Refusal.{Refusal};
 ghost use Rattle.aml_path.specs.declared.segment.Seg.{Seg};
@@ -13,11 +13,17 @@ ghost use Rattle.aml_objects.specs.declared.entry.Entry.{Entry};
 ghost use Rattle.aml_objects.specs.declared.entry.NamedObject.{NamedObject};
 ghost use Rattle.aml_objects.specs.declared.entry.NamedObject.TheVariants as named;
 ghost use Rattle.aml_objects.specs.declared.value.Value.{Value};
+ghost use Rattle.aml_objects.specs.declared.value.Value.TheVariants as value;
 ghost use Rattle.aml_namespace.specs.Search.{found};
 ghost use Rattle.aml_meaning.specs.Meaning.{meaning};
+ghost use Rattle.aml_meaning.specs.Readings.{integer_in};
 ghost use Rattle.aml_meaning.specs.State.{State};
 ghost use Rattle.aml_meaning.specs.Tasks.{task, in_turn};
+ghost use Rattle.aml_laws.specs.BufferFieldTerms.{create, create_field, HasSize, HasBits};
+ghost use Rattle.aml_laws.specs.FieldsPut.{IsSized};
 ghost use Rattle.aml_laws.specs.OperatorTerms.{of_opcode, GivesValue, IsRefused};
+ghost use Rattle.aml_laws.specs.RegionTerms.{operation_region};
+ghost use Rattle.aml_laws.specs.TestTerms.{TwoValues};
 ghost use Rattle.aml_laws.specs.ObjectTerms.{Passes};
 ghost use Rattle.aml_laws.specs.InnerLists.{DeclaresScope};
 ghost use Rattle.aml_laws.specs.DeclaredObjects.{name_term, method_term, alias_term, mutex_term, event_term, method_of, IsFree, TakesNoName, with_name};
@@ -105,4 +111,52 @@ pub fn a_path_that_takes_no_name_refuses_declarations<S>()
         (i : ℕ) (t : Tree) → DeclaresScope code o i → code_of t ≡ codes.Opcode code →
         name_of (operand_of t 0) ≡ Ok n → TakesNoName depth w path e →
         IsRefused accesses scope depth t (w, suc steps) e (w, steps) }
+{}
+
+/// A name that leads above the root, and the null name, stand for no path (`a_name_is_declared_at_one_path`): a term
+/// that would declare one is refused for that, and declares nothing (ACPI 6.5, 5.3). A Name, an OperationRegion and a
+/// CreateField or its like are refused so once their other operands are evaluated, an Alias once its source is found,
+/// and the others at once. A name that leads above the root and is declared below the root is refused by this.
+pub fn a_name_without_a_path_refuses_declarations<S>()
+    ensures name { (accesses : Accesses S) (scope : List Seg) (depth : ℕ) (n : Name) (e : Refusal) →
+        resolved n scope ≡ Err e → (w : State S) (steps : ℕ) (x : Tree) (v : Value) (after : State S × ℕ) →
+        GivesValue accesses scope depth x (w, steps) v after →
+        IsRefused accesses scope depth (name_term n x) (w, suc steps) e after }
+    ensures method { (accesses : Accesses S) (scope : List Seg) (depth : ℕ) (n : Name) (e : Refusal) →
+        resolved n scope ≡ Err e → (w : State S) (steps flags : ℕ) (body : List ℕ) →
+        IsRefused accesses scope depth (method_term n flags body) (w, suc steps) e (w, steps) }
+    ensures an_alias { (accesses : Accesses S) (scope : List Seg) (depth : ℕ) (n : Name) (e : Refusal) →
+        resolved n scope ≡ Err e → (w : State S) (steps : ℕ) (source : Name) (target : List Seg) (there : Entry) →
+        found w.names.map scope source ≡ Ok (target, there) →
+        IsRefused accesses scope depth (alias_term source n) (w, suc steps) e (w, steps) }
+    ensures mutex { (accesses : Accesses S) (scope : List Seg) (depth : ℕ) (n : Name) (e : Refusal) →
+        resolved n scope ≡ Err e → (w : State S) (steps level : ℕ) →
+        IsRefused accesses scope depth (mutex_term n level) (w, suc steps) e (w, steps) }
+    ensures event { (accesses : Accesses S) (scope : List Seg) (depth : ℕ) (n : Name) (e : Refusal) →
+        resolved n scope ≡ Err e → (w : State S) (steps : ℕ) →
+        IsRefused accesses scope depth (event_term n) (w, suc steps) e (w, steps) }
+    ensures a_scope { (accesses : Accesses S) (scope : List Seg) (depth : ℕ) (n : Name) (e : Refusal) →
+        resolved n scope ≡ Err e → (w : State S) (steps : ℕ) (code : Opcode) (o : NamedObject) (i : ℕ) (t : Tree) →
+        DeclaresScope code o i → code_of t ≡ codes.Opcode code → name_of (operand_of t 0) ≡ Ok n →
+        IsRefused accesses scope depth t (w, suc steps) e (w, steps) }
+    ensures region { (accesses : Accesses S) (scope : List Seg) (depth : ℕ) (n : Name) (e : Refusal) →
+        resolved n scope ≡ Err e → (w : State S) (steps space : ℕ) (offset size : Tree) (between after : State S × ℕ)
+        (v u : Value) (x y : ℕ) → GivesValue accesses scope depth offset (w, steps) v between →
+        GivesValue accesses scope depth size between u after → integer_in v after.0 ≡ (Ok x, after.0) →
+        integer_in u after.0 ≡ (Ok y, after.0) →
+        IsRefused accesses scope depth (operation_region n space offset size) (w, suc steps) e after }
+    ensures sized { (accesses : Accesses S) (scope : List Seg) (depth : ℕ) (n : Name) (e : Refusal) →
+        resolved n scope ≡ Err e → (w : State S) (steps o i : ℕ) (after : State S × ℕ) (op : Opcode) (step count : ℕ)
+        (x y : Tree) (u : Value) → HasSize op step count →
+        TwoValues accesses scope depth x y (w, steps) (value.Buffer o) u after →
+        integer_in u after.0 ≡ (Ok i, after.0) → HasBits after.0 o (step * i + count) →
+        IsRefused accesses scope depth (create op x y n) (w, suc steps) e after }
+    ensures any { (accesses : Accesses S) (scope : List Seg) (depth : ℕ) (n : Name) (e : Refusal) →
+        resolved n scope ≡ Err e → (w : State S) (steps o i : ℕ) (after : State S × ℕ) (x y z : Tree)
+        (one other : State S × ℕ) (u v : Value) (k : ℕ) →
+        GivesValue accesses scope depth x (w, steps) (value.Buffer o) one →
+        GivesValue accesses scope depth y one u other → GivesValue accesses scope depth z other v after →
+        integer_in u after.0 ≡ (Ok i, after.0) → integer_in v after.0 ≡ (Ok k, after.0) → IsSized k →
+        HasBits after.0 o (i + k) →
+        IsRefused accesses scope depth (create_field x y z n) (w, suc steps) e after }
 {}

@@ -32,13 +32,14 @@ ghost use Rattle.aml_laws.specs.TestTerms.{TwoValues};
 /// stand (ACPI 6.5, 5.3 and 20.2.5.2): at a path that is free, below a name that stands; at module level not below a
 /// control method, but in a control method that is called also below it. The first one whose path takes no name refuses
 /// the list as it refuses each declaration: as `Exists` where a name stands there, as too much where no number is left,
-/// and else as `NotFound`. A field without a bit, or with more than 8,388,608, refuses it by the limit of fields, and
-/// so does an element behind which no offset below 2^64 is left, which is declared before that. The fields in front
-/// stay, and nothing else changes. Where a Connection stands in the list, which the wide profile takes, nothing is
-/// evaluated, and the next field begins where it would without it; the name of one has to find a buffer, or the list is
-/// refused there. A list that declares fields in a control method at module level, one that a control method can't
-/// declare, one that the wide profile refuses for a Connection, and one without a Connection that the core profile
-/// refuses, are refused by this.
+/// and else as `NotFound`; so does a name that stands for no path, as one that leads above the root. A field without a
+/// bit, or with more than 8,388,608, refuses it by the limit of fields, and so does an element behind which no offset
+/// below 2^64 is left, which is declared before that. The fields in front stay, and nothing else changes. Where a
+/// Connection stands in the list, which the wide profile takes, nothing is evaluated, and the next field begins where
+/// it would without it; the name of one has to find a buffer, or the list is refused there. A list that declares fields
+/// in a control method at module level, one that a control method can't declare, one that the wide profile refuses for
+/// a Connection, one without a Connection that the core profile refuses, and a field above the root that is declared
+/// below it, are refused by this.
 pub fn fields_stand_where_names_may_stand<S>()
     ensures region { (accesses : Accesses S) (scope : List Seg) (depth flags : ℕ) (fields : Trees) (w : State S)
         (steps : ℕ) → TakesList w fields → (region : Name) (number : ℕ) (g : OperationRegion) →

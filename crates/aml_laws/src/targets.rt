@@ -33,7 +33,7 @@ ghost use Rattle.aml_laws.specs.FieldsLedTo.{AsksOf, HasNoSize};
 ghost use Rattle.aml_laws.specs.ObjectTerms.{acquire, on_target, on_target_with, Passes, Declared, Undeclared};
 ghost use Rattle.aml_laws.specs.OperatorTerms.{one_to, GivesValue, GivesNothing, Gives, IsRefused};
 ghost use Rattle.aml_laws.specs.ReferringTerms.{HasParts, size_of, object_type, IsNumbered};
-ghost use Rattle.aml_laws.specs.TargetsNamed.{NamesAt, NamesNone, NamesGone, IsReferring, EndsAt};
+ghost use Rattle.aml_laws.specs.TargetsNamed.{NamesAt, NamesNone, NamesGone, IsReferring};
 
 /// Acquire and Release act on the mutex that their operand names, also behind a RefOf or a DerefOf
 /// (`a_term_that_refers_names_its_target`), as `acquisitions_are_counted_one_by_one` says of what it names (ACPI 6.5,
@@ -158,22 +158,29 @@ pub fn a_wait_finds_its_event_and_then_its_timeout<S>()
         (on_target_with opcodes.Wait p x) (w, suc steps) e after) }
 {}
 
-/// SizeOf and ObjectType of a RefOf, a DerefOf or an Index evaluate it, and tell of its value: of the value itself, or
-/// where this is a reference, of what at most 64 references lead to (ACPI 6.5, 19.6: ObjectType, SizeOf). Where it is
-/// refused, they are. An ObjectType of a RefOf that tells of a reference is refused by this.
+/// SizeOf and ObjectType tell of what their operand leads to in the end (ACPI 6.5, 19.6: ObjectType, SizeOf). A RefOf, a
+/// DerefOf or an Index is evaluated, and leads there by its value; a local, an argument or a name leads there by what it
+/// holds. A value stands for itself, and where it is a reference, for what at most 64 references lead to. Where that
+/// is a slot or an element without a value, ObjectType gives 0, and SizeOf is refused as `NoValue`. Where a RefOf, a
+/// DerefOf or an Index is refused, they are. An ObjectType of a RefOf, and one of a local that holds a reference, that
+/// tell of the reference, and one that is refused where a reference leads to an empty element, are refused by this.
 pub fn sizes_and_types_are_told_of_what_values_lead_to<S>()
-    ensures sizes { (accesses : Accesses S) (scope : List Seg) (depth : ℕ) (u : Tree) (w : State S) (steps : ℕ) →
-        IsReferring u → (v r : Value) (n : ℕ) (f : ℕ → Reference) (after : State S × ℕ) →
-        GivesValue accesses scope depth u (w, steps) v after → EndsAt after.0 v (referent.Value r) →
-        HasParts after.0 r n f → Gives accesses scope depth (size_of (inner u)) (w, suc steps) n after }
-    ensures types { (accesses : Accesses S) (scope : List Seg) (depth : ℕ) (u : Tree) (w : State S) (steps : ℕ) →
-        IsReferring u → (v r : Value) (k : ℕ) (after : State S × ℕ) →
-        GivesValue accesses scope depth u (w, steps) v after → EndsAt after.0 v (referent.Value r) → IsNumbered r k →
-        Gives accesses scope depth (object_type (inner u)) (w, suc steps) k after }
-    ensures named_types { (accesses : Accesses S) (scope : List Seg) (depth : ℕ) (u : Tree) (w : State S)
-        (steps : ℕ) → IsReferring u → (v : Value) (t : ObjectType) (after : State S × ℕ) →
-        GivesValue accesses scope depth u (w, steps) v after → EndsAt after.0 v (referent.Object t) →
-        Gives accesses scope depth (object_type (inner u)) (w, suc steps) (type_number t) after }
+    ensures sizes { (accesses : Accesses S) (scope : List Seg) (depth : ℕ) (p : Part) (w : State S) (steps : ℕ)
+        (r : Value) (n : ℕ) (f : ℕ → Reference) (after : State S × ℕ) →
+        AsksOf accesses scope depth (w, steps) p (referent.Value r) after → HasParts after.0 r n f →
+        Gives accesses scope depth (size_of p) (w, suc steps) n after }
+    ensures types { (accesses : Accesses S) (scope : List Seg) (depth : ℕ) (p : Part) (w : State S) (steps : ℕ)
+        (r : Value) (k : ℕ) (after : State S × ℕ) →
+        AsksOf accesses scope depth (w, steps) p (referent.Value r) after → IsNumbered r k →
+        Gives accesses scope depth (object_type p) (w, suc steps) k after }
+    ensures named_types { (accesses : Accesses S) (scope : List Seg) (depth : ℕ) (p : Part) (w : State S)
+        (steps : ℕ) (t : ObjectType) (after : State S × ℕ) →
+        AsksOf accesses scope depth (w, steps) p (referent.Object t) after →
+        Gives accesses scope depth (object_type p) (w, suc steps) (type_number t) after }
+    ensures no_value { (accesses : Accesses S) (scope : List Seg) (depth : ℕ) (p : Part) (w : State S) (steps : ℕ)
+        (after : State S × ℕ) → AsksOf accesses scope depth (w, steps) p (referent.Value value.Uninitialized) after →
+        Gives accesses scope depth (object_type p) (w, suc steps) 0 after ×
+        IsRefused accesses scope depth (size_of p) (w, suc steps) (refusal.Evaluation NoValue) after }
     ensures refused { (accesses : Accesses S) (scope : List Seg) (depth : ℕ) (u : Tree) (w : State S) (steps : ℕ) →
         IsReferring u → (e : Refusal) (after : State S × ℕ) → IsRefused accesses scope depth u (w, steps) e after →
         IsRefused accesses scope depth (size_of (inner u)) (w, suc steps) e after ×

@@ -1,4 +1,5 @@
-use Rattle.aml_laws.proofs.BodiesRead.{body_is_read, body_is_refused, method_counts, alias_counts, others_take_none, other_aliases_take_none}
+use Rattle.aml_meaning.specs.Meaning.{meaning}
+use Rattle.aml_laws.proofs.BodiesRead.{body_is_read, body_is_refused, unread_is_refused, method_counts, alias_counts, others_take_none, other_aliases_take_none}
 use Rattle.aml_laws.proofs.CountsTold.{body_told, body_untold}
 use Rattle.aml_laws.proofs.calls.a_body_is_read_under_its_own_path.Goals as goal
 
@@ -7,6 +8,9 @@ returns-clause-read g c = body_is_read
 
 pub returns-clause-refused : goal.returns-clause-refused
 returns-clause-refused g c = body_is_refused
+
+pub returns-clause-uncalled : goal.returns-clause-uncalled
+returns-clause-uncalled g c = λ accesses depth p body arguments w. unread_is_refused w (meaning accesses) depth p body arguments
 
 pub returns-clause-method : goal.returns-clause-method
 returns-clause-method g c = method_counts
