@@ -62,3 +62,4 @@ pub mod RefusedTerms
 pub mod RefusedFirst
 pub mod RefusedWhole
 pub mod WithinLevels
+pub mod PathTexts

@@ -5,6 +5,7 @@
 mod encoding;
 mod laws;
 mod names;
+mod paths;
 
 pub use encoding::opcodes_have_their_bytes_and_operands;
 pub use laws::{
@@ -14,4 +15,7 @@ pub use laws::{
 };
 pub use names::{
     a_name_segment_has_four_characters, lists_are_read_and_names_declared_in_their_scope,
+};
+pub use paths::{
+    a_path_is_written_with_all_its_characters, a_text_is_read_as_the_path_that_it_writes,
 };
