@@ -12,6 +12,7 @@ pub use laws::{
     faults_depend_on_no_later_byte, names_are_refused_exactly_if_faulty,
     parts_are_refused_exactly_if_faulty, read_exactly_if_spelled,
     read_within_levels_exactly_if_spelled, refused_exactly_if_faulty,
+    refused_within_levels_exactly_if_faulty,
 };
 pub use names::{
     a_name_segment_has_four_characters, lists_are_read_and_names_declared_in_their_scope,
