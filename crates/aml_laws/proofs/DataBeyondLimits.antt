@@ -46,7 +46,7 @@ module _ {S : Type 0} (w : State S) where
       behind_too_much (each_imported (package_imported n) gs [] (over w h)) (λ es. on_objects (make_package es)) a.given (over w (h ++ a.made)) a.is (not_packed (h ++ a.made) a.given (omega (arith, sum, so_many, full)))
 
   -- the first has no room, or those behind it
-  all_by : (deep count rest : ℕ) (g : Given) (gs : Givens) (done : List Element) (h : Objects) → MayBeHandedIn w.names.map deep count g → 262144 < length h + (count + rest)
+  pub all_by : (deep count rest : ℕ) (g : Given) (gs : Givens) (done : List Element) (h : Objects) → MayBeHandedIn w.names.map deep count g → 262144 < length h + (count + rest)
       → (262144 < length h + count → IsTooMuch (imported_by (package_imported deep) g (over w h)))
       → ((made : Objects) (c : Element) → length (h ++ made) ≤ 262144 → 262144 < length (h ++ made) + rest → IsTooMuch (each_imported (package_imported deep) gs (done ++ c ∷ []) (over w (h ++ made))))
       → (262144 < length h + count) ⊎ (length h + count ≤ 262144) → IsTooMuch (go_on (imported_by (package_imported deep) g (over w h)).0 (imported_by (package_imported deep) g (over w h)).1 (λ v. each_imported (package_imported deep) gs (done ++ element.Value v ∷ [])))
@@ -61,7 +61,7 @@ module _ {S : Type 0} (w : State S) where
   mutual
     unfolding each_imported ◌>>=◌
 
-    given_has_no_room : (deep count : ℕ) (g : Given) (h : Objects) → MayBeHandedIn w.names.map deep count g → length h ≤ 262144 → 262144 < length h + count → IsTooMuch (imported_by (package_imported deep) g (over w h))
+    pub given_has_no_room : (deep count : ℕ) (g : Given) (h : Objects) → MayBeHandedIn w.names.map deep count g → length h ≤ 262144 → 262144 < length h + count → IsTooMuch (imported_by (package_imported deep) g (over w h))
     given_has_no_room deep _ _ h (nothing _) room full = absurd (omega (arith, room, full))
     given_has_no_room deep _ _ h (integer _ n) room full = absurd (omega (arith, room, full))
     given_has_no_room deep _ _ h (text _ bytes short) room full = text_has_no_room h bytes (omega (arith, full))
@@ -69,13 +69,13 @@ module _ {S : Type 0} (w : State S) where
     given_has_no_room deep _ _ h (named _ path at entry other stands leads) room full = absurd (omega (arith, room, full))
     given_has_no_room _ _ _ h (of_package deep count gs few all) room full = package_by deep count gs h all full (λ too_many. all_have_no_room deep count gs [] h all room too_many) (cases_lt 262144 (length h + count))
 
-    all_have_no_room : (deep count : ℕ) (gs : Givens) (done : List Element) (h : Objects) → AllMayBeHandedIn w.names.map deep count gs → length h ≤ 262144 → 262144 < length h + count → IsTooMuch (each_imported (package_imported deep) gs done (over w h))
+    pub all_have_no_room : (deep count : ℕ) (gs : Givens) (done : List Element) (h : Objects) → AllMayBeHandedIn w.names.map deep count gs → length h ≤ 262144 → 262144 < length h + count → IsTooMuch (each_imported (package_imported deep) gs done (over w h))
     all_have_no_room deep _ _ done h (no_more _) room full = absurd (omega (arith, room, full))
     all_have_no_room deep _ _ done h (one_more _ count rest g gs one all) room full =
         all_by deep count rest g gs done h one full (λ too_many. given_has_no_room deep count g h one room too_many)
         (λ made c short long. all_have_no_room deep rest gs (done ++ c ∷ []) (h ++ made) all short long) (cases_lt 262144 (length h + count))
 
-  taken_back_too_much : (count : ℕ) (p : Outcome Value × State S) → IsTooMuch p → (v : State S) × (taken_back count p ≡ (Err (refusal.Evaluation ObjectLimit), v))
+  pub taken_back_too_much : (count : ℕ) (p : Outcome Value × State S) → IsTooMuch p → (v : State S) × (taken_back count p ≡ (Err (refusal.Evaluation ObjectLimit), v))
   taken_back_too_much count (Ok x, v) is = absurd (cc is)
   taken_back_too_much count (Err e, v) is = (record v { objects = _ }, ap (λ (x : Outcome Value). taken_back count (x, v)) is)
 

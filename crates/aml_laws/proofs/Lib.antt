@@ -187,6 +187,8 @@ pub mod PartsCounted
 pub mod PartsIndexed
 pub mod PartsRefused
 pub mod PartsStored
+pub mod PartsDecided
+pub mod PartsWithoutRoom
 pub mod PassableRefusals
 pub mod PutIntoTargets
 pub mod ReadingChanges

@@ -49,8 +49,10 @@ pub fn no_depth_is_refused_for_the_default_setting<S>()
         32 ≤ w.nesting.calls → 64 ≤ w.nesting.levels → IsDepthSetting (answered accesses p arguments steps w).0 → ⊥ }
 {}
 
-/// A list or a table is refused for the setting exactly if it allows fewer than 64 levels and the first fault within so
-/// many is a term that is too deep. A setting that refuses other faults under its number, or none, is refused by this.
+/// A list or a table is refused for the setting exactly if it allows fewer than 64 levels and what is read within so
+/// many ends at a term that is too deep. Which fault reading ends at isn't said here, but by the law
+/// `refused_within_levels_exactly_if_faulty` of `aml_spelling`. A setting that tells this fault as any other, and one
+/// that tells another fault as this, are refused by this.
 #[tactic(auto, using(crate::proofs::TooDeepForSettings::levels_are_refused_exactly_if_a_term_is_deeper))]
 pub fn levels_are_refused_exactly_if_a_term_is_deeper()
     ensures list { (levels : ℕ) (bs : List ℕ) (scope : List Seg) (body : Bool) (known : List Arity) →

@@ -1,10 +1,10 @@
 //! Data that is handed in and handed out again.
-ghost use Rattle.std.specs.Prelude.{◌≡◌, ◌≤◌, ◌++◌, ◌+◌, ◌%◌, ◌^◌, [], ℕ, List, length, Some, Ok, Err};
+ghost use Rattle.std.specs.Prelude.{◌≡◌, ◌⊎◌, ◌≤◌, ◌<◌, ◌++◌, ◌+◌, ◌%◌, ◌^◌, [], ℕ, List, length, Some, Ok, Err};
 ghost use Rattle.std.specs.FinMap.{get};
 ghost use Rattle.ar_space.specs.Accesses.{Accesses};
 ghost use Rattle.ar_space.specs.declared.refusal.Refusal.{Refusal};
 ghost use Rattle.ar_space.specs.declared.refusal.Refusal.TheVariants as refusal;
-ghost use Rattle.ar_space.specs.declared.refusal.EvaluationFault.TheVariants.{ArityChanged};
+ghost use Rattle.ar_space.specs.declared.refusal.EvaluationFault.TheVariants.{ArityChanged, ObjectLimit};
 ghost use Rattle.ar_space.specs.declared.refusal.ValueFault.TheVariants.{WrongType};
 ghost use Rattle.aml_path.specs.declared.segment.Seg.{Seg};
 ghost use Rattle.aml_objects.specs.Objects.{Objects};
@@ -12,6 +12,7 @@ ghost use Rattle.aml_objects.specs.declared.entry.Entry.{Entry};
 ghost use Rattle.aml_objects.specs.declared.value.Reference.TheVariants as reference;
 ghost use Rattle.aml_objects.specs.declared.value.Value.{Value};
 ghost use Rattle.aml_objects.specs.declared.value.Value.TheVariants as value;
+ghost use Rattle.aml_namespace.specs.Namespace.{Map};
 ghost use Rattle.aml_namespace.specs.Numbering.{Numbered};
 ghost use Rattle.aml_namespace.specs.Search.{found};
 ghost use Rattle.aml_convert.specs.Integers.{bits_of};
@@ -109,13 +110,19 @@ pub fn a_path_is_handed_in_as_a_reference_to_what_it_finds<S>()
 {}
 
 /// Data that is handed in is refused by its first part that can't be handed in, from left to right and at any depth of
-/// packages, if there is room for the objects of the parts before it. A text or bytes of more than 1,048,576 bytes, a
-/// package inside 64 others, and a package of more than 65,535 elements are refused as `ObjectLimit`; the last one only
-/// after all its elements. A reference without a path is refused as `WrongType`, and the path of a name that isn't
-/// found as the search for it. Nothing changes. Another refusal of such a part, and one by a later part, are refused by
-/// this.
-#[tactic(auto, using(crate::proofs::PathsHandedIn::refused_by_its_part))]
+/// packages, if there is room for the objects of the parts before it; else as `ObjectLimit`, since one of these refuses
+/// it first. A text or bytes of more than 1,048,576 bytes, a package inside 64 others, and a package of more than
+/// 65,535 elements are refused as `ObjectLimit`; the last one only after all its elements. A reference without a path is
+/// refused as `WrongType`, and the path of a name that isn't found as the search for it. Nothing changes. Data without
+/// such a part may be handed in. Another refusal of such a part, and one by a later part, also where an earlier one has
+/// no room, are refused by this.
+#[tactic(auto, using(crate::proofs::PathsHandedIn::refused_by_its_part, crate::proofs::PartsWithoutRoom::refused_without_room))]
 pub fn the_first_part_that_cannot_be_handed_in_refuses_it<S>()
-    ensures { (w : State S) (count : ℕ) (g : Given) (e : Refusal) → FirstRefusedPart w.names.map e 64 count g →
-        length w.objects + count ≤ 262144 → imported g w ≡ (Err e, w) }
+    ensures room { (w : State S) (count : ℕ) (g : Given) (e : Refusal) →
+        FirstRefusedPart w.names.map e 64 count g → length w.objects + count ≤ 262144 → imported g w ≡ (Err e, w) }
+    ensures no_room { (w : State S) (count : ℕ) (g : Given) (e : Refusal) →
+        FirstRefusedPart w.names.map e 64 count g → length w.objects ≤ 262144 → 262144 < length w.objects + count →
+        imported g w ≡ (Err (refusal.Evaluation ObjectLimit), w) }
+    ensures either { (names : Map) (g : Given) → ((count : ℕ) × MayBeHandedIn names 64 count g)
+        ⊎ ((e : Refusal) × (count : ℕ) × FirstRefusedPart names e 64 count g) }
 {}

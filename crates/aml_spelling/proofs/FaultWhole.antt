@@ -25,7 +25,7 @@ use Rattle.aml_scan.proofs.Takes.{takes_more, same_state, same_value, refused, b
 use Rattle.aml_scan.proofs.SpelledRows.{around_of, place_of, row_number, stands_may}
 use Rattle.aml_scan.proofs.SpelledTerms.{list_spelled}
 use Rattle.aml_spelling.specs.Stands.{cost, MayStand}
-use Rattle.aml_spelling.specs.Faults.{Spot, Way, here, a_term, BeginsName, IsCode, may_be_name, only_outside, RowAt, NameAdmitted, NoTerm, AtTerm, FaultyAt, Faulty}
+use Rattle.aml_spelling.specs.Faults.{Spot, Way, here, a_term, BeginsName, IsCode, may_be_name, only_outside, RowAt, NameAdmitted, NoTerm, AtTerm, FaultyAt, FaultyWithin, Faulty}
 use Rattle.aml_spelling.proofs.EndsWhole.{ends_opcode, ends_term_at}
 use Rattle.aml_spelling.proofs.FaultAlone.{term_alone}
 use Rattle.aml_spelling.proofs.FaultApart.{takes_code}
@@ -284,38 +284,46 @@ below_at levels = at_level levels (below_halts levels)
 
 -- ---- whole lists
 
-module _ (scope : List Seg) (body : Bool) where
+module _ (levels : ℕ) (scope : List Seg) (body : Bool) where
   abbrev around_all : Around
   around_all = record { body = body; in_loop = false }
 
   abbrev an_item : Step Tree
-  an_item = term_in by_arities (below by_arities max_depth) positions.ListItem scope (outermost body)
+  an_item = term_in by_arities (below by_arities levels) positions.ListItem scope (outermost body)
 
   -- an item of the handed-in list, whose offset is its own
   abbrev FaultyItem : Spot → Refusal → Type 0
   FaultyItem next r = (way : Way) × FaultyAt way (a_term list_item) (record next { item = next.at }) r
 
   abbrev InWhole : State → Refusal → Type 0
-  InWhole s r = InNext max_depth scope around_all 0 list_item FaultyItem s r
+  InWhole s r = InNext levels scope around_all 0 list_item FaultyItem s r
 
-  whole_level : Below max_depth (term_in by_arities (below by_arities max_depth))
-  whole_level = at_level max_depth (below_halts max_depth)
+  whole_level : Below levels (term_in by_arities (below by_arities levels))
+  whole_level = at_level levels (below_halts levels)
+
+  -- the list is read within so many levels
+  abbrev list_read_so : List ℕ → List Arity → Outcome (List Tree) × State
+  list_read_so bs known = items (term_at by_arities levels) positions.ListItem scope (outermost body) (beginning bs known)
 
   items_halt : (n : ℕ) (s : State) → Halts (until_end an_item n) s (InWhole s)
-  items_halt n s = halts_until max_depth scope around_all 0 list_item FaultyItem an_item
+  items_halt n s = halts_until levels scope around_all 0 list_item FaultyItem an_item
       (λ s. takes_more (whole_level.takes positions.ListItem scope (outermost body) s) (λ t front rest h. h.0)) (whole_level.leaves positions.ListItem scope (outermost body))
       (whole_level.ends positions.ListItem scope (outermost body)) (whole_level.alone positions.ListItem scope (outermost body)) (λ s some. whole_level.halts positions.ListItem scope (outermost body) s) n s
 
-  whole_halts : (bs : List ℕ) (known : List Arity) (r : Refusal) (s2 : State) → term_list by_arities bs scope body known ≡ (Err r, s2) → InWhole (beginning bs known) r
-  unfolding term_list items term_at
+  whole_halts : (bs : List ℕ) (known : List Arity) (r : Refusal) (s2 : State) → list_read_so bs known ≡ (Err r, s2) → InWhole (beginning bs known) r
+  unfolding items term_at
   whole_halts bs known r s2 e = (items_halt (length bs) (beginning bs known)).is r s2 e
 
-  pub list_faulty : (bs : List ℕ) (known : List Arity) (r : Refusal) → Fails bs scope body known r → Faulty bs scope body known r
-  list_faulty bs known r h =
-      let x = whole_halts bs known r (term_list by_arities bs scope body known).1 (ap (λ (o : Outcome (List Tree)). (o, (term_list by_arities bs scope body known).1)) h) in
+  pub items_faulty : (bs : List ℕ) (known : List Arity) (r : Refusal) → (list_read_so bs known).0 ≡ Err r → FaultyWithin levels bs scope body known r
+  items_faulty bs known r h =
+      let x = whole_halts bs known r (list_read_so bs known).1 (ap (λ (o : Outcome (List Tree)). (o, (list_read_so bs known).1)) h) in
       (x.0, x.3.0, x.1, x.2, x.3.1)
 
-table_fails : (p : Outcome (List Tree) × State) (r : Refusal) → with_arities p ≡ Err r → p.0 ≡ Err r
+pub list_faulty : (scope : List Seg) (body : Bool) (bs : List ℕ) (known : List Arity) (r : Refusal) → Fails bs scope body known r → Faulty bs scope body known r
+unfolding term_list
+list_faulty scope body bs known r h = items_faulty max_depth scope body bs known r h
+
+pub table_fails : (p : Outcome (List Tree) × State) (r : Refusal) → with_arities p ≡ Err r → p.0 ≡ Err r
 table_fails (Ok ts, s) r e = absurd (cc e)
 table_fails (Err q, s) r e = let same : q ≡ r = cc e in ap (λ (x : Refusal). Err x) same
 

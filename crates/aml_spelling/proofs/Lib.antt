@@ -62,3 +62,5 @@ pub mod RefusedTerms
 pub mod RefusedFirst
 pub mod RefusedWhole
 pub mod WithinLevels
+pub mod FaultWithin
+pub mod PathTexts

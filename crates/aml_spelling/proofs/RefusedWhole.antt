@@ -26,7 +26,7 @@ use Rattle.aml_grammar.specs.Grammar.{Inner, is_if, is_nothing, is_module_level,
 use Rattle.aml_scan.specs.Spelling.{Around, list_item, may_stand, may_call, operand_kinds}
 use Rattle.aml_scan.proofs.SpelledRows.{around_of, place_of, stands_may, costs_none, costs_nothing, row_is_bare, kinds_end}
 use Rattle.aml_spelling.specs.Stands.{cost}
-use Rattle.aml_spelling.specs.Faults.{Spot, Way, here, in_operand, in_argument, at_else, in_else, in_connection, a_term, behind, BeginsName, IsSomeCode, IsCode, AtPart, AtLength, may_be_name, only_outside, RowAt, Admitted, NoTerm, AtTerm, FaultyAt, Passes, Faulty}
+use Rattle.aml_spelling.specs.Faults.{Spot, Way, here, in_operand, in_argument, at_else, in_else, in_connection, a_term, behind, BeginsName, IsSomeCode, IsCode, AtPart, AtLength, may_be_name, only_outside, RowAt, Admitted, NoTerm, AtTerm, FaultyAt, Passes, FaultyWithin, Faulty}
 use Rattle.aml_spelling.proofs.EndsWhole.{ends_row_at}
 use Rattle.aml_spelling.proofs.FaultApart.{codes_apart, code_refuses}
 use Rattle.aml_spelling.proofs.FaultLists.{spot_of}
@@ -388,25 +388,26 @@ lower_at (suc levels) l e = let same : levels ≡ l = omega (arith, e) in subst 
 
 -- ---- whole lists
 
-module _ (scope : List Seg) (body : Bool) where
+module _ (levels : ℕ) (scope : List Seg) (body : Bool) where
   abbrev an_item : Step Tree
-  an_item = term_in by_arities (below by_arities max_depth) positions.ListItem scope (outermost body)
+  an_item = term_in by_arities (below by_arities levels) positions.ListItem scope (outermost body)
 
-  full_whole : Full max_depth (term_in by_arities (below by_arities max_depth))
-  full_whole = full_at max_depth (lower_at max_depth)
+  full_whole : Full levels (term_in by_arities (below by_arities levels))
+  full_whole = full_at levels (lower_at levels)
 
-  whole_refused : (bs : List ℕ) (known : List Arity) (r : Refusal) → Faulty bs scope body known r → Fails bs scope body known r
-  unfolding term_list items term_at
-  whole_refused bs known r f = (until_refused max_depth scope (around_of (outermost body)) 0 list_item an_item (λ (next : Spot) (q : Refusal). FaultyAt f.1 (a_term list_item) (record next { item = next.at }) q)
+  pub items_refused : (bs : List ℕ) (known : List Arity) (r : Refusal) → FaultyWithin levels bs scope body known r → (items (term_at by_arities levels) positions.ListItem scope (outermost body) (beginning bs known)).0 ≡ Err r
+  unfolding items term_at
+  items_refused bs known r f = (until_refused levels scope (around_of (outermost body)) 0 list_item an_item (λ (next : Spot) (q : Refusal). FaultyAt f.1 (a_term list_item) (record next { item = next.at }) q)
       (λ t front rest before after s h i alone is ar. full_whole.gets positions.ListItem scope (outermost body) t front rest before after s h i alone is ar)
       (λ t front h. let k = term_first (around_of (outermost body)) positions.ListItem t front h in longer front k.0 k.1 k.2)
       (λ t u front next rest h e i. item_no_else (around_of (outermost body)) u next rest i) (full_whole.below.ends positions.ListItem scope (outermost body))
       (λ s q g. full_whole.refuses f.1 positions.ListItem scope (outermost body) s q g) (length bs) f.0 (beginning bs known) r f.2 (omega arith) f.3 f.4).is
 
 pub faulty_refused : (bs : List ℕ) (scope : List Seg) (body : Bool) (known : List Arity) (r : Refusal) → Faulty bs scope body known r → Fails bs scope body known r
-faulty_refused bs scope body known r f = whole_refused scope body bs known r f
+unfolding term_list
+faulty_refused bs scope body known r f = items_refused max_depth scope body bs known r f
 
-with_refusal : (p : Outcome (List Tree) × State) (r : Refusal) → p.0 ≡ Err r → with_arities p ≡ Err r
+pub with_refusal : (p : Outcome (List Tree) × State) (r : Refusal) → p.0 ≡ Err r → with_arities p ≡ Err r
 with_refusal (Ok ts, s) r e = absurd (cc e)
 with_refusal (Err q, s) r e = let same : q ≡ r = cc e in ap (λ (x : Refusal). Err x) same
 

@@ -28,7 +28,7 @@ allowed_by : (b : Bool) (levels : ℕ) → nat_lt levels max_depth ≡ b → lev
 allowed_by true levels is le = refl
 allowed_by false levels is le = grind (arith, nat_tests, is, le)
 
-levels_are_allowed : (levels : ℕ) → levels ≤ 64 → levels_allowed levels ≡ levels
+pub levels_are_allowed : (levels : ℕ) → levels ≤ 64 → levels_allowed levels ≡ levels
 levels_are_allowed levels le = allowed_by (nat_lt levels max_depth) levels refl le
 
 -- ---- what is read is spelled, and may stand
@@ -74,7 +74,7 @@ within_read levels bs scope body known ts after le spelled stands =
 
 -- ---- 64 levels or more are no setting
 
-no_fewer : (levels : ℕ) → 64 ≤ levels → nat_lt levels max_depth ≡ false
+pub no_fewer : (levels : ℕ) → 64 ≤ levels → nat_lt levels max_depth ≡ false
 no_fewer levels le = grind (arith, nat_tests, le)
 
 pub whole_stands : (levels : ℕ) (bs : List ℕ) (scope : List Seg) (body : Bool) (known : List Arity) (ts : List Tree) → 64 ≤ levels → reading_within levels bs scope body known ≡ Ok ts → IsSpelled body ts bs × ((after : List Arity) × MayStand scope body ts known after)

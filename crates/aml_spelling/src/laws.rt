@@ -1,5 +1,5 @@
 //! What holds of every list of bytes: each law is the contract of a function that does nothing.
-ghost use Rattle.std.specs.Prelude.{◌≡◌, ◌↔◌, ◌⊎◌, ◌≤◌, ◌+◌, ◌++◌, ◌∷◌, ℕ, List, [], Bool, true, false};
+ghost use Rattle.std.specs.Prelude.{◌≡◌, ◌↔◌, ◌⊎◌, ◌<◌, ◌≤◌, ◌+◌, ◌++◌, ◌∷◌, ℕ, List, [], Bool, true, false};
 ghost use Rattle.std.specs.Prelude.{length, Ok, Err};
 ghost use Rattle.ar_space.specs.declared.refusal.Refusal.{Refusal};
 ghost use Rattle.ar_space.specs.declared.refusal.Refusal.TheVariants as refusals;
@@ -13,10 +13,10 @@ ghost use Rattle.aml_path.specs.Paths.{Name};
 ghost use Rattle.aml_grammar.specs.Names.{starts_name, name_string};
 ghost use Rattle.aml_grammar.specs.State.{State, integer, bit_count, package_size, text};
 ghost use Rattle.aml_grammar.specs.Tree.{Tree};
-ghost use Rattle.aml_grammar.specs.Grammar.{Reads, Fails, reading_within, table_reading, opcode};
+ghost use Rattle.aml_grammar.specs.Grammar.{Reads, Fails, reading_within, table_reading, table_reading_within, opcode};
 ghost use Rattle.aml_scan.specs.Spelling.{IsInteger, IsLength, IsNameString, IsSpelled};
 ghost use Rattle.aml_spelling.specs.Faults.{Spot, Starts, IsName, IsNumber, IsCount, IsText, IsSomeCode};
-ghost use Rattle.aml_spelling.specs.Faults.{AtPart, AtLength, AtResolved, AtDeclared, Faulty};
+ghost use Rattle.aml_spelling.specs.Faults.{AtPart, AtLength, AtResolved, AtDeclared, Faulty, FaultyWithin, IsToldAs};
 ghost use Rattle.aml_spelling.specs.Reach.{Stops, reach, Placed};
 ghost use Rattle.aml_spelling.specs.Stands.{StandWithin, MayStand};
 
@@ -124,4 +124,32 @@ pub fn refused_exactly_if_faulty()
     ensures not_both { (bs : List ℕ) (scope : List Seg) (body : Bool) (known after : List Arity) (ts : List Tree)
         (r : Refusal) →
         IsSpelled body ts bs → MayStand scope body ts known after → Faulty bs scope body known r → ⊥ }
+{}
+
+/// Within the levels of a setting, fewer than 64, a list or a table is refused exactly if it has a fault within so many:
+/// before it there are only terms that are spelled and may stand as deep as these allow. A term that is too deep for
+/// them is refused as `DepthSetting`, any other fault with its own number and offset. Where a setting says 64 or more,
+/// nothing changes. For each number of levels there is never more than one fault, and never one of a list that is
+/// spelled and may stand. A setting by which each fault counts as one of depth, one that tells a term that is too deep
+/// as a fault of the term, and one that allows a level more are refused by this.
+pub fn refused_within_levels_exactly_if_faulty()
+    ensures list { (levels : ℕ) (bs : List ℕ) (scope : List Seg) (body : Bool) (known : List Arity) (r : Refusal) →
+        levels < 64 → (reading_within levels bs scope body known ≡ Err r) ↔ ((fault : Refusal) ×
+        FaultyWithin levels bs scope body known fault × IsToldAs fault r) }
+    ensures table { (levels : ℕ) (bs : List ℕ) (known : List Arity) (r : Refusal) →
+        levels < 64 → (table_reading_within levels bs known ≡ Err r) ↔ ((fault : Refusal) ×
+        FaultyWithin levels bs [] false known fault × IsToldAs fault r) }
+    ensures whole_list { (levels : ℕ) (bs : List ℕ) (scope : List Seg) (body : Bool) (known : List Arity)
+        (r : Refusal) → 64 ≤ levels →
+        (reading_within levels bs scope body known ≡ Err r) ↔ Faulty bs scope body known r }
+    ensures whole_table { (levels : ℕ) (bs : List ℕ) (known : List Arity) (r : Refusal) →
+        64 ≤ levels → (table_reading_within levels bs known ≡ Err r) ↔ Faulty bs [] false known r }
+    ensures either { (levels : ℕ) (bs : List ℕ) (scope : List Seg) (body : Bool) (known : List Arity) → levels ≤ 64 →
+        ((ts : List Tree) × IsSpelled body ts bs × (after : List Arity) × StandWithin levels scope body ts known after)
+        ⊎ ((r : Refusal) × FaultyWithin levels bs scope body known r) }
+    ensures one { (levels : ℕ) (bs : List ℕ) (scope : List Seg) (body : Bool) (known : List Arity) (r q : Refusal) →
+        FaultyWithin levels bs scope body known r → FaultyWithin levels bs scope body known q → r ≡ q }
+    ensures not_both { (levels : ℕ) (bs : List ℕ) (scope : List Seg) (body : Bool) (known after : List Arity)
+        (ts : List Tree) (r : Refusal) → levels ≤ 64 → IsSpelled body ts bs →
+        StandWithin levels scope body ts known after → FaultyWithin levels bs scope body known r → ⊥ }
 {}
