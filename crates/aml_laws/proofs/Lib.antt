@@ -164,6 +164,7 @@ pub mod NamesHandedOut
 pub mod NamesInPackages
 pub mod NamesMatched
 pub mod NamesNotFound
+pub mod NamesOfHistories
 pub mod NamesOrdered
 pub mod NamesPredefined
 pub mod NamesSought

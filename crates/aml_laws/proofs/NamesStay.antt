@@ -3,19 +3,21 @@ use Rattle.std.specs.Prelude.{◌≡◌, ℕ, List, Some, true, false, refl}
 use Rattle.ar_space.specs.Accesses.{Accesses}
 use Rattle.aml_path.specs.declared.segment.Seg.{Seg}
 use Rattle.aml_objects.specs.declared.entry.NamedObject.{NamedObject}
-use Rattle.aml_objects.specs.declared.entry.NamedObject.TheVariants as object
 use Rattle.aml_namespace.specs.Namespace.{Namespace, with_object, without_below}
 use Rattle.aml_meaning.specs.State.{State}
 use Rattle.aml_laws.specs.Becomes.{Becomes}
+use Rattle.aml_laws.specs.Histories.{TakesPlaceOf}
+use Rattle.aml_laws.specs.Histories as puts
 use Rattle.aml_laws.specs.Outside.{is_method, OutsideIn, Outside, Stands, number_at}
 use Rattle.aml_laws.proofs.OutsideOfMethods.{Kept, kept_reflexive, kept_transitive, kept_new, kept_replaced, kept_removed, kept_released, method_apart}
 use Rattle.aml_laws.proofs.FoundNamesStand.{MethodStandsAt}
-use Rattle.aml_laws.proofs.WorldRelations.{WorldRelation, is_never_put, plain}
+use Rattle.aml_laws.proofs.WorldRelations.{WorldRelation, plain}
 use Rattle.aml_laws.proofs.EvaluationsPreserve.{becomes_preserves}
 
-pub no_method : (o : NamedObject) → is_never_put o ≡ false → is_method o ≡ false
-no_method (object.Method m) h = absurd (cc h)
-no_method _ h = refl
+pub no_method : (o old : NamedObject) → TakesPlaceOf o old → is_method o ≡ false
+no_method _ _ (puts.of_value v u) = refl
+no_method _ _ (puts.of_mutex n m) = refl
+no_method _ _ (puts.of_event n m) = refl
 
 -- at the end of a call: its control method is above no path that is outside of control methods
 pub kept_after_call : (u w : Namespace) (q p : List Seg) → MethodStandsAt u.map q → (OutsideIn u.map p → Kept u.map w.map p) → OutsideIn u.map p → Kept u.map (without_below q w).map p
@@ -29,7 +31,7 @@ names_relation accesses p = plain (record {
   transitive = λ u v w h i o. kept_transitive u.names.map v.names.map w.names.map p (h o) (i (h o).outside);
   objects_change = λ w h k o. kept_reflexive w.names.map p o;
   name_declared = λ w q n free o. kept_new w.names.map q _ p free o;
-  object_replaced = λ w q n e at is o. kept_replaced w.names.map q e (with_object n e) p at refl (no_method n is) o;
+  object_replaced = λ w q n e at is o. kept_replaced w.names.map q e (with_object n e) p at refl (no_method n e.object is) o;
   slots_written = λ w frames is o. kept_reflexive w.names.map p o;
   frame_closed = λ w v vs h o. h o;
   names_removed = λ u w q at h o. kept_after_call u.names w.names q p at h o;

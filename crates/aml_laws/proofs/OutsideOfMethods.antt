@@ -132,7 +132,7 @@ kept_replaced m q e v p at same is h = record {
 below_alike : (q r x : List Seg) → path_cmp r x ≡ Equal → not (is_below q x) ≡ not (is_below q r)
 below_alike q r x e = ap (λ y. not (is_below q y)) (sym (only_equal r x e))
 
-not_below_by_cases : (q r p : List Seg) (b : Bool) → is_below q r ≡ b → is_below q p ≡ false → is_below r p ≡ true → b ≡ false
+pub not_below_by_cases : (q r p : List Seg) (b : Bool) → is_below q r ≡ b → is_below q p ≡ false → is_below r p ≡ true → b ≡ false
 not_below_by_cases q r p true at apart below = absurd (cc (sym apart ∙ below_transitive q r p at below))
 not_below_by_cases q r p false at apart below = refl
 

@@ -32,9 +32,9 @@ use Rattle.aml_meaning.specs.WideTerms.{in_wide, formed_at, convert_rule, to_str
 use Rattle.aml_laws.proofs.FieldUnitsFound.{lift_finds, formed_to_finds}
 use Rattle.aml_laws.proofs.KnownFieldUnits.{give_by, then_by, found_then}
 use Rattle.aml_laws.proofs.ObjectKinds.{make_string_keeps_kinds}
-use Rattle.aml_laws.proofs.WorldRelations.{PartsLead, Levels, WorldRelationOf, Preserves, RunPreserves, unchanged_preserves, give_preserves, stop_preserves, settle_preserves, then_preserves, on_objects_preserves, lift_preserves, run_give_preserves, run_then_preserves, run_settle_preserves}
+use Rattle.aml_laws.proofs.WorldRelations.{PartsLead, Levels, WorldRelationOf, Preserves, PreservesWhere, RunPreserves, TakesValues, preserves_anywhere, unchanged_preserves, give_preserves, stop_preserves, settle_preserves, then_preserves, on_objects_preserves, lift_preserves, run_give_preserves, run_then_preserves, run_settle_preserves}
 use Rattle.aml_laws.proofs.ChangesPreserve.{integer_in_preserves, made_of_keeps_kinds}
-use Rattle.aml_laws.proofs.StoreTargetsPreserve.{held_at_preserves, declaration_preserves, copy_into_name_preserves, store_over_value_preserves, store_in_slot_preserves, store_to_preserves}
+use Rattle.aml_laws.proofs.StoreTargetsPreserve.{HoldsThere, over_name_preserves, over_declared_preserves, copy_into_name_preserves, store_over_value_preserves, store_in_slot_preserves, store_to_preserves}
 use Rattle.aml_laws.proofs.OperandsAndCallsPreserve.{value_at_leads, two_values_leads, completed_preserves}
 use Rattle.aml_laws.proofs.FieldsPreserve.{elements_laid_preserves, field_found_preserves, region_found_preserves}
 use Rattle.aml_laws.proofs.MatchesPreserve.{match_rule_preserves}
@@ -109,11 +109,11 @@ module _ {S : Type 0} {listed : Bool} {accesses : Accesses S} {relation : WorldR
 
   -- ---- stores of what was formed
 
-  either_preserves : (b : Bool) (m n : Change (State S) Stored) → Preserves relation m → Preserves relation n → Preserves relation (if b then m else n)
+  either_preserves : {IsSo : State S → Type 0} (b : Bool) (m n : Change (State S) Stored) → PreservesWhere IsSo relation m → PreservesWhere IsSo relation n → PreservesWhere IsSo relation (if b then m else n)
   either_preserves true m n h i = h
   either_preserves false m n h i = i
 
-  formed_over_value_preserves : (old : Value) (q : List Seg) (v : Value) → Preserves relation (formed_over_value old q v)
+  formed_over_value_preserves : (old : Value) (q : List Seg) (v : Value) → PreservesWhere (TakesValues q) relation (formed_over_value old q v)
   formed_over_value_preserves (value.Integer n) q v = either_preserves (is_integer v) _ _ (store_over_value_preserves (value.Integer n) q v) (copy_into_name_preserves q v)
   formed_over_value_preserves (value.String o) q v = either_preserves (is_string v) _ _ (store_over_value_preserves (value.String o) q v) (copy_into_name_preserves q v)
   formed_over_value_preserves (value.Buffer o) q v = either_preserves (is_buffer v) _ _ (store_over_value_preserves (value.Buffer o) q v) (copy_into_name_preserves q v)
@@ -121,14 +121,14 @@ module _ {S : Type 0} {listed : Bool} {accesses : Accesses S} {relation : WorldR
   formed_over_value_preserves (value.Reference r) q v = store_over_value_preserves (value.Reference r) q v
   formed_over_value_preserves value.Uninitialized q v = store_over_value_preserves value.Uninitialized q v
 
-  formed_over_preserves : (h : Holding) (q : List Seg) (v : Value) → Preserves relation (formed_over h q v)
+  formed_over_preserves : (h : Holding) (q : List Seg) (v : Value) → PreservesWhere (HoldsThere h q) relation (formed_over h q v)
   formed_over_preserves (holding.Value old) q v = formed_over_value_preserves old q v
-  formed_over_preserves (holding.Field f) q v = give_preserves _
-  formed_over_preserves holding.Nothing q v = stop_preserves _
+  formed_over_preserves (holding.Field f) q v = preserves_anywhere _ (give_preserves _)
+  formed_over_preserves holding.Nothing q v = preserves_anywhere _ (stop_preserves _)
 
   formed_through_preserves : (r : Reference) (v : Value) → Preserves relation (formed_through r v)
   unfolding formed_in_declared
-  formed_through_preserves (reference.Name n) v = then_preserves _ _ (declaration_preserves n) (λ e. formed_over_preserves _ e.0 v)
+  formed_through_preserves (reference.Name n) v = over_declared_preserves n (λ q h. formed_over h q v) (λ q h. formed_over_preserves h q v)
   formed_through_preserves (reference.Slot slot n) v = store_to_preserves (reference.Slot slot n) v
   formed_through_preserves (reference.Element o i) v = store_to_preserves (reference.Element o i) v
   formed_through_preserves (reference.Byte o i) v = store_to_preserves (reference.Byte o i) v
@@ -137,7 +137,7 @@ module _ {S : Type 0} {listed : Bool} {accesses : Accesses S} {relation : WorldR
   unfolding formed_in_name
   formed_to_preserves targets.Nowhere v = give_preserves _
   formed_to_preserves (targets.Slot slot) v = store_in_slot_preserves slot v
-  formed_to_preserves (targets.Name q) v = then_preserves _ _ (held_at_preserves q) (λ h. formed_over_preserves h q v)
+  formed_to_preserves (targets.Name q) v = over_name_preserves q (λ h. formed_over h q v) (λ h. formed_over_preserves h q v)
   formed_to_preserves (targets.Refers r) v = formed_through_preserves r v
 
   -- ---- whether the terms are evaluated

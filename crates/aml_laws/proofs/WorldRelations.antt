@@ -1,6 +1,6 @@
 -- Relations of worlds that each of the few changes that terms make of a world respects, and what follows for changes one after
 -- another, and for evaluations.
-use Rattle.std.specs.Prelude.{◌≡◌, ℕ, ◌+◌, ◌-◌, ◌==◌, ◌^◌, List, [], ◌∷◌, ◌++◌, replicate, Bool, true, false, Option, Some, None, Ok, Err, All, Contains, refl, if◌then◌else◌}
+use Rattle.std.specs.Prelude.{◌≡◌, ℕ, ◌+◌, ◌-◌, ◌==◌, ◌^◌, List, [], ◌∷◌, Bool, true, false, Option, Some, None, Ok, Err, All, Contains, refl, if◌then◌else◌}
 use Rattle.std.proofs.Common.{subst, sym}
 use Rattle.ar_space.specs.declared.space.Width.{Width}
 use Rattle.ar_space.specs.declared.space.Place.{Place}
@@ -16,7 +16,6 @@ use Rattle.aml_path.specs.declared.segment.Seg.{Seg}
 use Rattle.aml_grammar.specs.declared.arities.Arity.{Arity}
 use Rattle.aml_objects.specs.Objects.{Objects}
 use Rattle.aml_objects.specs.declared.value.Value.{Value}
-use Rattle.aml_objects.specs.declared.value.Value.TheVariants as value
 use Rattle.aml_objects.specs.declared.entry.NamedObject.{NamedObject}
 use Rattle.aml_objects.specs.declared.entry.NamedObject.TheVariants as object
 use Rattle.aml_objects.specs.declared.entry.Field.{Field}
@@ -39,7 +38,7 @@ use Rattle.aml_meaning.specs.Slots.{opened, closed}
 use Rattle.aml_meaning.specs.Tasks.{Task, module_level}
 use Rattle.aml_meaning.specs.Invocations.{leaving}
 use Rattle.aml_meaning.specs.Calling.{released, ending, with_steps, framed, in_frame, counted}
-use Rattle.aml_laws.specs.Histories.{with_declaration, RegionStands, FieldUnitStands, LiesInRegion}
+use Rattle.aml_laws.specs.Histories.{with_declaration, with_frame, RegionStands, FieldUnitStands, LiesInRegion, TakesPlaceOf}
 use Rattle.aml_laws.specs.Kinds.{KeepsKinds}
 use Rattle.aml_laws.specs.Numbers.{numbers_of}
 use Rattle.aml_laws.specs.RegionAccesses.{AsksBridge, ReachedWithin}
@@ -48,16 +47,9 @@ use Rattle.aml_laws.proofs.LocatedRegions.{IsAsMeant, IsLocated}
 use Rattle.aml_laws.proofs.Preorders.{Preorder, either_branch}
 use Rattle.aml_laws.proofs.ObjectKinds.{KeepsObjectKinds}
 
--- a control method, an operation region or a field unit, which never takes the place of another object
-abbrev pub is_never_put : NamedObject → Bool
-is_never_put (object.Method m) = true
-is_never_put (object.OperationRegion region) = true
-is_never_put (object.FieldUnit field) = true
-is_never_put _ = false
-
 -- in a frame of its own
 abbrev pub in_new_frame : {S : Type 0} → List Value → State S → State S
-in_new_frame vs w = record w { frames = w.frames ++ record { number = w.started; locals = replicate 8 value.Uninitialized; arguments = vs } ∷ []; started = w.started + 1 }
+in_new_frame vs w = with_frame vs w
 
 -- listed: whether it is one of lists at module level, too
 pub record WorldRelationOf {S : Type 0} (listed : Bool) (accesses : Accesses S) : Type 1 where
@@ -66,9 +58,9 @@ pub record WorldRelationOf {S : Type 0} (listed : Bool) (accesses : Accesses S) 
   pub transitive : (u v w : State S) → Leads u v → Leads v w → Leads u w
   -- objects are made and written to
   pub objects_change : (w : State S) (h : Objects) → KeepsKinds w.objects h → Leads w (record w { objects = h })
-  -- a name is declared where none stands; another object, no control method, no operation region and no field unit, under a name
+  -- a name is declared where none stands; another object that may take the place of what stands under a name
   pub name_declared : (w : State S) (q : List Seg) (o : NamedObject) → contains_key w.names.map q ≡ false → Leads w (record w { names = with_declaration q o w.names })
-  pub object_replaced : (w : State S) (q : List Seg) (o : NamedObject) (e : Entry) → get w.names.map q ≡ Some e → is_never_put o ≡ false → Leads w (record w { names = record w.names { map = insert w.names.map q (with_object o e) } })
+  pub object_replaced : (w : State S) (q : List Seg) (o : NamedObject) (e : Entry) → get w.names.map q ≡ Some e → TakesPlaceOf o e.object → Leads w (record w { names = record w.names { map = insert w.names.map q (with_object o e) } })
   -- slots take values
   pub slots_written : (w : State S) (frames : List Frame) → numbers_of frames ≡ numbers_of w.frames → Leads w (record w { frames = frames })
   -- a frame is opened, and closed after what stands between
@@ -106,7 +98,7 @@ pub record PlainRelationOf {S : Type 0} (listed : Bool) (accesses : Accesses S) 
   pub transitive : (u v w : State S) → Leads u v → Leads v w → Leads u w
   pub objects_change : (w : State S) (h : Objects) → KeepsKinds w.objects h → Leads w (record w { objects = h })
   pub name_declared : (w : State S) (q : List Seg) (o : NamedObject) → contains_key w.names.map q ≡ false → Leads w (record w { names = with_declaration q o w.names })
-  pub object_replaced : (w : State S) (q : List Seg) (o : NamedObject) (e : Entry) → get w.names.map q ≡ Some e → is_never_put o ≡ false → Leads w (record w { names = record w.names { map = insert w.names.map q (with_object o e) } })
+  pub object_replaced : (w : State S) (q : List Seg) (o : NamedObject) (e : Entry) → get w.names.map q ≡ Some e → TakesPlaceOf o e.object → Leads w (record w { names = record w.names { map = insert w.names.map q (with_object o e) } })
   pub slots_written : (w : State S) (frames : List Frame) → numbers_of frames ≡ numbers_of w.frames → Leads w (record w { frames = frames })
   pub frame_closed : (w v : State S) (vs : List Value) → Leads (in_new_frame vs w) v → Leads w (closed v)
   pub names_removed : (u w : State S) (q : List Seg) → MethodStandsAt u.names.map q → Leads u w → Leads u (record w { names = without_below q w.names })
@@ -258,9 +250,24 @@ declared_by_cases relation w true false true q o e f g is = relation.reflexive w
 declared_by_cases relation w true false false q o e f g is = relation.name_declared w q o is
 declared_by_cases relation w false c d q o e f g is = relation.reflexive w
 
-replaced_by_cases : {S : Type 0} {listed : Bool} {accesses : Accesses S} (relation : WorldRelationOf listed accesses) (w : State S) (q : List Seg) (o : NamedObject) (e : Option Entry) → get w.names.map q ≡ e → is_never_put o ≡ false → relation.Leads w (record w { names = (replaced_in q o w.names e).1 })
-replaced_by_cases relation w q o None at is = relation.reflexive w
-replaced_by_cases relation w q o (Some e) at is = relation.object_replaced w q o e at is
+-- what stands at a path may be replaced by an object, and by any value
+abbrev pub MayPut : {S : Type 0} → List Seg → NamedObject → State S → Type 0
+MayPut q o w = (e : Entry) → get w.names.map q ≡ Some e → TakesPlaceOf o e.object
+
+abbrev pub TakesValues : {S : Type 0} → List Seg → State S → Type 0
+TakesValues q w = (v : Value) → MayPut q (object.Data v) w
+
+replaced_by_cases : {S : Type 0} {listed : Bool} {accesses : Accesses S} (relation : WorldRelationOf listed accesses) (w : State S) (q : List Seg) (o : NamedObject) (e : Option Entry) → get w.names.map q ≡ e → MayPut q o w → relation.Leads w (record w { names = (replaced_in q o w.names e).1 })
+replaced_by_cases relation w q o None at may = relation.reflexive w
+replaced_by_cases relation w q o (Some e) at may = relation.object_replaced w q o e at (may e at)
+
+-- a change that leads each world that is so to a related one
+pub record PreservesWhere {S A : Type 0} {listed : Bool} {accesses : Accesses S} (IsSo : State S → Type 0) (relation : WorldRelationOf listed accesses) (m : Change (State S) A) : Type 0 where
+  pub preserves_where : (w : State S) → IsSo w → relation.Leads w (m w).1
+
+-- in any world
+abbrev pub Anyhow : {S : Type 0} → State S → Type 0
+Anyhow w = Unit {0}
 
 module _ {S : Type 0} {listed : Bool} {accesses : Accesses S} {relation : WorldRelationOf listed accesses} where
   -- ---- changes of the world
@@ -300,10 +307,49 @@ module _ {S : Type 0} {listed : Bool} {accesses : Accesses S} {relation : WorldR
     preserves = λ w. declared_by_cases relation w (contains_key w.names.map (above q)) (contains_key w.names.map q) (w.names.next == 2 ^ 64 - 1) q o (refusal.Namespace Exists) (refusal.Evaluation ObjectLimit) (refusal.Namespace NotFound) refl;
   }
 
-  -- another object under a name, which is no control method, no operation region and no field unit
-  pub replaced_preserves : (q : List Seg) (o : NamedObject) → is_never_put o ≡ false → Preserves relation (on_names (replaced q o))
+  -- ---- changes of worlds that are so
+
+  -- another object under a name, which may take the place of what stands there
+  pub replaced_preserves : (q : List Seg) (o : NamedObject) → PreservesWhere (MayPut q o) relation (on_names (replaced q o))
   unfolding on_names replaced
-  replaced_preserves q o is = record { preserves = λ w. replaced_by_cases relation w q o (get w.names.map q) refl is }
+  replaced_preserves q o = record { preserves_where = λ w may. replaced_by_cases relation w q o (get w.names.map q) refl may }
+
+  pub anyhow_preserves : {A : Type 0} (m : Change (State S) A) → PreservesWhere Anyhow relation m → Preserves relation m
+  anyhow_preserves m h = record { preserves = λ w. h.preserves_where w tt }
+
+  pub preserves_anywhere : {A : Type 0} {IsSo : State S → Type 0} (m : Change (State S) A) → Preserves relation m → PreservesWhere IsSo relation m
+  preserves_anywhere m h = record { preserves_where = λ w is. h.preserves w }
+
+  pub where_then_preserves : {A B : Type 0} {IsSo : State S → Type 0} (m : Change (State S) A) (k : A → Change (State S) B) → PreservesWhere IsSo relation m → ((a : A) → Preserves relation (k a)) → PreservesWhere IsSo relation (m >>= k)
+  unfolding ◌>>=◌
+  where_then_preserves m k h i = record { preserves_where = λ w is. go_on_preserves w (m w).0 (m w).1 k i (h.preserves_where w is) }
+
+  go_on_where : {A B : Type 0} (IsSo : State S → Type 0) (u : State S) (r : Outcome A) (w : State S) (k : A → Change (State S) B) → ((a : A) → PreservesWhere IsSo relation (k a)) → IsSo w → relation.Leads u w → relation.Leads u (go_on r w k).1
+  unfolding go_on
+  go_on_where IsSo u (Ok a) w k h is m = relation.transitive u w _ m ((h a).preserves_where w is)
+  go_on_where IsSo u (Err e) w k h is m = m
+
+  -- behind a change that leaves worlds so
+  pub then_preserves_where : {A B : Type 0} {IsSo : State S → Type 0} (m : Change (State S) A) (k : A → Change (State S) B) → Preserves relation m → ((w : State S) → IsSo w → IsSo (m w).1) → ((a : A) → PreservesWhere IsSo relation (k a)) → PreservesWhere IsSo relation (m >>= k)
+  unfolding ◌>>=◌
+  then_preserves_where {IsSo = IsSo} m k h so i = record { preserves_where = λ w is. go_on_where IsSo w (m w).0 (m w).1 k i (so w is) (h.preserves w) }
+
+  found_by_cases : {A B : Type 0} (Found : A → State S → Type 0) (u v : State S) (r : Outcome A) (k : A → Change (State S) B) → v ≡ u → ((a : A) → r ≡ Ok a → Found a u) → ((a : A) → PreservesWhere (Found a) relation (k a)) → relation.Leads u (go_on r v k).1
+  unfolding go_on
+  found_by_cases Found u v (Ok a) k e found h = subst (λ x. relation.Leads u (k a x).1) (sym e) ((h a).preserves_where u (found a refl))
+  found_by_cases Found u v (Err x) k e found h = subst (relation.Leads u) (sym e) (relation.reflexive u)
+
+  -- behind a change that finds something and changes nothing
+  pub finding_preserves_where : {A B : Type 0} {IsSo : State S → Type 0} (Found : A → State S → Type 0) (m : Change (State S) A) (k : A → Change (State S) B) → ((w : State S) → (m w).1 ≡ w) → ((w : State S) → IsSo w → (a : A) → (m w).0 ≡ Ok a → Found a w)
+      → ((a : A) → PreservesWhere (Found a) relation (k a)) → PreservesWhere IsSo relation (m >>= k)
+  unfolding ◌>>=◌
+  finding_preserves_where Found m k same found h = record { preserves_where = λ w is. found_by_cases Found w (m w).1 (m w).0 k (same w) (found w is) h }
+
+  pub finding_preserves : {A B : Type 0} (Found : A → State S → Type 0) (m : Change (State S) A) (k : A → Change (State S) B) → ((w : State S) → (m w).1 ≡ w) → ((w : State S) (a : A) → (m w).0 ≡ Ok a → Found a w)
+      → ((a : A) → PreservesWhere (Found a) relation (k a)) → Preserves relation (m >>= k)
+  finding_preserves Found m k same found h = anyhow_preserves _ (finding_preserves_where {IsSo = Anyhow} Found m k same (λ w is. found w) h)
+
+  -- ---- frames
 
   -- however it ended
   pub ending_preserves : {A : Type 0} (m : Change (State S) A) → Preserves relation m → Preserves relation (ending m)
