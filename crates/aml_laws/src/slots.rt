@@ -34,7 +34,8 @@ pub fn a_store_changes_its_slot_alone<S>()
 /// holds what it held, however they end and whatever refers to other slots of the frame, and still no reference to it
 /// can be reached, nor is one given. What another slot of the frame holds is reached only by a reference to it; and no
 /// string, buffer or package that can't be reached is changed. Of slots to which a reference can be reached this says
-/// nothing. A local of a control method that is taken for one of the outermost one is refused by this.
+/// nothing. A RefOf that refers to a local of the caller, and a local of a control method that is taken for one of the
+/// outermost one, are refused by this.
 pub fn slots_change_through_references_alone<S>()
     ensures terms { (accesses : Accesses S) (n : ℕ) (s : State S × ℕ) (t : Task) →
         RiseTo s.0.started (numbers_of s.0.frames) → FrameStandsBelow n (numbers_of s.0.frames) →

@@ -21,3 +21,4 @@ pub mod Bounding
 pub mod Watching
 mod SameMachine
 mod SameRun
+pub mod NamesShown

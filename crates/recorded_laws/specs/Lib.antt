@@ -4,3 +4,4 @@ pub mod RunNotes
 pub mod StreamsTold
 pub mod Widened
 pub mod Unwatched
+pub mod NamesShown

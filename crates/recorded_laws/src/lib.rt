@@ -4,6 +4,7 @@
 
 pub mod answers;
 pub mod bounds;
+pub mod names;
 pub mod profiles;
 pub mod watched;
 
