@@ -298,27 +298,6 @@ module _ {S : Type 0} {ac : Accesses S} where
       let ys = xs ++ entry.Frame (frames.Items (record { left = n; levels = i.levels; outer = i.outer })) ∷ [] in
       goes_then (control.Term i.levels) (item_waits c xs i n (never_passed c b flag s same told fails) some left one) (goes_leads x d (behind_term c i.levels) ys _ (rw same at l) (rw same at ends) g)
 
-  -- an item that is done at once leaves what it leaves to the items behind it
-  item_at_once : {r : Outcome Control} {e : Site} {ys : List Entry} {s s1 s2 : State S × ℕ} (f : Flow) (c b d : Site) (xs : List Entry) (i : Items) (n : ℕ) (flag : Bool) → flag ≡ passes_over b.depth s.0.profile → flag ≡ false → 0 < i.left → 0 < length c.place.rest → n ≡ i.left - 1 → Does (Ok f) s1 (term_run ac (meaning ac) b i.levels) s → b ≡ c → d ≡ behind_term b i.levels
-      → Goes ac (meaning ac) r e ys s2 (machine ac (meaning ac) (control.Flow f) d (xs ++ entry.Frame (frames.Items (record { left = n; levels = i.levels; outer = i.outer })) ∷ [])) s1
-      → Goes ac (meaning ac) r e ys s2 (machine ac (meaning ac) (control.Items i) c xs) s
-  item_at_once f c b d xs i n flag told fails some left one h same ends g = item_next (next.Flow f) c b d xs i n flag told fails some left one (leads_done f _ h) same ends g
-
-  -- an item that gives a value at once: its list goes on
-  pub item_valued : {s s1 : State S × ℕ} (v : Value) (c b d : Site) (xs : List Entry) (i : Items) (n : ℕ) (flag : Bool) → flag ≡ passes_over b.depth s.0.profile → flag ≡ false → 0 < i.left → 0 < length c.place.rest → n ≡ i.left - 1 → Does (Ok (flow.Value v)) s1 (term_run ac (meaning ac) b i.levels) s → b ≡ c → d ≡ behind_term b i.levels
-      → Goes ac (meaning ac) (Ok (control.Items (record { left = n; levels = i.levels; outer = i.outer }))) d xs s1 (machine ac (meaning ac) (control.Items i) c xs) s
-  item_valued v c b d xs i n flag told fails some left one h same ends =
-      item_at_once (flow.Value v) c b d xs i n flag told fails some left one h same ends (item_on d xs (record { left = n; levels = i.levels; outer = i.outer }) (flow.Value v) true refl refl)
-
-  -- an item that isn't done at once has changed nothing where it begins
-  pub item_begins : {r : Outcome Control} {e : Site} {ys : List Entry} {s t s1 s2 : State S × ℕ} (x : Next) (c b a d : Site) (xs : List Entry) (i : Items) (n : ℕ) (flag : Bool) → flag ≡ passes_over b.depth s.0.profile → flag ≡ false → 0 < i.left → 0 < length c.place.rest → n ≡ i.left - 1 → b ≡ c → t ≡ s → a ≡ b → Leads ac (meaning ac) (Ok x) d s1 (term_run ac (meaning ac) a i.levels) t → next_ends x d ≡ behind_term a i.levels
-      → Goes ac (meaning ac) r e ys s2 (then_all ac (meaning ac) (next_run ac (meaning ac) x d) (next_ends x d) (xs ++ entry.Frame (frames.Items (record { left = n; levels = i.levels; outer = i.outer })) ∷ [])) s1
-      → Goes ac (meaning ac) r e ys s2 (machine ac (meaning ac) (control.Items i) c xs) s
-  item_begins x c b a d xs i n flag told fails some left one same steps stays l ends g =
-      let begun = rw (steps, stays) at l in
-      let there = rw stays at ends in
-      item_next x c b d xs i n flag told fails some left one begun same there g
-
   -- an item that is refused passes the items behind it
   pub item_refused : {e : Refusal} {r : Outcome Control} {s s1 : State S × ℕ} (c b d : Site) (xs : List Entry) (i : Items) (flag : Bool) → flag ≡ passes_over b.depth s.0.profile → flag ≡ false → 0 < i.left → 0 < length c.place.rest → Leads ac (meaning ac) (Err e) d s1 (term_run ac (meaning ac) b i.levels) s → b ≡ c → IsErr r × IsErrAnd r (λ x. x ≡ e) → Goes ac (meaning ac) r d xs s1 (machine ac (meaning ac) (control.Items i) c xs) s
   item_refused {r = Ok y} c b d xs i flag told fails some left l same h = absurd (cc h.0)
@@ -326,11 +305,6 @@ module _ {S : Type 0} {ac : Accesses S} where
       let x = frames.Items (record { left = i.left - 1; levels = i.levels; outer = i.outer }) in
       let g = goes_then {r = Err y} (control.Term i.levels) (item_waits c xs i (i.left - 1) (never_passed c b flag s same told fails) some left refl) (goes_leads_err d (behind_term c i.levels) (xs ++ entry.Frame x ∷ []) _ (rw same at l) h) in
       record { is = λ ne. g.is ne ∙ unwound_frame ac (meaning ac) y d xs x s1 }
-
-  pub item_begin_refused : {e : Refusal} {r : Outcome Control} {s t s1 : State S × ℕ} (c b a d : Site) (xs : List Entry) (i : Items) (flag : Bool) → flag ≡ passes_over b.depth s.0.profile → flag ≡ false → 0 < i.left → 0 < length c.place.rest → b ≡ c → t ≡ s → a ≡ b → Leads ac (meaning ac) (Err e) d s1 (term_run ac (meaning ac) a i.levels) t → IsErr r × IsErrAnd r (λ x. x ≡ e) → Goes ac (meaning ac) r d xs s1 (machine ac (meaning ac) (control.Items i) c xs) s
-  item_begin_refused c b a d xs i flag told fails some left same steps stays l h =
-      let begun = rw (steps, stays) at l in
-      item_refused c b d xs i flag told fails some left begun same h
 
 -- an item pays a step, and the items behind it may wait
 pub falls_item : (r : Outcome Control) (a b w n x y : ℕ) → a < b → w < step_weight → IfOk r (λ c. n + (x + control_weight c) ≤ charged a + (y + 3 + w)) → IfOk r (λ c. n + (x + control_weight c) < charged b + (y + 4))
@@ -342,14 +316,6 @@ pub falls_done : (r : Outcome Control) (a x y : ℕ) → IfOk r (λ c. x + contr
 falls_done (Ok c) a x y h = omega (arith, h)
 falls_done (Err z) a x y h = tt
 
--- an item that is done at once pays a step, and its list goes on
-pub falls_once : (r : Outcome Control) (i : Items) (a b x : ℕ) → a < b → r ≡ Ok (control.Items i) → IfOk r (λ c. charged a + (x + control_weight c) < charged b + (x + 4))
-falls_once r i a b x h is =
-    let p = charged_step a b h in
-    let enough = step_enough in
-    let less : charged a + (x + 4) < charged b + (x + 4) = omega (arith, p, enough) in
-    rw is less
-
 -- an item that may be passed over begins
 pub falls_kept : (r : Outcome Control) (a levels : ℕ) (xs ys : List Entry) (x : ListItem) → OnOk r (ys ≡ xs ++ entry.Item x ∷ []) → IfOk r (λ c. c ≡ control.Term levels) → IfOk r (λ c. charged a + (stack_weight ys + control_weight c) < charged a + (stack_weight xs + 4))
 falls_kept (Ok c) a levels xs ys x pushed next =
@@ -358,7 +324,7 @@ falls_kept (Ok c) a levels xs ys x pushed next =
     omega (arith, k, none)
 falls_kept (Err e) a levels xs ys x pushed next = tt
 
-pub ruleset listing_on = (list_over, list_passed, falls_once, item_valued, falls_kept, weight_on, falls_item, falls_done, item_last, item_on, item_none, item_over, item_begins, item_begin_refused, item_next, item_refused, item_kept, given_ok, never_refused, never_err, never_memory, refused_begun, goes_memory)
+pub ruleset listing_on = (list_over, list_passed, falls_kept, weight_on, falls_item, falls_done, item_last, item_on, item_none, item_over, item_next, item_refused, item_kept, given_ok, never_refused, never_err, never_memory, refused_begun, goes_memory)
 
 pub ruleset going = (never_refused, weight_on, goes_flow, goes_items, goes_package, goes_term, goes_turn, goes_scope, goes_body, goes_body_then, goes_target, goes_division, goes_found, goes_read, goes_counted, goes_access_then, goes_flow_then, goes_memory)
 

@@ -13,9 +13,8 @@ ghost use Rattle.aml_frames.specs.Weights.{next_weight, charged};
 
 use crate::frames::{Control, Entry, Frame, Items, Next};
 use crate::passing::{passes_over, push_passable_item};
-use crate::short_items::try_item;
+use crate::short_items::begin_item;
 use crate::stack::{end_call, follow};
-use crate::terms::begin_term;
 use crate::turns::end_list;
 use crate::waiting::{Stack, go_to_flow, go_to_items};
 use aml_meaning::{Flow, Running};
@@ -51,14 +50,8 @@ pub(crate) fn step_items<S: Space>(
     if passes_over(run, &stack.act) {
         return push_passable_item(run.world.alloc, stack, behind);
     }
-    // Some: the item was done whole, and a list has no use for its integer. None: nothing has changed.
-    match try_item(run, &mut stack.act, items.levels) {
-        Some(_) => go_to_items(behind),
-        None => {
-            let next = begin_term(run, &mut stack.act, items.levels)?;
-            follow_item(run, stack, behind, next)
-        }
-    }
+    let next = begin_item(run, &mut stack.act, items.levels)?;
+    follow_item(run, stack, behind, next)
 }
 
 /// Where its first step has finished an item (`Next::Flow`), the list goes on. Else what the item leaves to do is put
