@@ -141,27 +141,16 @@ pub(crate) fn short_integer<S: Space>(
 /// The integer of the next bytes, the lowest first; missing ones are zero. One, two and four bytes are read without a
 /// call, since most numbers have so many.
 #[inline(always)]
+#[tactic(auto, using(crate::proofs::Matching::bytes))]
 fn number_at(act: &Activation, count: usize) -> u64
     requires { count ≤ 8 }
     ensures { result ≡ (an_integer count act.now.place).0 }
 {
-    let rest = act.rest();
     match count {
-        1 => byte_of(rest),
-        2 => word_of(rest),
-        4 => double_word_of(rest),
-        _ => number_of(rest, count),
-    }
-}
-
-/// The first byte.
-#[inline(always)]
-fn byte_of(bytes: &[u8]) -> u64
-    ensures { result ≡ little_endian (take 1 bytes.now) }
-{
-    match bytes {
-        [low, ..] => u64::from(*low),
-        [] => 0,
+        1 => u64::from(act.next_byte()),
+        2 => word_of(act.rest()),
+        4 => double_word_of(act.rest()),
+        _ => number_of(act.rest(), count),
     }
 }
 
