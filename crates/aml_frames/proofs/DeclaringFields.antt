@@ -91,8 +91,6 @@ module _ {S : Type 0} {ac : Accesses S} where
       → Leads ac (meaning ac) r e s1 (coded_run ac (meaning ac) o c levels) s
   leads_region_term c levels k o h l = rw (region_is ac (meaning ac) c.scope c.depth (terms c levels) k o c.place h) l
 
-pub ruleset bytes = (byte_read)
-
 pub ruleset region_terms = (leads_sized_field, leads_bits_field, leads_done, leads_refused)
 
 pub ruleset next_names = (leads_next_name)

@@ -1,7 +1,6 @@
 //! Terms that declare operation regions and fields (ACPI 6.5, 19.6: OperationRegion, CreateField and its like). The
 //! operands stand next.
 ghost use Rattle.std.specs.Prelude.{◌≡◌, ◌≤◌, ◌<◌, ◌+◌, ◌%◌, Ok, IfOk};
-ghost use Rattle.aml_marked.specs.Marked.{an_integer};
 ghost use Rattle.aml_meaning.specs.Meaning.{meaning};
 ghost use Rattle.aml_frames.specs.declared.frames.Frame.TheVariants as frames;
 ghost use Rattle.aml_frames.specs.Places.{at_place, terms};
@@ -73,18 +72,10 @@ fn begin_operation_region<S: Space>(run: &Running<S>, act: &mut Activation, leve
 {
     let name = act.position();
     act.over_name();
-    let space = region_space(act);
+    let space = act.next_byte();
     act.advance(1);
     let part = DeclarationPart::RegionOffset(space, name, levels);
     Next::Term(levels, Frame::Declaration(part))
-}
-
-/// The address space of an operation region: the byte that stands next.
-#[tactic(auto, using(crate::proofs::DeclaringFields::bytes))]
-fn region_space(act: &Activation) -> u8
-    ensures { result ≡ (an_integer 1 act.now.place).0 % 256 }
-{
-    act.next_byte()
 }
 
 /// A declaration of which a part was evaluated.
