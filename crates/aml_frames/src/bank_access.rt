@@ -17,10 +17,10 @@ use crate::banked::{BankReads, BankWrites, BankedField, BanksLeft, Selector};
 use crate::boxed::Boxed;
 use crate::field_access::{begin_declared, finish_read};
 use crate::frames::{Frame, Next};
-use crate::index_access::{field_units, write_then};
+use crate::index_access::write_then;
 use crate::indexed::{is_kept, merge_unit, put_unit, zeros};
 use crate::uses::Doing;
-use aml_fields::Unit;
+use aml_fields::{Unit, units};
 use aml_meaning::{Flow, RegionField, Running, space_numbered};
 use aml_objects::{Bank, FieldUnit};
 use ar_space::{Result, Space};
@@ -78,7 +78,7 @@ pub(crate) fn begin_units<S: Space>(
     ensures ends { EndsAt result act.now act.now }
 {
     let unit = field.field;
-    let left = field_units(unit.bit_offset, unit.bits, unit.access);
+    let left = units(unit.bit_offset, unit.bits, unit.access);
     match doing {
         Doing::Read(reading) => {
             let bytes = zeros(run.world.alloc, unit.bits)?;

@@ -3,7 +3,6 @@
 //! of these accesses is waited for.
 ghost use Rattle.std.specs.Prelude.{◌≡◌, ◌≤◌, ◌<◌, ◌+◌, ◌*◌, IfOk, Ok};
 ghost use Rattle.ar_space.specs.Outcome.{Answers};
-ghost use Rattle.aml_fields.specs.Units.{units_of};
 ghost use Rattle.aml_meaning.specs.Fields.{unit_bytes};
 ghost use Rattle.aml_meaning.specs.Meaning.{meaning};
 ghost use Rattle.aml_frames.specs.declared.indexed.UnitsLeft.TheVariants as units_left;
@@ -22,10 +21,10 @@ use crate::indexed::{
 };
 use crate::uses::{Access, Accessed, Doing, Reading};
 use crate::values::value_of_call;
-use aml_fields::{FieldUnits, Unit, bytes_of, units};
+use aml_fields::{Unit, bytes_of, units};
 use aml_meaning::{Flow, RegionField, Running, integer_only};
 use aml_objects::{FieldUnit, Octets};
-use ar_space::{Result, Space, Width};
+use ar_space::{Result, Space};
 use std::alloc::Global;
 
 /// The index field and the data field with these numbers of declarations are looked up, and the units of a field
@@ -46,7 +45,7 @@ pub(crate) fn begin_indexed<S: Space>(
     ensures ends { EndsAt result act.now act.now }
 {
     let (unit, doing) = access;
-    let left = field_units(unit.bit_offset, unit.bits, unit.access);
+    let left = units(unit.bit_offset, unit.bits, unit.access);
     let index = run.world.field_declared(numbers.0)?;
     let behind = run.world.field_declared(numbers.1)?;
     let field = IndexedField {
@@ -68,14 +67,6 @@ pub(crate) fn begin_indexed<S: Space>(
         }
         Doing::Write(bytes) => next_write(run, act, UnitWrites { field, bytes, left }),
     }
-}
-
-/// The units of a field, lowest first: a field has fewer than 2^32 bits.
-pub(crate) fn field_units(bit_offset: u64, bits: u32, width: Width) -> FieldUnits
-    ensures units { result ≡ units_of bit_offset bits width }
-    ensures few { bits < 4294967296 }
-{
-    units(bit_offset, bits, width)
 }
 
 /// The next unit is read: its offset is written to the index field first. Behind the last unit the bits are read as a
