@@ -41,7 +41,7 @@ use Rattle.aml_frames.proofs.Stepping.{bind_bind, leads_value, leads_value_at, l
 use Rattle.aml_frames.proofs.Targeting.{bind_same}
 use Rattle.aml_frames.proofs.Using.{given_one, leads_read}
 use Rattle.aml_frames.proofs.Indexing.{bound, after_same}
-use Rattle.aml_frames.proofs.Weighing.{falls_search, match_enough}
+use Rattle.aml_frames.proofs.Weighing.{match_enough}
 
 pub some_is : (o : Option Held) (h k : Held) → o ≡ Some h → h ≡ k → o ≡ Some k
 some_is o h k e f = e ∙ ap Some f
@@ -175,8 +175,6 @@ module _ {S : Type 0} {ac : Accesses S} where
   leads_start {s = s} c levels l p v y x i = rw i (leads_value {c = c} {s = s} levels (frames.Match levels (parts.Start p y (l, v))) _ refl)
 
 pub ruleset beginning = (stepping, leads_package, match_enough)
-
-pub ruleset searches = (falls_search)
 
 pub ruleset looking = (running)
 

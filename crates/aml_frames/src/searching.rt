@@ -86,7 +86,7 @@ fn next_operand<S: Space>(
         }
         MatchPart::Start(source, first, second) => {
             let searching = run.world.begin_search(source, first, second, value)?;
-            search(run, act, searching.search, searching.left)
+            search_on(run, act, searching.search, searching.left)
         }
     }
 }
@@ -110,18 +110,6 @@ fn wait_for(alloc: Global, levels: u8, part: MatchPart) -> Result<Next>
 {
     let held = Boxed::new(alloc, part)?;
     Ok(Next::Term(levels, Frame::Match(levels, held)))
-}
-
-/// A Match whose operands all have values: the elements from its start on are looked at, which are no more than
-/// memory holds.
-#[tactic(auto, using(crate::proofs::Matching::searches))]
-fn search<S: Space>(run: &Running<S>, act: &Activation, search: Search, left: usize) -> Result<Next>
-    ensures falls { IfOk result (λ n. next_weight n < most_searched + 7) }
-    ensures means { Leads S.accesses (meaning S.accesses) result act.now run.now
-        (searched_last S.accesses (meaning S.accesses) act.now.depth search left) run.now }
-    ensures ends { EndsAt result act.now act.now }
-{
-    search_on(run, act, search, left)
 }
 
 /// The elements that are left, one after another: the first that matches, or the first that is the name of a field,
