@@ -9,6 +9,8 @@ use Rattle.aml_convert.specs.Operators.{is_true}
 use Rattle.aml_objects.specs.declared.value.Value.TheVariants as value
 use Rattle.aml_meaning.specs.declared.flow.Flow.{Flow}
 use Rattle.aml_meaning.specs.declared.flow.Flow.TheVariants as flow
+use Rattle.aml_meaning.specs.declared.term_kind.StatementKind.TheVariants as statements
+use Rattle.aml_meaning.specs.StatementTerms.{return_rule}
 use Rattle.aml_meaning.specs.State.{State}
 use Rattle.aml_meaning.specs.Run.{Run, lift}
 use Rattle.aml_meaning.specs.Readings.{integer_in}
@@ -19,9 +21,10 @@ use Rattle.aml_frames.specs.declared.frames.Frame.TheVariants as frames
 use Rattle.aml_frames.specs.declared.frames.Loop.{Loop}
 use Rattle.aml_frames.specs.declared.frames.Next.{Next}
 use Rattle.aml_frames.specs.declared.frames.Next.TheVariants as next
-use Rattle.aml_frames.specs.Places.{Site, behind_term}
-use Rattle.aml_frames.specs.Follow.{term_run, branch_at, turn_left, resumed, next_run, Leads}
-use Rattle.aml_frames.proofs.Stepping.{stepping}
+use Rattle.aml_frames.specs.Operands.{statement_tree}
+use Rattle.aml_frames.specs.Places.{Site, terms, behind_term}
+use Rattle.aml_frames.specs.Follow.{term_run, branch_at, turn_left, resumed, next_run, statement_run, Leads}
+use Rattle.aml_frames.proofs.Stepping.{leads_value_at, stepping}
 use Rattle.aml_frames.proofs.Weighing.{charged_less, charged_paid}
 
 module _ {S : Type 0} {ac : Accesses S} where
@@ -63,9 +66,16 @@ module _ {S : Type 0} {ac : Accesses S} where
   pub leads_on : {r : Outcome Next} {d : Site} {s s1 : State S × ℕ} (n : Next) (c : Site) (m : Run S Flow) → Leads ac (meaning ac) r d s1 (next_run ac (meaning ac) n c) s → Leads ac (meaning ac) (Ok n) c s m s → Leads ac (meaning ac) r d s1 m s
   leads_on n c m h k = record { is = λ ne. k.is tt ∙ h.is ne }
 
+  -- a Return is done as its argument is, which is returned
+  pub leads_return : {r : Outcome Next} {d : Site} {s s1 : State S × ℕ} (c : Site) (levels : ℕ) → Leads ac (meaning ac) r d s1 (next_run ac (meaning ac) (next.Term levels frames.Return) c) s → Leads ac (meaning ac) r d s1 (statement_run ac (meaning ac) statements.Return c levels) s
+  unfolding return_rule
+  leads_return c levels h = leads_on (next.Term levels frames.Return) c _ h (leads_value_at levels frames.Return (statement_tree (terms c levels) statements.Return c.place) 0 _ refl refl)
+
 pub ruleset knowing = (leads_done, leads_undone, charged_less)
 
 pub ruleset taking_known = (stepping, taken_known, left_unknown, refused_known, if_known, predicate_known, charged_less, charged_paid)
+
+pub ruleset returning = (taking_known, leads_return)
 
 pub ruleset going_on = (leads_on, charged_less)
 

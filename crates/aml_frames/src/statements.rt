@@ -82,8 +82,8 @@ fn begin_release<S: Space>(run: &mut Running<S>, act: &mut Activation, levels: u
     begin_target(run, act, Target::super_name(levels), TargetUse::Release)
 }
 
-/// Return: its argument is evaluated, or it is there already.
-#[tactic(auto, using(crate::proofs::Stepping::stepping, crate::proofs::Knowing::going_on), unfolding(aml_meaning::specs::StatementTerms::return_rule))]
+/// Return: its argument is evaluated; an integer that is there already is returned at once.
+#[tactic(auto, using(crate::proofs::Knowing::returning))]
 fn begin_return<S: Space>(run: &mut Running<S>, act: &mut Activation, levels: u8) -> Result<Next>
     ensures spent { run.new.1 ≤ run.old.1 }
     ensures falls { IfOk result (λ n. next_weight n < 6) }
@@ -91,20 +91,6 @@ fn begin_return<S: Space>(run: &mut Running<S>, act: &mut Activation, levels: u8
     ensures means { Leads S.accesses (meaning S.accesses) result act.new run.new
         (statement_run S.accesses (meaning S.accesses) statements.Return act.old levels) run.old }
     ensures ends { EndsAt result act.new (behind_statement_at statements.Return act.old levels) }
-{
-    return_value(run, act, levels)
-}
-
-/// The argument of a Return, which stands next: an integer that is there already is returned at once.
-#[inline(always)]
-#[tactic(auto, using(crate::proofs::Knowing::taking_known))]
-fn return_value<S: Space>(run: &mut Running<S>, act: &mut Activation, levels: u8) -> Result<Next>
-    ensures spent { run.new.1 ≤ run.old.1 }
-    ensures falls { IfOk result (λ n. next_weight n < 6) }
-    ensures memory { NotMemory result }
-    ensures means { Leads S.accesses (meaning S.accesses) result act.new run.new
-        (next_run S.accesses (meaning S.accesses) (next.Term levels frames.Return) act.old) run.old }
-    ensures ends { EndsAt result act.new (next_ends (next.Term levels frames.Return) act.old) }
 {
     match known_integer(run, act, levels)? {
         Some(number) => Ok(Next::Flow(Flow::Return(Value::Integer(number)))),
