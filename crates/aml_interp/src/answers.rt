@@ -8,7 +8,7 @@ ghost use Rattle.aml_meaning.specs.Invocations.{invocation_found};
 ghost use Rattle.aml_meaning.specs.Calling.{called, counted, evaluated, with_rest, with_steps, answer_exported};
 ghost use Rattle.aml_meaning.specs.Calling.{answered, invocation_exported, value_of};
 
-use crate::export::exported;
+use crate::export::{MAX_NESTING, value_exported};
 use crate::fields::{field_given, field_value};
 use aml_frames::call_method;
 use aml_meaning::{Datum, Invocation, Running, World, WorldState};
@@ -124,7 +124,7 @@ fn answer_exported<S: Space>(
 }
 
 /// What the object at a path gives, handed out: the bits of a field as they are, and of any other its value.
-#[tactic(auto, using(aml_meaning::proofs::Runs::calling))]
+#[tactic(auto, using(aml_meaning::proofs::Runs::calling), unfolding(aml_meaning::specs::Exporting::exported))]
 fn invocation_exported<S: Space>(
     run: &mut Running<S>,
     invocation: Invocation,
@@ -136,7 +136,7 @@ fn invocation_exported<S: Space>(
         Invocation::Field(field) => field_given(run, CALLS_OF_A_FIELD, field),
         other => {
             let value = value_of(run, other, arguments)?;
-            exported(run, value)
+            value_exported(run, MAX_NESTING, value)
         }
     }
 }

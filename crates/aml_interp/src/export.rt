@@ -6,7 +6,7 @@ ghost use Rattle.aml_objects.specs.Objects.{string_at, buffer_at};
 ghost use Rattle.aml_meaning.specs.Given as given;
 ghost use Rattle.aml_meaning.specs.Exporting.{text_exported, bytes_exported, reference_exported, value_exported};
 ghost use Rattle.aml_meaning.specs.Exporting.{use_exported, name_exported, held_exported, element_exported};
-ghost use Rattle.aml_meaning.specs.Exporting.{each_exported, elements_exported, package_exported, exported};
+ghost use Rattle.aml_meaning.specs.Exporting.{each_exported, elements_exported, package_exported};
 
 use crate::answers::CALLS_OF_A_FIELD;
 use crate::fields::field_given;
@@ -16,15 +16,7 @@ use aml_path::{NameString, Path};
 use ar_space::{EvaluationFault, Refusal, Result, Space};
 
 /// How deep packages may nest that are handed out.
-const MAX_NESTING: usize = 64;
-
-/// A value as an answer hands it out.
-#[tactic(auto, unfolding(aml_meaning::specs::Exporting::exported))]
-pub(crate) fn exported<S: Space>(run: &mut Running<S>, value: Value) -> Result<Datum>
-    ensures { Does (seen given.given_of result) run.new (exported S.accesses value) run.old }
-{
-    value_exported(run, MAX_NESTING, value)
-}
+pub(crate) const MAX_NESTING: usize = 64;
 
 /// The value of a package with these elements.
 fn package(list: Vec<Datum>) -> Datum
@@ -61,9 +53,14 @@ fn reference_exported<S: Space>(run: &Running<S>, reference: Reference) -> Resul
     }
 }
 
+/// A value as an answer hands it out, with packages nested at most so many levels deep.
 #[cycle(exporting)]
 #[tactic(auto, using(aml_meaning::proofs::Exports::exporting), unfolding(aml_meaning::specs::Exporting::value_exported))]
-fn value_exported<S: Space>(run: &mut Running<S>, levels: usize, value: Value) -> Result<Datum>
+pub(crate) fn value_exported<S: Space>(
+    run: &mut Running<S>,
+    levels: usize,
+    value: Value,
+) -> Result<Datum>
     ensures { Does (seen given.given_of result) run.new (value_exported S.accesses
         (package_exported S.accesses levels) value) run.old }
 {
