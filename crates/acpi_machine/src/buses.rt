@@ -64,21 +64,14 @@ impl<S: Space> Machine<S> {
         self.bus_noticed(alloc, device)
     }
 
-    #[tactic(auto, using(crate::proofs::Noticed::noticing))]
+    #[tactic(auto, using(crate::proofs::Noticed::noticing, crate::proofs::Noticed::worlds))]
     fn bus_noticed(&mut self, alloc: Global, device: &Path) -> Result<PciBus>
         ensures answer { Does result self.new (bus_answered S.accesses device.now) self.old }
         ensures memory { IfErr result (λ refusal. refusal ≡ OutOfMemory → self.new.spent ≡ true) }
     {
-        let outcome = self.bus_answered(alloc, device);
+        let outcome = ask_bus(alloc, &mut self.world, device, self.steps);
         self.notice(&outcome);
         outcome
-    }
-
-    #[tactic(auto, using(crate::proofs::Noticed::worlds))]
-    fn bus_answered(&mut self, alloc: Global, device: &Path) -> Result<PciBus>
-        ensures { Does result self.new (bus_answered S.accesses device.now) self.old }
-    {
-        ask_bus(alloc, &mut self.world, device, self.steps)
     }
 }
 
