@@ -1,5 +1,6 @@
 pub mod Entries
 pub mod Firsts
+pub mod Found
 pub mod Places
 pub mod Rows
 pub mod Stopped
