@@ -63,8 +63,13 @@ fn concat_strings(
 ) -> Result<Formed>
     ensures { Answers (seen formed_content result) (concatenated width (String first.now) (content_of second.entry)) }
 {
-    let second = to_text(alloc, width, second)?;
-    Ok(Formed::String(appended(alloc, first, second.as_slice())?))
+    match second {
+        Content::String(text) => join_strings(alloc, first, text),
+        other => {
+            let text = to_text(alloc, width, other)?;
+            join_strings(alloc, first, text.as_slice())
+        }
+    }
 }
 
 #[tactic(auto, using(ar_space::proofs::Outcomes::answering), unfolding(crate::specs::Concatenation::concatenated))]
@@ -76,8 +81,13 @@ fn concat_buffers(
 ) -> Result<Formed>
     ensures { Answers (seen formed_content result) (concatenated width (Buffer first.now) (content_of second.entry)) }
 {
-    let second = to_buffer(alloc, width, second)?;
-    Ok(Formed::Buffer(appended(alloc, first, second.as_slice())?))
+    match second {
+        Content::Buffer(bytes) => join_buffers(alloc, first, bytes),
+        other => {
+            let bytes = to_buffer(alloc, width, other)?;
+            join_buffers(alloc, first, bytes.as_slice())
+        }
+    }
 }
 
 /// ConcatenateResTemplate: the resource items of two buffers before their end tags, and an end tag.
@@ -129,11 +139,24 @@ fn before_end(buffer: &[u8]) -> Result<&[u8]>
     }
 }
 
+fn join_strings(alloc: Global, first: &[u8], second: &[u8]) -> Result<Formed>
+    ensures { Answers (seen formed_content result) (Ok (String (first.now ++ second.now))) }
+{
+    Ok(Formed::String(appended(alloc, first, second)?))
+}
+
+fn join_buffers(alloc: Global, first: &[u8], second: &[u8]) -> Result<Formed>
+    ensures { Answers (seen formed_content result) (Ok (Buffer (first.now ++ second.now))) }
+{
+    Ok(Formed::Buffer(appended(alloc, first, second)?))
+}
+
 /// Bytes and those behind them.
 fn appended(alloc: Global, front: &[u8], back: &[u8]) -> Result<Octets>
     ensures { Answers result (Ok (front.now ++ back.now)) }
 {
-    let mut joined = Vec::from_slice(alloc, front)?;
+    let mut joined = Vec::with_capacity(alloc, front.len().saturating_add(back.len()))?;
+    joined.extend_from_slice(front)?;
     joined.extend_from_slice(back)?;
     Ok(Octets::from_vec(joined))
 }

@@ -66,6 +66,7 @@ impl Nodes {
     }
 
     /// The node with an id, while it stands. Whatever the id's key, its number decides. It takes no memory.
+    #[inline]
     pub(crate) fn get(&self, id: NodeId) -> Option<&Node>
         ensures { option_map (λ node. node.now) result ≡ map.get self.now id.number }
     {
@@ -76,6 +77,8 @@ impl Nodes {
     }
 
     /// The node with a number, found by the number alone. Where no node was ever removed, its key is the same number.
+    #[cold]
+    #[inline(never)]
     fn numbered(&self, number: u64) -> Option<&Node>
         ensures { option_map (λ node. node.now) result ≡ map.get self.now number }
     {
