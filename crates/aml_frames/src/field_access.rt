@@ -23,9 +23,7 @@ use crate::target_uses::tell;
 use crate::uses::{Access, Accessed, Doing, Reading};
 use aml_fields::{AddressSpace, Region, merge};
 use aml_meaning::{Flow, RegionField, RegionSpace, Running, space_numbered};
-use aml_objects::{
-    BufferField, Field, FieldSource, FieldUnit, Octets, UpdateRule, Value,
-};
+use aml_objects::{BufferField, Field, FieldSource, FieldUnit, Octets, UpdateRule, Value};
 use aml_path::Path;
 use ar_space::{EvaluationFault, Refusal, Result, Space, Width};
 
