@@ -3,6 +3,7 @@ pub mod BufferWrites
 pub mod Cells
 pub mod Covers
 pub mod FieldWrites
+pub mod NumberWrites
 pub mod Numbers
 pub mod OneUnit
 pub mod Plain

@@ -64,7 +64,7 @@ single_unit w o n k first e l some within =
 -- ---- its bits
 
 -- so many bits of a list that has them
-extended_front : (xs ys : List Bool) (count : ℕ) → length xs ≡ count → extended count (xs ++ ys) ≡ xs
+pub extended_front : (xs ys : List Bool) (count : ℕ) → length xs ≡ count → extended count (xs ++ ys) ≡ xs
 extended_front xs ys count e =
     let long = length-append xs ys in
     let room : count - length (xs ++ ys) ≡ 0 = omega (arith, long, e) in

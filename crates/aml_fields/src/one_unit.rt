@@ -1,4 +1,5 @@
-//! Fields that lie within one unit, read and written as numbers (ACPI 6.5, 19.6.46). Nothing here takes memory.
+//! Fields read and written as numbers (ACPI 6.5, 19.6.46): read where they lie within one unit. Nothing here takes
+//! memory.
 ghost use Rattle.std.specs.Prelude.{◌≡◌, ◌≤◌, ◌<◌, ◌+◌, ◌*◌, ◌/◌, ◌%◌, ◌^◌, ◌∷◌, [], ℕ, List, Ok, Err, true, false};
 ghost use Rattle.std.specs.Prelude.{MatchOption, MatchBool, IfOk, IfErr, IfSome};
 ghost use Rattle.ar_space.specs.Accesses.{bit_count};
@@ -8,10 +9,10 @@ ghost use Rattle.aml_fields.specs.Bits.{bits_from, field_bits, packed, merged, r
 ghost use Rattle.aml_fields.specs.Regions.{read_field, write_field, write_unit};
 ghost use Rattle.aml_fields.specs.Units.{units_of};
 
-use crate::accesses::{kept, read_unit, write_access};
+use crate::accesses::{kept, read_unit, write_access, write_field};
 use crate::field_units::Unit;
 use crate::region::Region;
-use crate::unit::rest_of_unit;
+use crate::unit::{bytes_of, rest_of_unit};
 use aml_objects::FieldUnit;
 use ar_space::{Result, Space, Width};
 
@@ -115,8 +116,8 @@ fn bits_below(number: u64, bit: usize) -> u64
     number % (1 << bit)
 }
 
-/// Writes a number to a field that lies within one unit: as many of its bits as the field has. It answers no where
-/// the field doesn't lie within one unit, and then nothing is written.
+/// Writes a number to a field: as many of its bits as the field has. It answers no where the field has more bits than
+/// the number, and then nothing is written.
 ///
 /// It is refused as `write_field` is.
 pub fn write_number<S: Space>(
@@ -134,9 +135,33 @@ pub fn write_number<S: Space>(
     ensures memory { NotMemory result }
 {
     let Some(unit) = one_unit(field) else {
-        return Ok(false);
+        return write_units_of_number(space, region, field, number);
     };
     match write_in_unit(space, region, field, unit, number) {
+        Ok(()) => Ok(true),
+        Err(refusal) => Err(refusal),
+    }
+}
+
+/// The same, unit by unit.
+fn write_units_of_number<S: Space>(
+    space: &mut S,
+    region: Region,
+    field: FieldUnit,
+    number: u64,
+) -> Result<bool>
+    ensures written { IfOk result (λ done. MatchBool done ((source : List ℕ) →
+        field_bits source 0 field.bits ≡ bits_from number 0 field.bits →
+        Does (Ok tt) space.new (write_field S.accesses region field source) space.old) (space.new ≡ space.old)) }
+    ensures refused { IfErr result (λ refusal. (source : List ℕ) →
+        field_bits source 0 field.bits ≡ bits_from number 0 field.bits →
+        Does (Err refusal) space.new (write_field S.accesses region field source) space.old) }
+    ensures memory { NotMemory result }
+{
+    if field.bits > u64::BITS {
+        return Ok(false);
+    }
+    match write_field(space, region, field, &bytes_of(number)) {
         Ok(()) => Ok(true),
         Err(refusal) => Err(refusal),
     }

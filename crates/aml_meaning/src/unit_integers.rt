@@ -1,5 +1,5 @@
-//! Field units of one access unit in SystemMemory or SystemIO, read and written as integers: no object of an address
-//! is called, and no memory is taken (ACPI 6.5, 5.5.2.4 and 19.6.46).
+//! Field units in SystemMemory or SystemIO, read (where they lie within one access unit) and written as integers: no
+//! object of an address is called, and no memory is taken (ACPI 6.5, 5.5.2.4 and 19.6.46).
 ghost use Rattle.std.specs.Prelude.{◌≡◌, ℕ, List, Ok, Err, MatchOption, MatchBool, IfOk, IfErr, IfSome};
 ghost use Rattle.std.specs.Prelude.{option_and_then, option_map};
 ghost use Rattle.ar_space.specs.Change.{Does};
@@ -57,7 +57,8 @@ impl<S: Space> WorldState<S> {
     }
 
     /// Stores an integer to a field unit, or answers no, and then nothing changes. Refused as `write_field` refuses it.
-    /// It stores to the units for which `unit_integer` answers an integer, and to no other. No clause says so.
+    /// It stores to a unit of SystemMemory or SystemIO that has no more bits than an integer, and to no other. No
+    /// clause says for which units it stores.
     pub fn put_unit_integer(&mut self, unit: FieldUnit, number: u64) -> Result<bool>
         ensures written { IfOk result (λ done. MatchBool done ((call : List Segment → Run S ℕ) (steps : ℕ) →
             Does (Ok tt) (self.new, steps) (field_stored S.accesses call (field.Unit unit) (Integer number))
