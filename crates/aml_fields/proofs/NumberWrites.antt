@@ -29,8 +29,8 @@ part_same : (xs ys : List Bool) (n p c : ℕ) → p + c ≤ n → extended n (dr
 part_same xs ys n p c l e =
     ext_get_or false _ _ (length_extended c (drop p xs) ∙ sym (length_extended c (drop p ys)))
     (λ i m.
-        let here : i < c = subst (λ k. i < k) (length_extended c (drop p xs)) m in
-        part_at xs n p c i l here ∙ ap (λ zs. get_or zs (p + i) false) e ∙ sym (part_at ys n p c i l here))
+    let here : i < c = subst (λ k. i < k) (length_extended c (drop p xs)) m in
+    part_at xs n p c i l here ∙ ap (λ zs. get_or zs (p + i) false) e ∙ sym (part_at ys n p c i l here))
 
 module _ {S : Type 0} (accesses : Accesses S) (r : Region) (f : FieldUnit) (s t : List ℕ) (same : field_bits s 0 f.bits ≡ field_bits t 0 f.bits) where
   unit_same : (u : Access) → u.position + u.count ≤ f.bits → write_unit accesses r f s u ≡ write_unit accesses r f t u
