@@ -15,10 +15,12 @@ use Rattle.aml_marked.proofs.Walking.{one_more, at_end, no_more}
 use Rattle.aml_objects.specs.declared.object.Element.{Element}
 use Rattle.aml_objects.specs.declared.object.Element.TheVariants as element
 use Rattle.aml_objects.specs.declared.value.Value.{Value}
+use Rattle.aml_objects.specs.declared.value.Value.TheVariants as value
 use Rattle.aml_meaning.specs.declared.flow.Flow.{Flow}
 use Rattle.aml_meaning.specs.declared.flow.Flow.TheVariants as flow
 use Rattle.aml_meaning.specs.State.{State}
 use Rattle.aml_meaning.specs.Run.{Run, lift, charge}
+use Rattle.aml_meaning.specs.Readings.{integer_in}
 use Rattle.aml_meaning.specs.NewObjects.{within, new_buffer}
 use Rattle.aml_meaning.specs.Tasks.{Task, operand_value}
 use Rattle.aml_meaning.specs.Meaning.{meaning}
@@ -29,9 +31,9 @@ use Rattle.aml_frames.specs.declared.frames.Next.{Next}
 use Rattle.aml_frames.specs.declared.frames.Next.TheVariants as next
 use Rattle.aml_frames.specs.declared.frames.Package.{Package}
 use Rattle.aml_frames.specs.Places.{Site, at_place, terms, next_term, behind_term}
-use Rattle.aml_frames.specs.Operands.{inside_at, elements_at}
-use Rattle.aml_frames.specs.Data.{buffer_run, package_term_run, var_package_run, package_of_all, package_left, package_run, package_made, named_left, elements_left, unfilled, one_fewer}
-use Rattle.aml_frames.specs.Follow.{Leads}
+use Rattle.aml_frames.specs.Operands.{inside_at, outside_at, elements_at}
+use Rattle.aml_frames.specs.Data.{buffer_run, buffer_made, package_term_run, var_package_run, package_of_all, package_left, package_run, package_made, named_left, elements_left, unfilled, one_fewer}
+use Rattle.aml_frames.specs.Follow.{place_of, resumed, next_ends, Leads}
 use Rattle.aml_frames.proofs.Elements.{named_term, other_term, valued_term}
 use Rattle.aml_frames.proofs.Stepping.{bind_bind, integer_run, leads_value, stepping}
 use Rattle.aml_frames.proofs.Targeting.{bind_same}
@@ -94,6 +96,9 @@ module _ {S : Type 0} (ac : Accesses S) where
   no_elements scope depth zero done k s = refl
   no_elements scope depth (suc n) done k s = refl
 
+pub ends_buffer : (c d : Site) (levels : ℕ) (o : Position) → d ≡ at_place c (inside_at c.place) → place_of c o ≡ outside_at c.place → next_ends (next.Term levels (frames.Buffer o)) d ≡ at_place c (outside_at c.place)
+ends_buffer c d levels o e h = rw (e, h) refl
+
 module _ {S : Type 0} {ac : Accesses S} where
   -- ---- how buffers and packages begin
 
@@ -102,6 +107,11 @@ module _ {S : Type 0} {ac : Accesses S} where
   leads_buffer {s = s} c d levels o e =
       let inside : Site = at_place c (inside_at c.place) in
       rw e (record { is = λ _. integer_run ac inside levels (λ n. lift (new_buffer n (behind_term inside levels).place.rest) >>= (λ v. give (flow.Value v))) s })
+
+  -- a size that is there already
+  pub buffer_known : {r : Outcome Next} {e : Site} {s s1 : State S × ℕ} (c : Site) (n : ℕ) (o : Position) → Leads ac (meaning ac) r e s1 (buffer_made n c) s → Leads ac (meaning ac) r e s1 (resumed ac (meaning ac) (frames.Buffer o) c (flow.Value (value.Integer n))) s
+  unfolding settle lift integer_in give ◌>>=◌ go_on
+  buffer_known c n o h = h
 
   pub leads_var_package : {s : State S × ℕ} (c d : Site) (levels : ℕ) (o : Position) → d ≡ at_place c (inside_at c.place) → Leads ac (meaning ac) (Ok (next.Term levels (frames.VarPackage levels o))) d s (var_package_run (meaning ac) c levels) s
   unfolding var_package_rule ◌>>=◌ go_on settle

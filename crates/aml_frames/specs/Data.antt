@@ -13,7 +13,7 @@ use Rattle.aml_meaning.specs.declared.flow.Flow.{Flow}
 use Rattle.aml_meaning.specs.declared.flow.Flow.TheVariants as flow
 use Rattle.aml_meaning.specs.declared.term_kind.DataKind.{DataKind}
 use Rattle.aml_meaning.specs.Run.{Run, lift, charge}
-use Rattle.aml_meaning.specs.NewObjects.{new_package}
+use Rattle.aml_meaning.specs.NewObjects.{new_buffer, new_package}
 use Rattle.aml_meaning.specs.Tasks.{Task}
 use Rattle.aml_meaning.specs.DataTerms.{data_rule, string_rule, buffer_rule, package_rule, var_package_rule, elements_in_turn, package_of}
 use Rattle.aml_frames.specs.declared.position.Position.{Position}
@@ -36,6 +36,12 @@ unfilled n levels o c = record { count = n; left = n; turns = length c.place.res
 -- the same package behind one element more
 abbrev pub one_fewer : Package → Package
 one_fewer k = record k { left = k.left - 1; turns = k.turns - 1 }
+
+-- a buffer of so many bytes, the first of which stand next
+abbrev pub buffer_made : {S : Type 0} → ℕ → Site → Run S Flow
+buffer_made n c = do
+  b ← lift (new_buffer n c.place.rest)
+  give (flow.Value b)
 
 -- a package of so many elements, the first of which are these
 unfoldable pub package_made : {S : Type 0} → ℕ → List Element → Run S Flow

@@ -28,7 +28,7 @@ use Rattle.aml_meaning.specs.declared.term_kind.WideKind.{WideKind}
 use Rattle.aml_meaning.specs.State.{State}
 use Rattle.aml_meaning.specs.Run.{Run, lift}
 use Rattle.aml_meaning.specs.Readings.{value_in, integer_in, integer_kept}
-use Rattle.aml_meaning.specs.NewObjects.{within, new_buffer}
+use Rattle.aml_meaning.specs.NewObjects.{within}
 use Rattle.aml_meaning.specs.declared.store_target.Held.TheVariants as held
 use Rattle.aml_meaning.specs.declared.store_target.StoreTarget.TheVariants as targets
 use Rattle.aml_meaning.specs.StoreTargets.{tested, value_followed, most_references}
@@ -66,7 +66,7 @@ use Rattle.aml_frames.specs.declared.uses.Inquiry.{Inquiry}
 use Rattle.aml_frames.specs.declared.uses.Inquiry.TheVariants as inquiry
 use Rattle.aml_frames.specs.declared.uses.TargetUse.TheVariants as uses
 use Rattle.aml_frames.specs.Addresses.{part_met}
-use Rattle.aml_frames.specs.Data.{package_left, package_of_all, package_run}
+use Rattle.aml_frames.specs.Data.{buffer_made, package_left, package_of_all, package_run}
 use Rattle.aml_frames.specs.Indexed.{writes_done, unit_given, unit_behind, unit_merged}
 use Rattle.aml_frames.specs.Banked as banked
 use Rattle.aml_frames.specs.declared.banked.BankedField.{BankedField}
@@ -287,8 +287,7 @@ module _ {S : Type 0} (accesses : Accesses S) (ev : Task → Run S Flow) where
   resumed (frames.Buffer o) c f = do
     v ← settle (value_in f)
     n ← lift (integer_in v)
-    b ← lift (new_buffer n c.place.rest)
-    give (flow.Value b)
+    buffer_made n c
   resumed (frames.VarPackage levels o) c f = do
     v ← settle (value_in f)
     n ← lift (integer_in v)

@@ -9,14 +9,16 @@ ghost use Rattle.aml_meaning.specs.declared.term_kind.TermKind.TheVariants as ki
 ghost use Rattle.aml_meaning.specs.Meaning.{meaning};
 ghost use Rattle.aml_meaning.specs.DataTerms.{constant_rule};
 ghost use Rattle.aml_frames.specs.declared.frames.Frame.TheVariants as frames;
+ghost use Rattle.aml_frames.specs.declared.frames.Next.TheVariants as next;
 ghost use Rattle.aml_frames.specs.Places.{at_place};
 ghost use Rattle.aml_frames.specs.Operands.{row_kind, outside_at};
-ghost use Rattle.aml_frames.specs.Data.{data_run, behind_data_at, string_run, buffer_run};
-ghost use Rattle.aml_frames.specs.Follow.{resumed, ends, next_ends, Leads, EndsAt};
+ghost use Rattle.aml_frames.specs.Data.{data_run, behind_data_at, string_run, buffer_run, buffer_made};
+ghost use Rattle.aml_frames.specs.Follow.{resumed, ends, next_ends, next_run, Leads, EndsAt};
 ghost use Rattle.aml_frames.specs.Weights.{next_weight};
 
 use crate::activation::Activation;
 use crate::frames::{Frame, Next};
+use crate::known::known_integer;
 use crate::packages::{begin_package, begin_var_package};
 use crate::position::Position;
 use crate::values::integer_of;
@@ -46,7 +48,7 @@ pub fn begin_data<S: Space>(
         DataKind::Constant(number) => begin_constant(run, act, number),
         DataKind::Integer => begin_integer(run, act, levels, place),
         DataKind::String => begin_string(run, act),
-        DataKind::Buffer => Ok(begin_buffer(run, act, levels)),
+        DataKind::Buffer => begin_buffer(run, act, levels),
         DataKind::Package => begin_package(run, act, levels),
         DataKind::VarPackage => Ok(begin_var_package(run, act, levels)),
     }
@@ -111,15 +113,36 @@ fn take_text(alloc: Global, act: &mut Activation) -> Result<Octets>
 }
 
 /// A Buffer: its size is evaluated, and the bytes behind it are its first ones.
-#[tactic(auto, using(crate::proofs::Forming::buffers))]
-fn begin_buffer<S: Space>(run: &Running<S>, act: &mut Activation, levels: u8) -> Next
-    ensures falls { next_weight result < 6 }
-    ensures means { Leads S.accesses (meaning S.accesses) (Ok result) act.new run.now
-        (buffer_run (meaning S.accesses) act.old levels) run.now }
-    ensures ends { next_ends result act.new ≡ at_place act.old (outside_at act.old.place) }
+#[tactic(auto, using(crate::proofs::Forming::buffers, crate::proofs::Knowing::going_on))]
+fn begin_buffer<S: Space>(run: &mut Running<S>, act: &mut Activation, levels: u8) -> Result<Next>
+    ensures spent { run.new.1 ≤ run.old.1 }
+    ensures falls { IfOk result (λ n. next_weight n < 6) }
+    ensures means { Leads S.accesses (meaning S.accesses) result act.new run.new
+        (buffer_run (meaning S.accesses) act.old levels) run.old }
+    ensures ends { EndsAt result act.new (at_place act.old (outside_at act.old.place)) }
 {
     let outer = act.open();
-    Next::Term(levels, Frame::Buffer(outer))
+    begin_size(run, act, levels, outer)
+}
+
+/// The size of a Buffer, which stands next: with an integer that is there already the buffer is made at once.
+#[tactic(auto, using(crate::proofs::Knowing::taking_known))]
+fn begin_size<S: Space>(
+    run: &mut Running<S>,
+    act: &mut Activation,
+    levels: u8,
+    outer: Position,
+) -> Result<Next>
+    ensures spent { run.new.1 ≤ run.old.1 }
+    ensures falls { IfOk result (λ n. next_weight n < 6) }
+    ensures means { Leads S.accesses (meaning S.accesses) result act.new run.new
+        (next_run S.accesses (meaning S.accesses) (next.Term levels (frames.Buffer outer)) act.old) run.old }
+    ensures ends { EndsAt result act.new (next_ends (next.Term levels (frames.Buffer outer)) act.old) }
+{
+    match known_integer(run, act, levels)? {
+        Some(size) => make_buffer(run, act, outer, size),
+        None => Ok(Next::Term(levels, Frame::Buffer(outer))),
+    }
 }
 
 /// A Buffer whose size was evaluated.
@@ -138,6 +161,23 @@ pub(crate) fn resume_buffer<S: Space>(
 {
     let value = flow.value()?;
     let size = integer_of(&run.world, value)?;
+    make_buffer(run, act, outer, size)
+}
+
+/// A Buffer of so many bytes, behind its size.
+#[tactic(auto, using(crate::proofs::Stepping::stepping))]
+fn make_buffer<S: Space>(
+    run: &mut Running<S>,
+    act: &mut Activation,
+    outer: Position,
+    size: u64,
+) -> Result<Next>
+    ensures spent { run.new.1 ≤ run.old.1 }
+    ensures falls { IfOk result (λ n. next_weight n < 6) }
+    ensures means { Leads S.accesses (meaning S.accesses) result act.new run.new
+        (buffer_made size act.old) run.old }
+    ensures ends { EndsAt result act.new (ends (frames.Buffer outer) act.old) }
+{
     let bytes = copied(run.world.alloc, act.rest())?;
     let buffer = run.world.new_buffer(size, bytes)?;
     act.go_to(outer);
