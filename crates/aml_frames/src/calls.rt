@@ -1,9 +1,11 @@
 //! Calls of control methods (ACPI 6.5, 5.5.2 and 20.2.5: MethodInvocation).
-ghost use Rattle.std.specs.Prelude.{◌≡◌, ◌≤◌, ◌<◌, ◌+◌, ◌-◌, IfOk, slice_index_or};
+ghost use Rattle.std.specs.Prelude.{◌≡◌, ◌≤◌, ◌<◌, ◌+◌, IfOk, IsOkUnless, slice_index_or};
+ghost use Rattle.ar_space.specs.declared.refusal.Refusal.TheVariants.{OutOfMemory};
 ghost use Rattle.aml_objects.specs.declared.value.Value.TheVariants.{Uninitialized};
 ghost use Rattle.aml_meaning.specs.Meaning.{meaning};
 ghost use Rattle.aml_meaning.specs.Invocations.{frame_arguments, invoked};
 ghost use Rattle.aml_frames.specs.declared.frames.Frame.TheVariants as frames;
+ghost use Rattle.aml_frames.specs.declared.frames.Next.TheVariants as next;
 ghost use Rattle.aml_frames.specs.Entering.{Enters};
 ghost use Rattle.aml_frames.specs.Follow.{called, entered_then, arguments_left, behind_arguments, resumed, ends, Leads};
 ghost use Rattle.aml_frames.specs.Follow.{EndsAt};
@@ -20,6 +22,7 @@ use aml_meaning::{Flow, Running};
 use aml_objects::{Body, Value};
 use aml_path::Path;
 use ar_space::{Result, Space};
+use std::alloc::Global;
 
 /// Evaluates the arguments that are left of a call, and makes it then. Integers that are there already are taken at
 /// once; for the first other argument the call waits (`Frame::Argument`).
@@ -27,7 +30,7 @@ use ar_space::{Result, Space};
 pub fn begin_call<S: Space>(
     run: &mut Running<S>,
     act: &mut Activation,
-    call: Boxed<Call>,
+    call: Call,
 ) -> Result<Next>
     ensures spent { run.new.1 ≤ run.old.1 }
     ensures falls { IfOk result (λ n. next_weight n < 6) }
@@ -36,27 +39,25 @@ pub fn begin_call<S: Space>(
     ensures ends { EndsAt result act.new (behind_arguments call act.old) }
 {
     let mut call = call;
-    'arguments: while call.get().left > 0 {
-        let levels = call.get().levels;
+    'arguments: while call.left > 0 {
+        let levels = call.levels;
         let known = known_integer(run, act, levels)?;
-        call = one_fewer(call);
+        call.left -= 1;
         match known {
-            None => return Ok(Next::Term(levels, Frame::Argument(call))),
-            Some(number) => call.inside.done.push(Value::Integer(number))?,
+            None => return wait_for_argument(run.world.alloc, levels, call),
+            Some(number) => call.done.push(Value::Integer(number))?,
         }
     }
-    begin_callee(run, act, call.into_inner())
+    begin_callee(run, act, call)
 }
 
-/// The same call, of which one argument fewer is left.
-#[inline(always)]
-fn one_fewer(call: Boxed<Call>) -> Boxed<Call>
-    requires { 0 < call.left }
-    ensures { result ≡ record call { left = call.left - 1 } }
+/// A call waits for its argument that stands next.
+fn wait_for_argument(alloc: Global, levels: u8, call: Call) -> Result<Next>
+    ensures waits { IfOk result (λ n. n ≡ next.Term levels (frames.Argument call)) }
+    ensures memory { IsOkUnless result OutOfMemory }
 {
-    let mut call = call;
-    call.inside.left -= 1;
-    call
+    let call = Boxed::new(alloc, call)?;
+    Ok(Next::Term(levels, Frame::Argument(call)))
 }
 
 /// A call whose argument was evaluated.
@@ -73,9 +74,9 @@ pub(crate) fn resume_argument<S: Space>(
         (resumed S.accesses (meaning S.accesses) (frames.Argument call) act.old flow) run.old }
     ensures ends { EndsAt result act.new (ends (frames.Argument call) act.old) }
 {
-    let mut call = call;
     let value = flow.value()?;
-    call.inside.done.push(value)?;
+    let mut call = call.into_inner();
+    call.done.push(value)?;
     begin_call(run, act, call)
 }
 

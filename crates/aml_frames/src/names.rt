@@ -12,7 +12,6 @@ ghost use Rattle.aml_frames.specs.Weights.{most, next_weight};
 
 use crate::accesses::begin_read;
 use crate::activation::Activation;
-use crate::boxed::Boxed;
 use crate::calls::begin_call;
 use crate::frames::{Call, Callee, Next};
 use crate::short_names::node_at;
@@ -94,8 +93,7 @@ fn begin_invocation<S: Space>(
                 levels,
                 done: Vec::new(run.world.alloc),
             };
-            let held = Boxed::new(run.world.alloc, call)?;
-            begin_call(run, act, held)
+            begin_call(run, act, call)
         }
         Invocation::Osi => {
             let call = Call {
@@ -104,8 +102,7 @@ fn begin_invocation<S: Space>(
                 levels,
                 done: Vec::new(run.world.alloc),
             };
-            let held = Boxed::new(run.world.alloc, call)?;
-            begin_call(run, act, held)
+            begin_call(run, act, call)
         }
     }
 }
