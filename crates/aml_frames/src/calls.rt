@@ -1,11 +1,9 @@
 //! Calls of control methods (ACPI 6.5, 5.5.2 and 20.2.5: MethodInvocation).
-ghost use Rattle.std.specs.Prelude.{◌≡◌, ◌≤◌, ◌<◌, ◌+◌, IfOk, IsOkUnless, slice_index_or};
-ghost use Rattle.ar_space.specs.declared.refusal.Refusal.TheVariants.{OutOfMemory};
+ghost use Rattle.std.specs.Prelude.{◌≡◌, ◌≤◌, ◌<◌, ◌+◌, IfOk, slice_index_or};
 ghost use Rattle.aml_objects.specs.declared.value.Value.TheVariants.{Uninitialized};
 ghost use Rattle.aml_meaning.specs.Meaning.{meaning};
 ghost use Rattle.aml_meaning.specs.Invocations.{frame_arguments, invoked};
 ghost use Rattle.aml_frames.specs.declared.frames.Frame.TheVariants as frames;
-ghost use Rattle.aml_frames.specs.declared.frames.Next.TheVariants as next;
 ghost use Rattle.aml_frames.specs.Entering.{Enters};
 ghost use Rattle.aml_frames.specs.Follow.{called, entered_then, arguments_left, behind_arguments, resumed, ends, Leads};
 ghost use Rattle.aml_frames.specs.Follow.{EndsAt};
@@ -22,16 +20,11 @@ use aml_meaning::{Flow, Running};
 use aml_objects::{Body, Value};
 use aml_path::Path;
 use ar_space::{Result, Space};
-use std::alloc::Global;
 
 /// Evaluates the arguments that are left of a call, and makes it then. Integers that are there already are taken at
 /// once; for the first other argument the call waits (`Frame::Argument`).
 #[tactic(auto, using(crate::proofs::Stepping::calls, crate::proofs::Arguments::arguing))]
-pub fn begin_call<S: Space>(
-    run: &mut Running<S>,
-    act: &mut Activation,
-    call: Call,
-) -> Result<Next>
+pub fn begin_call<S: Space>(run: &mut Running<S>, act: &mut Activation, call: Call) -> Result<Next>
     ensures spent { run.new.1 ≤ run.old.1 }
     ensures falls { IfOk result (λ n. next_weight n < 6) }
     ensures means { Leads S.accesses (meaning S.accesses) result act.new run.new
@@ -44,20 +37,14 @@ pub fn begin_call<S: Space>(
         let known = known_integer(run, act, levels)?;
         call.left -= 1;
         match known {
-            None => return wait_for_argument(run.world.alloc, levels, call),
+            None => {
+                let waiting = Boxed::new(run.world.alloc, call)?;
+                return Ok(Next::Term(levels, Frame::Argument(waiting)));
+            }
             Some(number) => call.done.push(Value::Integer(number))?,
         }
     }
     begin_callee(run, act, call)
-}
-
-/// A call waits for its argument that stands next.
-fn wait_for_argument(alloc: Global, levels: u8, call: Call) -> Result<Next>
-    ensures waits { IfOk result (λ n. n ≡ next.Term levels (frames.Argument call)) }
-    ensures memory { IsOkUnless result OutOfMemory }
-{
-    let call = Boxed::new(alloc, call)?;
-    Ok(Next::Term(levels, Frame::Argument(call)))
 }
 
 /// A call whose argument was evaluated.
