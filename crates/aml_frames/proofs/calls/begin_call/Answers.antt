@@ -26,12 +26,12 @@ returns-clause-means g c =
     let none : c.arguments.call.left ≡ 0 = let h = c.arguments-test.false in omega (arith, h) in
     arguments_done c.arguments.act c.arguments.call c.arguments.invariant.same none c.begin_callee.ensures.means
 
-pub returns-in_ok-waiting-in-None-clause-means : goal.returns-in_ok-waiting-in-None-clause-means
-returns-in_ok-waiting-in-None-clause-means g c =
+pub returns-in-None-clause-means : goal.returns-in-None-clause-means
+returns-in-None-clause-means g c =
     let some : 0 < c.arguments.call.left = c.arguments-test.true in
     argument_waits c.arguments.act c.arguments.call c.in_ok-waiting-in-None.waiting c.arguments.invariant.same some c.in_ok-waiting-in-None.ensures (c.in_ok-known.ensures.stays c.in-None.is) (c.in_ok-known.ensures.none c.in-None.is)
 
-pub returns-in_ok-waiting-in-None-clause-ends : goal.returns-in_ok-waiting-in-None-clause-ends
-returns-in_ok-waiting-in-None-clause-ends g c =
+pub returns-in-None-clause-ends : goal.returns-in-None-clause-ends
+returns-in-None-clause-ends g c =
     let some : 0 < c.arguments.call.left = c.arguments-test.true in
     ends_waiting _ c.arguments.act c.known_integer.new.act c.arguments.call c.in_ok-waiting-in-None.waiting c.arguments.invariant.ends some c.in_ok-waiting-in-None.ensures (c.in_ok-known.ensures.stays c.in-None.is)
