@@ -25,10 +25,10 @@ ghost use Rattle.aml_laws.specs.CountsTold.{declared_with, named_with, NoneDecla
 ghost use Rattle.aml_laws.specs.CountsTold.{IsNearestCount, HasNoCount};
 ghost use Rattle.aml_laws.specs.NamesWritten.{single, StandsFor};
 
-/// A path takes as many arguments as the name that was declared there last: a control method that is declared again,
-/// and one whose flags are read behind its name, with the later count. Where no name was declared there, it takes as
-/// many as an External told last, and where none told of it, how many isn't known. A count that is told first and
-/// stays is refused by this.
+/// A path takes as many arguments as the last declaration of a name there tells: where a control method is declared
+/// again, and where its flags are read after its name, the later number counts. Where no name was declared there, it
+/// takes as many as the last External tells; where no External told of it either, the number isn't known. The law
+/// excludes a number that is told first and stays.
 pub fn a_path_takes_the_arguments_that_are_told_last()
     ensures declared { (front back : List Arity) (path : List Seg) (count : ℕ) → NoneDeclared path back →
         arity_at (front ++ declared_with path count ∷ back) path ≡ Some count }
@@ -39,11 +39,12 @@ pub fn a_path_takes_the_arguments_that_are_told_last()
         arity_at told path ≡ None }
 {}
 
-/// While bytes are read, a name of one segment and without a prefix takes as many arguments as its segment below the
-/// longest front of the scope below which that has a count: the scope itself is the first, and the root the last. Any
-/// other name takes as many as the one path for which it stands (`StandsFor`). A name without a count there takes none.
-/// Which count a path has `a_path_takes_the_arguments_that_are_told_last` says. A search that ends before the root,
-/// one that is made for each name, and a name without a count that takes an argument are refused by this.
+/// How many arguments a name takes while bytes are read. A name of one segment without a prefix is looked for in its
+/// scope, and then in each scope above it, up to the root: the first path there for which a number of arguments is
+/// known decides. Any other name stands for one path (`StandsFor`), and the number of that path decides. Where no
+/// number is known, the name takes no arguments. Which number a path has,
+/// `a_path_takes_the_arguments_that_are_told_last` says. The law excludes a search that ends before the root, a search
+/// for any other name, and a name without a number that takes an argument.
 pub fn a_name_takes_the_arguments_of_the_nearest_count()
     ensures nearest { (told : List Arity) (scope path : List Seg) (s : Seg) (k count : ℕ) →
         IsNearestCount told scope (s ∷ []) k count → arity_of told scope (single s) path ≡ count }
@@ -55,11 +56,11 @@ pub fn a_name_takes_the_arguments_of_the_nearest_count()
         arity_at told path ≡ None → arity_of told scope name path ≡ 0 }
 {}
 
-/// While bytes are read, the path of the name of a Scope, in which its list is read
-/// (`lists_are_read_and_names_declared_in_their_scope` of `aml_spelling` says so), is the one at which this name has a
-/// count: a name of one segment and without a prefix below the longest front of the scope, as above. Where that has
-/// none, and for any other name, it is the path for which the name stands. A list that is always read at that path is
-/// refused by this.
+/// While bytes are read, the list of a Scope is read in the path of the Scope's name
+/// (`lists_are_read_and_names_declared_in_their_scope` of `aml_spelling`). For a name of one segment without a prefix
+/// this is the path that the search of `a_name_takes_the_arguments_of_the_nearest_count` finds. Where that finds none,
+/// and for any other name, it is the path for which the name stands. The law excludes a list that is always read at the
+/// latter path.
 pub fn the_list_of_a_scope_is_read_at_the_nearest_count()
     ensures nearest { (told : List Arity) (scope path : List Seg) (s : Seg) (k count : ℕ) →
         IsNearestCount told scope (s ∷ []) k count →
@@ -70,12 +71,12 @@ pub fn the_list_of_a_scope_is_read_at_the_nearest_count()
         or_path path (found told scope name path) ≡ path }
 {}
 
-/// The terms of a table are read within the levels that are allowed, and with the numbers of arguments that the world
-/// has kept for names: those of the predefined names, and those that the tables before told of their names and
-/// Externals. Behind them the world keeps those that this table tells, too, and nothing else changes before the terms
-/// are evaluated. A table that can't be read is refused so, and changes nothing but that all mutexes are free. A table
-/// that is read as if no other one were loaded, and one that tells later tables and bodies nothing, are refused by
-/// this.
+/// The terms of a table are read within the levels that the world allows, and with the numbers of arguments that the
+/// world keeps for names: those of the predefined names, and those that earlier tables told of their names and
+/// Externals. After the reading the world also keeps the numbers that this table tells; nothing else changes before the
+/// terms are evaluated. A table that can't be read is refused for that, and changes nothing but that all mutexes are
+/// free. The law excludes a table that is read as if no other one were loaded, and one that tells later tables and
+/// bodies nothing.
 pub fn a_table_is_read_with_what_was_told_before_it<S>()
     ensures read { (w : State S) (bytes : List ℕ) (ts : List Tree) (told : List Arity) →
         table_reading_within w.nesting.levels bytes w.arities ≡ Ok (ts, told) →
@@ -87,11 +88,12 @@ pub fn a_table_is_read_with_what_was_told_before_it<S>()
         loaded accesses bytes steps w ≡ (Err e, record w { names = mutexes_released w.names }) }
 {}
 
-/// Evaluations keep how many arguments names take, as the predefined names and the tables told it: a term, a list of
+/// Evaluations keep how many arguments names take, as the predefined names and the tables told it. A term, a list of
 /// terms, a call of a control method, a field that is read, a store, the value of an object, an answer and a note of
-/// what is passed over change nothing of it, however they end; so an External in a body tells nothing beyond the call.
-/// Only a table tells more: what its reading told stands after it, however the evaluation of its terms ended, and where
-/// it can't be read, what stood before it. A frame of slots that forgets this where it ends is refused by this.
+/// what is passed over change none of these numbers, however they end; so an External in a body has no effect after the
+/// call. Only a table adds numbers. Those that its reading told stay, however the evaluation of its terms ended; where
+/// it can't be read, the numbers are those before it. The law excludes a frame of slots that forgets them where it
+/// ends.
 pub fn evaluation_keeps_the_arguments_that_are_told<S>()
     ensures terms { (accesses : Accesses S) (t : Task) (s : State S × ℕ) →
         (meaning accesses t s).1.0.arities ≡ s.0.arities }

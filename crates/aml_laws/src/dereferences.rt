@@ -37,14 +37,14 @@ ghost use Rattle.aml_laws.specs.ReferringTerms.{size_of, object_type};
 ghost use Rattle.aml_laws.specs.StoredParts.{HoldsNothing};
 ghost use Rattle.aml_laws.specs.TargetsNamed.{IsReferring};
 
-/// DerefOf evaluates its operand, and reads what the reference that this gives refers to, one step on (ACPI 6.5, 19.6:
-/// DerefOf): the value that a name, a local, an argument or an element of a package holds, or the byte of a string or
-/// of a buffer, which is an integer. Of a name that holds neither a value nor a field it gives the reference again.
-/// Where what the reference referred to is gone, it is refused as a dead one; where a slot or an element holds no value
-/// yet, as `NoValue`; and where the operand gives anything but a reference, a string that could be a path among them,
-/// as `WrongType`. In general it gives what `dereferenced` says: the value, or the refusal, and of a field what its
-/// bits are. A DerefOf that gives 0 of a local, one that gives nothing of a dead reference, and one that searches for a
-/// string as a name, are refused by this.
+/// DerefOf evaluates its operand, and reads what the reference that this gives refers to, following no further
+/// reference (ACPI 6.5, 19.6: DerefOf): the value that a name, a local, an argument or an element of a package holds,
+/// or the byte of a string or of a buffer, which is an integer. Of a name that holds neither a value nor a field it
+/// gives the reference again. It is refused as `DeadReference` where what the reference referred to is gone, as
+/// `NoValue` where a slot or an element holds no value yet, and as `WrongType` where the operand gives anything but a
+/// reference, for example a string that could be a path. In general it gives what `dereferenced` says: the value, or
+/// the refusal, and of a field what its bits are. The law excludes a DerefOf that gives 0 of a local, one that gives
+/// nothing of a dead reference, and one that searches for a string as a name.
 pub fn a_dereference_reads_what_its_operand_refers_to<S>()
     ensures held { (accesses : Accesses S) (scope : List Seg) (depth : ℕ) (x : Tree) (w : State S) (steps : ℕ)
         (r : Reference) (after : State S × ℕ) →
@@ -100,12 +100,13 @@ pub fn a_dereference_reads_what_its_operand_refers_to<S>()
         IsRefused accesses scope depth (of_one opcodes.DerefOf x) (w, suc steps) e end }
 {}
 
-/// SizeOf and ObjectType refuse references that come to no end as dead ones, and change nothing: where 64 references
-/// lead on, each to the next; where the last of them is dead; and where one leads, by way of others or by itself, back
-/// to itself. So they do of a RefOf, a DerefOf or an Index that gives such a reference, and of a local, an argument or
-/// a name that holds one. A slot or an element that holds no value yet is an end: it is what is found. Of other ends
-/// `at_most_64_references_are_followed` speaks. A circle that is left after one turn, and a dead reference that counts
-/// as one that holds no value yet, are refused by this.
+/// SizeOf and ObjectType refuse references without an end as `DeadReference`; nothing changes but what evaluating the
+/// operand changes. There is no end where 64 references or more lead on, each to the next; where the last of them is
+/// dead; and where one leads back to itself, at once or by way of others. It is said of a RefOf, a DerefOf or an Index
+/// that gives such a reference, and of a local, an argument or a name that holds one. A slot or an element that holds
+/// no value yet, to which fewer than 64 lead, is an end: it is what is found. Of other ends
+/// `at_most_64_references_are_followed` speaks. The law excludes a circle that is left after one turn, and a dead
+/// reference that counts as one that holds no value yet.
 pub fn references_without_an_end_are_dead<S>()
     ensures dead { (w : State S) (r : Reference) → HasNoEnd w r →
         target_referent (targets.Refers r) w ≡ (Err (refusal.Evaluation DeadReference), w) }
@@ -123,11 +124,11 @@ pub fn references_without_an_end_are_dead<S>()
         (w, steps) }
 {}
 
-/// SizeOf and ObjectType of a name that isn't found are refused as the search for it is. So they are where fewer than
-/// 64 references lead, each to the next, to an element of a package that is a name, and this isn't found from the scope
-/// where the package was made: of a RefOf, a DerefOf or an Index that gives such a reference, and of a local, an
-/// argument or a name that holds one. Nothing changes but what evaluating the operand changes. An ObjectType that is 0
-/// of a name that isn't found, and one of an element whose name is taken for no value, are refused by this.
+/// SizeOf and ObjectType of a name that isn't found are refused as the search for it is. The same holds where fewer
+/// than 64 references lead, each to the next, to an element of a package that is a name, and this name isn't found from
+/// the scope where the package was made. The first reference is given by a RefOf, a DerefOf or an Index, or held by a
+/// local, an argument or a name. Nothing changes but what evaluating the operand changes. The law excludes an
+/// ObjectType that is 0 of a name that isn't found, and one of an element whose name is taken for no value.
 pub fn sizes_and_types_are_refused_as_searches_are<S>()
     ensures names { (accesses : Accesses S) (scope : List Seg) (depth : ℕ) (w : State S) (steps : ℕ) (n : Name)
         (e : Refusal) → found w.names.map scope n ≡ Err e →
@@ -146,9 +147,9 @@ pub fn sizes_and_types_are_refused_as_searches_are<S>()
         IsRefused accesses scope depth (object_type p) (w, suc steps) e (w, steps) }
 {}
 
-/// A Store and a CopyObject to what a dead reference referred to are refused as it is, and change nothing; so is a
+/// A Store and a CopyObject through a dead reference are refused as `DeadReference`, and change nothing. So is a
 /// CopyObject through a reference to an argument where arguments, each of which holds a reference to the next, lead to
-/// a dead one. A store to a name that is gone that is done is refused by this.
+/// a dead one. The law excludes a store to a name that is gone that is done nevertheless.
 #[tactic(auto, using(crate::proofs::DeadStores::dead_is_not_stored_to, crate::proofs::DeadStores::dead_is_not_copied_to))]
 pub fn a_dead_reference_takes_nothing<S>()
     ensures stored { (w : State S) (v : Value) (r : Reference) → IsDead w r →

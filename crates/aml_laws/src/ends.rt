@@ -35,11 +35,12 @@ ghost use Rattle.aml_laws.specs.NamesUsed.{IsGivenBy};
 ghost use Rattle.aml_laws.specs.NamesWritten.{from_root};
 ghost use Rattle.aml_laws.specs.StoredNames.{data_entry};
 
-/// A table whose terms are read comes to what they come to, evaluated in turn at the root and in a frame of their own,
-/// whose slots hold nothing, and leaves the world that they left, whether it succeeds or is refused: only this frame
-/// ends, and all mutexes are free. Where frames have no number left, it is refused as `ObjectLimit`, and its terms
-/// aren't evaluated. A table that is loaded and leaves nothing behind is refused by this. That a table which can't be
-/// read changes nothing else either `a_table_is_read_with_what_was_told_before_it` says.
+/// Where the terms of a table can be read, they are evaluated in turn at the root, in a frame of their own whose slots
+/// hold nothing. The table comes to what they come to, and leaves the world that they left, whether it succeeds or is
+/// refused; only this frame ends, and all mutexes are free. Where frames have no number left, the table is refused as
+/// `ObjectLimit`, and its terms aren't evaluated. That a table which can't be read changes nothing else either,
+/// `a_table_is_read_with_what_was_told_before_it` says. The law excludes a table that is loaded and leaves nothing
+/// behind.
 pub fn a_table_leaves_what_its_terms_left<S>()
     ensures ended { (accesses : Accesses S) (bytes : List ℕ) (steps : ℕ) (w told : State S) (ts : Trees) →
         table_terms bytes w ≡ (Ok ts, told) → told.started < 2 ^ 64 - 1 →
@@ -49,14 +50,14 @@ pub fn a_table_leaves_what_its_terms_left<S>()
         EndsAs (Err (refusal.Evaluation ObjectLimit), (told, steps)) (loaded accesses bytes steps w) }
 {}
 
-/// The value of an object, and what it answers to a caller, is what its evaluation comes to with the same steps, and
-/// the world is the one that this left, whether it succeeds or is refused: a value is told with the steps that are
-/// left, and where an answer ends, all mutexes are free. So the value of a control method is what it gives, called with
-/// these arguments, and what it answers is this value handed out, or the refusal of either. Of an object that is no
-/// control method this says only that its answer ends as its evaluation does; what that is
-/// `an_object_that_is_no_control_method_answers_what_it_holds` says, and of a path where none is found
-/// `a_name_that_is_not_found_is_refused`. One that succeeds and leaves nothing behind, and one that has a step less
-/// than it was given, are refused by this.
+/// The value of an object, and its answer to a caller, are what its evaluation comes to with the same steps. They leave
+/// the world that the evaluation left, whether they succeed or are refused. A value comes with the steps that are left;
+/// after an answer all mutexes are free. So the value of a control method is what a call with these arguments gives.
+/// Its answer is this value, handed out to the caller, and where the call or the handing out is refused, the answer is
+/// refused so. Of an object that is no control method this says only that its answer ends as its evaluation does. What
+/// it answers, `an_object_that_is_no_control_method_answers_what_it_holds` says, and of a path where no object is
+/// found, `a_name_that_is_not_found_is_refused`. The law excludes an answer that succeeds and leaves nothing behind,
+/// and one that has a step less than it was given.
 pub fn an_answer_leaves_what_its_evaluation_left<S>()
     ensures value { (accesses : Accesses S) (p : List Seg) (vs : List Value) (w after : State S) (steps rest : ℕ)
         (v : Value) → called accesses p vs (w, steps) ≡ (Ok v, (after, rest)) →
@@ -86,12 +87,12 @@ pub fn an_answer_leaves_what_its_evaluation_left<S>()
 {}
 
 /// An object that is no control method takes no arguments: with any it is refused as `ArityChanged`, before anything is
-/// handed in. A name that holds an integer, a string, a buffer or a package has this as its value, and one that holds a
-/// reference a reference to itself; it takes no step and changes nothing, and what it answers is this value handed out.
-/// A field is read, as inside one call: its bits are an integer where they are no more than an integer has, else they
-/// are a new buffer, and bytes where they are handed out, of which no object is made. What refuses the field refuses
-/// both. A name whose value is lost, a field that is read as outside of calls, and arguments that are passed over are
-/// refused by this.
+/// handed in. The value of a name that holds an integer, a string, a buffer or a package is what the name holds; that
+/// of a name that holds a reference is a reference to the name itself. This takes no step and changes nothing, and the
+/// answer is this value handed out. A field is read as inside one call. Its bits are an integer where they are no more
+/// than an integer has. Where they are more, the value is a new buffer, and the answer is their bytes, of which no
+/// object is made. What refuses the field refuses both. The law excludes a name whose value is lost, a field that is
+/// read as outside of calls, and arguments that are passed over.
 pub fn an_object_that_is_no_control_method_answers_what_it_holds<S>()
     ensures value { (accesses : Accesses S) (p : List Seg) (w : State S) (steps : ℕ) (path : List Seg) (number : ℕ)
         (v r : Value) → found w.names.map [] (from_root p) ≡ Ok (path, data_entry number v) → IsGivenBy number v r →
@@ -133,11 +134,11 @@ pub fn an_object_that_is_no_control_method_answers_what_it_holds<S>()
         EndsAs (Err (refusal.Evaluation ArityChanged), (w, steps)) (answered accesses p (g ∷ gs) steps w) }
 {}
 
-/// The first argument that can't be handed in refuses the call, and nothing is evaluated: the world is the one that
-/// this argument left, in which all mutexes are free. It is looked at where the control method takes as many arguments
-/// as there are. Which can't be handed in `a_reference_without_a_path_is_not_handed_in`,
-/// `a_path_is_handed_in_as_a_reference_to_what_it_finds` and the laws of limits say. One that is handed in as nothing
-/// is refused by this.
+/// Where there are as many arguments as the control method takes, the first one that can't be handed in refuses the
+/// call, and nothing is evaluated. The world is the one that this argument left, with all mutexes free. Which data
+/// can't be handed in, `a_reference_without_a_path_is_not_handed_in`,
+/// `a_path_is_handed_in_as_a_reference_to_what_it_finds` and the laws of limits say. The law excludes such an argument
+/// that is handed in as nothing.
 pub fn the_first_argument_that_is_refused_refuses_the_call<S>()
     ensures { (accesses : Accesses S) (p path : List Seg) (front others : List Given) (g : Given) (w : State S)
         (entry : Entry) (m : Method) (steps : ℕ) → found w.names.map [] (from_root p) ≡ Ok (path, entry) →
@@ -147,9 +148,9 @@ pub fn the_first_argument_that_is_refused_refuses_the_call<S>()
         EndsAs (Err e, (after, steps)) (answered accesses p (front ++ g ∷ others) steps w) }
 {}
 
-/// The end of a call takes its own frame away, and the names below its control method, and changes nothing else of the
-/// world that its body left, however that ended: no slot of another frame, no string, buffer or package, and no other
-/// name. A call that empties what its arguments refer to is refused by this.
+/// The end of a call takes away its own frame and the names below its control method. It changes nothing else of the
+/// world that its body left, however the body ended: no slot of another frame, no string, buffer or package, and no
+/// other name. The law excludes a call that empties what its arguments refer to.
 pub fn the_end_of_a_call_takes_its_frame_and_names_away<S>()
     ensures { (accesses : Accesses S) (depth : ℕ) (p : List Seg) (body : List ℕ) (arguments : List Value)
         (before inside : State S) (steps n : ℕ) → body_frame depth p body arguments before ≡ (Ok n, inside) →

@@ -43,8 +43,8 @@ ghost use Rattle.aml_laws.specs.StoredNames.{data_entry, cut_or_filled};
 ghost use Rattle.aml_laws.specs.StoreTerms.{IsNoBuffer, IsNoString};
 ghost use Rattle.aml_laws.specs.TestTerms.{TwoValues};
 
-/// Where 262,144 objects stand, no string, no buffer and no package is made: each is refused as too much, however short
-/// it is, and nothing changes. One that is put behind them is refused by this.
+/// Where 262,144 objects stand, no string, no buffer and no package is made: each is refused as `ObjectLimit`, however
+/// short it is, and nothing changes. The law excludes an object that is put behind these.
 pub fn no_object_is_made_behind_the_last()
     ensures strings { (bytes : List ℕ) (objects : Objects) → 262144 ≤ length objects →
         make_string bytes objects ≡ (Err (refusal.Evaluation ObjectLimit), objects) }
@@ -54,18 +54,19 @@ pub fn no_object_is_made_behind_the_last()
         make_package elements objects ≡ (Err (refusal.Evaluation ObjectLimit), objects) }
 {}
 
-/// A copy that is refused, and data that is handed in and is refused, make no object, whatever was copied or taken in
-/// of it before the refusal; nothing changes. Objects that are left of a package of which an element was refused are
-/// refused by this.
+/// A copy that is refused, and data that is handed in and is refused, make no object, however much of it was copied or
+/// handed in before the refusal; nothing changes. The law excludes objects that are left of a package of which an
+/// element was refused.
 pub fn what_is_refused_leaves_no_object<S>()
     ensures copied { (objects after : Objects) (v : Value) (e : Refusal) → copied v objects ≡ (Err e, after) →
         after ≡ objects }
     ensures handed_in { (w after : State S) (g : Given) (e : Refusal) → imported g w ≡ (Err e, after) → after ≡ w }
 {}
 
-/// What `what_is_within_the_limits_is_copied` and `what_is_within_the_limits_is_handed_in` say can be copied and handed
-/// in is refused as too much where there isn't room for all its objects, and nothing changes. A copy that leaves out
-/// what has no room, and one that is made nevertheless, are refused by this.
+/// A value that can be copied (`what_is_within_the_limits_is_copied`), and data that can be handed in
+/// (`what_is_within_the_limits_is_handed_in`), are refused as `ObjectLimit` where there isn't room for all their
+/// objects, and nothing changes. The law excludes a copy that leaves out what has no room, and one that is made
+/// nevertheless.
 pub fn what_has_no_room_is_refused<S>()
     ensures copied { (objects : Objects) (count : ℕ) (v : Value) → IsCopyable objects 64 count v →
         length objects ≤ 262144 → 262144 < length objects + count →
@@ -75,11 +76,11 @@ pub fn what_has_no_room_is_refused<S>()
         imported g w ≡ (Err (refusal.Evaluation ObjectLimit), w) }
 {}
 
-/// A string and a Buffer for which there is no room, and a Package and a VarPackage, are refused as too much, behind
-/// what they evaluate: of more than 1,048,576 bytes or 65,535 elements with those that fill them, or where 262,144
-/// objects stand. A VarPackage that counts more than 65,535 elements is refused so before any of them is evaluated. No
-/// object is formed. A Buffer that is cut to its limit, and one that is refused as of the wrong type, are refused by
-/// this.
+/// A string, a Buffer, a Package and a VarPackage are refused as `ObjectLimit`, once their operands and elements are
+/// evaluated, where there is no room for what they form: where it has more than 1,048,576 bytes or 65,535 elements,
+/// with those that fill it up, or where 262,144 objects stand. A VarPackage that counts more than 65,535 elements is
+/// refused so before any of them is evaluated. No object is formed. The law excludes a Buffer that is cut to its limit,
+/// and one that is refused as of the wrong type.
 pub fn what_has_no_room_is_not_formed<S>()
     ensures string { (accesses : Accesses S) (scope : List Seg) (depth : ℕ) (text : List ℕ) (w : State S) (steps : ℕ) →
         Exceeds w text → IsRefused accesses scope depth (string_term text) (w, suc steps)
@@ -103,10 +104,10 @@ pub fn what_has_no_room_is_not_formed<S>()
         IsRefused accesses scope depth (var_package_term x ts) (w, suc steps) (refusal.Evaluation ObjectLimit) after }
 {}
 
-/// Concatenate and ConcatenateResTemplate are refused as too much, behind both operands, where there is no room for
-/// what they join: of more than 1,048,576 bytes, or where 262,144 objects stand. So are ToBuffer, and in the wide
-/// profile ToDecimalString and ToHexString, where there is none for what their operand converts to. Nothing is formed,
-/// and nothing is stored. A text that is cut to its limit is refused by this.
+/// Concatenate and ConcatenateResTemplate are refused as `ObjectLimit`, once both operands are evaluated, where there
+/// is no room for what they join: where it has more than 1,048,576 bytes, or where 262,144 objects stand. So are
+/// ToBuffer, and in the wide profile ToDecimalString and ToHexString, where there is no room for what their operand
+/// converts to. Nothing is formed, and nothing is stored. The law excludes a text that is cut to its limit.
 pub fn what_has_no_room_is_not_joined<S>()
     ensures values { (accesses : Accesses S) (scope : List Seg) (depth : ℕ) (x y : Tree) (w : State S) (steps : ℕ)
         (v u : Value) (after : State S × ℕ) → TwoValues accesses scope depth x y (w, steps) v u after → (c : Content)
@@ -139,11 +140,11 @@ pub fn what_has_no_room_is_not_joined<S>()
         (refusal.Evaluation ObjectLimit) after }
 {}
 
-/// A Store to a name that holds a string is refused as too much where its value converts to a text of more than
-/// 1,048,576 bytes, and one to a name that holds an empty buffer where it converts to more bytes. Nothing changes. One
-/// to a name that holds any other buffer is refused so where the bytes, cut or filled to the length of this buffer, are
-/// more; but in worlds that evaluations make no buffer is so long (`integers_stay_below_two_to_the_width`), and none is
-/// refused. A text that is cut, or stored nevertheless, is refused by this.
+/// A Store to a name is refused as `ObjectLimit`, and nothing changes, where it would write more than 1,048,576 bytes:
+/// to a name that holds a string, the text that the value converts to; to a name that holds an empty buffer, the bytes
+/// that it converts to; and to a name that holds any other buffer, these bytes cut or filled to the length of this
+/// buffer. In worlds that evaluations make no buffer is so long (`integers_stay_below_two_to_the_width`), so there a
+/// Store of the last kind is never refused so. The law excludes a text that is cut, or stored nevertheless.
 pub fn what_is_too_long_is_not_stored<S>()
     ensures string { (w : State S) (path : List Seg) (number : ℕ) (v : Value) (o : ℕ) (old text : List ℕ) →
         get w.names.map path ≡ Some (data_entry number (value.String o)) →
@@ -160,11 +161,11 @@ pub fn what_is_too_long_is_not_stored<S>()
         1048576 < length bytes → stored (targets.Name path) v w ≡ (Err (refusal.Evaluation ObjectLimit), w) }
 {}
 
-/// A field of more bits than an integer has, for whose bytes there is no room as a new buffer, is refused as too much,
-/// once it is read: its name, where a value stands, and DerefOf of a reference to the name. In worlds that evaluations
-/// make a field has at most 8,388,608 bits (`integers_stay_below_two_to_the_width`), which are as many bytes as a
-/// buffer may have, so there is no room where no object is left, and only there. Bytes that are cut to the limit are
-/// refused by this.
+/// A field of more bits than an integer has becomes a new buffer where its name stands as a value, and in a DerefOf of
+/// a reference to the name. Where there is no room for this buffer, the term is refused as `ObjectLimit`, once the
+/// field is read. In worlds that evaluations make a field has at most 8,388,608 bits
+/// (`integers_stay_below_two_to_the_width`), which are as many bytes as a buffer may have; so there is no room where no
+/// object is left, and only there. The law excludes bytes that are cut to the limit.
 pub fn a_field_without_room_is_refused<S>()
     ensures named { (accesses : Accesses S) (scope : List Seg) (depth : ℕ) (w : State S) (steps : ℕ) (n : Name)
         (f : Field) (bits : ℕ) (bytes : List ℕ) (after : State S × ℕ) → NamesField w scope n f bits →

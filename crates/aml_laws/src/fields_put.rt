@@ -27,19 +27,19 @@ ghost use Rattle.aml_laws.specs.OperatorTerms.{GivesValue, IsRefused};
 ghost use Rattle.aml_laws.specs.RegionTerms.{operation_region, field, index_field};
 ghost use Rattle.aml_laws.specs.TestTerms.{TwoValues};
 
-/// A Field and an IndexField, in the core profile where no Connection stands in their list and in the wide profile
-/// always, and a BankField in the wide one, declare the fields of their list one after another, each where its name may
-/// stand (ACPI 6.5, 5.3 and 20.2.5.2): at a path that is free, below a name that stands; at module level not below a
-/// control method, but in a control method that is called also below it. The first one whose path takes no name refuses
-/// the list as it refuses each declaration: as `Exists` where a name stands there, as too much where no number is left,
-/// and else as `NotFound`; so does a name that stands for no path, as one that leads above the root. A field without a
-/// bit, or with more than 8,388,608, refuses it by the limit of fields, and so does an element behind which no offset
-/// below 2^64 is left, which is declared before that. The fields in front stay, and nothing else changes. Where a
-/// Connection stands in the list, which the wide profile takes, nothing is evaluated, and the next field begins where
-/// it would without it; the name of one has to find a buffer, or the list is refused there. A list that declares fields
-/// in a control method at module level, one that a control method can't declare, one that the wide profile refuses for
-/// a Connection, one without a Connection that the core profile refuses, and a field above the root that is declared
-/// below it, are refused by this.
+/// The fields of a list are declared one after another, each where its name may stand (ACPI 6.5, 5.3 and 20.2.5.2). The
+/// list is that of a Field or an IndexField, in the core profile where no Connection stands in it and in the wide
+/// profile always, or in the wide profile that of a BankField. A name may stand at a path that is free, below a name
+/// that stands; at module level not below a control method, but in a control method that is called also below it. The
+/// first field whose path takes no name refuses the list as each declaration is refused: as `Exists` where a name
+/// stands there, as `ObjectLimit` where no number is left, and else as `NotFound`. So does a name that stands for no
+/// path, for example one that leads above the root. A field without a bit, or with more than 8,388,608, refuses the
+/// list as `FieldLimit`, and so does an element that leaves no offset below 2^64 for the next one, a field once it is
+/// declared. The fields in front stay, and nothing else changes. A Connection evaluates nothing, and the next field
+/// begins where it would without it; its name, where it has one, has to find a buffer, or the list is refused there.
+/// The law excludes a list that declares fields in a control method at module level, one that a control method can't
+/// declare, one that the wide profile refuses for a Connection, one without a Connection that the core profile refuses,
+/// and a field above the root that is declared below it.
 pub fn fields_stand_where_names_may_stand<S>()
     ensures region { (accesses : Accesses S) (scope : List Seg) (depth flags : ℕ) (fields : Trees) (w : State S)
         (steps : ℕ) → TakesList w fields → (region : Name) (number : ℕ) (g : OperationRegion) →
@@ -65,10 +65,10 @@ pub fn fields_stand_where_names_may_stand<S>()
 {}
 
 /// A Field asks for an operation region, and an IndexField for two field units of a region: the index first, and then
-/// the data. Where the search for a name is refused, the term is refused so; where the name finds another object, or
-/// a field of a bank or of an IndexField, it is refused as `WrongType`. No field is declared then. A Field whose name
-/// finds nothing and that lies in another region, an IndexField behind a field of a bank, and one that looks for its
-/// data first, are refused by this.
+/// the data. Where the search for a name is refused, the term is refused so; where the name finds another object, or a
+/// field of a bank or of an IndexField, it is refused as `WrongType`. No field is declared then. The law excludes a
+/// Field whose name finds nothing and that lies in another region, an IndexField behind a field of a bank, and one that
+/// looks for its data first.
 pub fn a_list_of_fields_asks_for_what_it_lies_in<S>()
     ensures region { (accesses : Accesses S) (scope : List Seg) (depth flags : ℕ) (fields : Trees) (w : State S)
         (steps : ℕ) → TakesList w fields → (region : Name) (e : Refusal) → FindsNoRegion w scope region e →
@@ -84,9 +84,9 @@ pub fn a_list_of_fields_asks_for_what_it_lies_in<S>()
 
 /// An OperationRegion is declared where its path is free, as its term says (`a_region_is_declared_as_its_term_says`),
 /// and nothing else of the world changes. At a path that takes no name it is refused as each declaration is, once its
-/// operands are evaluated, and so are CreateByteField, CreateField and their like: at module level below a control
-/// method, too (ACPI 6.5, 5.3). A region that is declared in a control method at module level, and one that a control
-/// method can't declare, are refused by this.
+/// operands are evaluated, and so are CreateByteField, CreateField and their like. At module level a path below a
+/// control method takes no name (ACPI 6.5, 5.3). The law excludes a region that is declared in a control method at
+/// module level, and one that a control method can't declare.
 pub fn regions_and_buffer_fields_stand_where_names_may_stand<S>()
     ensures stands { (accesses : Accesses S) (scope : List Seg) (depth : ℕ) (n : Name) (path : List Seg) →
         resolved n scope ≡ Ok path → (w : State S) (steps space : ℕ) (offset size : Tree)

@@ -12,14 +12,15 @@ ghost use Rattle.aml_meaning.specs.Fields.{index_bits, index_written};
 ghost use Rattle.aml_laws.specs.IndexRegisters.{Register, IsRegister};
 ghost use Rattle.aml_laws.specs.IndexRegisters.{chosen_and_read, chosen_and_written, kept_and_written};
 
-/// A field behind an index register and a data register of SystemMemory or SystemIO is read unit by unit, in the order
-/// of `units_are_accessed_lowest_first`: the unit's offset is written to the index register, and then the data register
-/// is read. Under the update rules WriteAsOnes and WriteAsZeros it is written so too, and the data register is written
-/// in place of the read. There are no other accesses, nothing else of the world changes, and no step is taken. Under
-/// Preserve a unit that the field covers whole is written so, too, and one that it covers in part is read first, which
-/// chooses it, and then chosen again and written with the other bits as they were. A read that goes on in the data
-/// register without the next unit's offset, that writes the number of a unit, or that reads a unit that is covered
-/// whole, is refused by this.
+/// A field behind an index register and a data register of SystemMemory or SystemIO is accessed unit by unit, in the
+/// order of `units_are_accessed_lowest_first`. To read a unit, its offset is written to the index register, and then
+/// the data register is read. Under the update rules WriteAsOnes and WriteAsZeros a unit is written so, too: its offset
+/// is written to the index register, and then its bits to the data register. Under Preserve a unit that the field
+/// covers whole is written in the same way; one that it covers in part is first read, which writes its offset, and then
+/// its offset is written again, and the unit with its other bits as they were. There are no other accesses, nothing
+/// else of the world changes, and no step is taken. The law excludes a read that goes on in the data register without
+/// the next unit's offset, an access that writes the number of a unit, and a write that reads a unit which the field
+/// covers whole.
 #[tactic(auto, using(crate::proofs::IndexedFields::index_fields_are_accessed_unit_by_unit))]
 pub fn index_fields_are_accessed_unit_by_unit<S>()
     ensures read { (w : State S) (steps : ℕ) (accesses : Accesses S) (call : List Seg → Run S ℕ) (i d : ℕ)

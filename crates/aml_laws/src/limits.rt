@@ -27,11 +27,12 @@ ghost use Rattle.aml_meaning.specs.Exporting.{exported};
 ghost use Rattle.aml_laws.specs.Calls.{body_frame};
 ghost use Rattle.aml_laws.specs.Limits.{Chain, ArgumentChain, IsLink, nested, IsNested};
 
-/// An object is refused from the 262,145th on, and not before (of strings, buffers and packages
-/// `no_object_is_made_behind_the_last` says so); strings and buffers of more than 1,048,576 bytes, packages of more
-/// than 65,535 elements, a call inside 32 others, and one inside as many as the world allows are refused, and leave
-/// everything as it was.
-/// A limit that is one too low or too high for objects, and one too high for the others, is refused by this.
+/// What is above a limit is refused, and leaves everything as it was. Refused as `ObjectLimit` are an object where
+/// 262,144 stand, a string and a buffer of more than 1,048,576 bytes, and a package of more than 65,535 elements; a
+/// call inside 32 others is refused as `CallDepth`, and one inside fewer, but inside as many as the world allows or
+/// more, as `DepthSetting`. Where fewer than 262,144 objects stand, an object is made.
+/// `no_object_is_made_behind_the_last` says that strings, buffers and packages are refused by the limit of objects. The
+/// law excludes a limit of objects that is one too low or one too high, and any other limit that is one too high.
 #[tactic(auto, using(crate::proofs::LimitsRefused::limits_are_refused))]
 pub fn limits_are_refused<S>()
     ensures made { (x : Object) (objects : Objects) → length objects < 262144 →
@@ -69,14 +70,14 @@ pub fn what_is_within_the_limits_is_taken<S>()
         depth < w.nesting.calls → body_frame depth p body arguments w ≡ body_frame 0 p body arguments w }
 {}
 
-/// A chain of at most 64 references is followed to its end, as SizeOf and ObjectType do, and answers what the last one
-/// refers to: a value, the type of a name that holds none, a field that a package names, or a byte. A longer chain is
-/// refused as a dead reference. Neither changes anything. A name or a slot that holds a reference stands for it.
-/// CopyObject follows references to arguments, each of which holds the next reference, in the same way. Through at most
-/// 64 references it does what it does through the last one alone, if that isn't itself one to an argument that holds a
-/// reference; through more it is refused as a dead reference, and changes nothing. An answer that is another name's
-/// type, or that stops at a reference on the way, and a CopyObject that is refused where at most 64 references lead on,
-/// are refused by this.
+/// SizeOf and ObjectType follow a chain of at most 64 references to its end, and answer what the last one refers to: a
+/// value, the type of a name that holds no value, a field that a package names, or a byte. A longer chain is refused as
+/// `DeadReference`. Neither changes anything. A name or a slot that holds a reference stands for it. CopyObject follows
+/// references to arguments, each of which holds the next reference, in the same way. Through at most 64 references it
+/// does what it does through the last one alone, if that one doesn't refer to an argument that holds a reference;
+/// through more it is refused as `DeadReference`, and changes nothing. The law excludes an answer that is another
+/// name's type, or that stops at a reference on the way, and a CopyObject that is refused where at most 64 references
+/// lead on.
 #[tactic(auto, using(crate::proofs::ReferenceChains::at_most_64_references_are_followed))]
 pub fn at_most_64_references_are_followed<S>()
     ensures followed { (w : State S) (n : ℕ) (r : Reference) (x : Referent) → Chain w n r x → n ≤ 64 →
@@ -95,10 +96,10 @@ pub fn at_most_64_references_are_followed<S>()
         copied_to (targets.Refers r) v w ≡ (Err (Evaluation DeadReference), w) }
 {}
 
-/// A chain of packages, each the only element of the one round it, is handed in where it is at most 64 long and there
-/// is room for their objects, and refused as too much where it is longer. A package that has another as its first
-/// element, and so on 65 deep or deeper, isn't handed out: it is refused so where there are steps for 64 elements. Of
-/// all other data `what_is_within_the_limits_is_handed_in` and `data_nests_at_most_64_deep` speak.
+/// Packages that are handed in, each the only element of the next, are taken where at most 64 of them nest and there is
+/// room for their objects; where more nest, they are refused as `ObjectLimit`. Of packages that are handed out, where
+/// more than 64 are first elements one of another and there are steps for 64 elements, the answer is refused as
+/// `ObjectLimit`. Of all other data `what_is_within_the_limits_is_handed_in` and `data_nests_at_most_64_deep` speak.
 #[tactic(auto, using(crate::proofs::LimitsTaken::packages_nest_at_most_64_deep))]
 pub fn packages_nest_at_most_64_deep<S>()
     ensures taken { (w : State S) (n : ℕ) → n ≤ 64 → length w.objects + n ≤ 262144 →

@@ -21,15 +21,15 @@ ghost use Rattle.aml_laws.specs.MatchedValues.{Searches, IsCompared, MeetsTests,
 
 /// Match, in the wide profile, of a package of any values and names gives the index of the first element, from the
 /// start index on, that meets both tests (ACPI 6.5, 19.6: Match). An element stands on the left of the operator, and
-/// meets it by the order of the object, which is an integer, a string or a buffer, and the element as a value of the
-/// object's type; MTR needs no order. A name that is an element stands for what it finds from the scope beside it:
-/// for the value that a name holds, for the bits of a field, which is read then, and for no data where an object
-/// holds none. An element that holds nothing, and a name that isn't found, are passed over, also under MTR. The
-/// elements in front are looked at in turn, and a field that one of them names is read. Where no element matches the
-/// term gives Ones; a start index past the end, one that is no integer, an operator of a number above 5, and an
-/// element that can't be looked at, refuse it. A Match that finds no strings, one that compares a string with an
-/// integer by the type of the element, one that reads no fields, and one that begins at 0 where its start index is no
-/// integer, are refused by this.
+/// the object of the test, an integer, a string or a buffer, on the right. The element meets the test by the order of
+/// the two, the element taken as a value of the object's type; MTR needs no order. A name that is an element is
+/// searched for from the scope beside it. It stands for the value that the name holds, for the bits of a field, which
+/// is read then, and for no data where an object holds none. An element that holds nothing, and a name that isn't
+/// found, are passed over, also under MTR. The elements are looked at in turn, and a field that one of them names is
+/// read. Where no element matches, the term gives Ones. A start index past the end, one that is no integer, an operator
+/// of a number above 5, and an element that can't be looked at, refuse it. The law excludes a Match that finds no
+/// strings, one that compares a string with an integer by the type of the element, one that reads no fields, and one
+/// that begins at 0 where its start index is no integer.
 pub fn a_match_finds_values_of_any_type<S>()
     ensures first { (accesses : Accesses S) (scope : List Seg) (depth : ℕ) (p x y i : Tree) (w : State S) (steps : ℕ)
         (source count : ℕ) (u v : Value) (start : ℕ) (after : State S × ℕ) →

@@ -32,10 +32,10 @@ ghost use Rattle.aml_laws.specs.OperatorTerms.{two_to, GivesValue, Gives, IsRefu
 ghost use Rattle.aml_laws.specs.ReferringTerms.{Indexes, part_read, object_type, IsNumbered};
 ghost use Rattle.aml_laws.specs.StoredParts.{HoldsNothing};
 
-/// A name in a package is searched for where it is used, from the scope where the package was made. DerefOf of the
-/// element gives the data that the name finds, reads the field that it finds, where its bits fit an integer, and
-/// gives a reference to anything else; where the search is refused, so is DerefOf. ObjectType of the element tells
-/// the type of the data. A name that is searched for from the root is refused by this.
+/// A name in a package is searched for when it is used, from the scope where the package was made. DerefOf of the
+/// element gives the data that the name finds, reads the field that it finds, where its bits fit an integer, and gives
+/// a reference to anything else; where the search is refused, so is DerefOf. ObjectType of the element tells the type
+/// of the data. The law excludes a name that is searched for from the root.
 pub fn a_name_in_a_package_is_searched_where_it_is_used<S>()
     ensures held { (accesses : Accesses S) (scope : List Seg) (depth : ℕ) (x y : Tree) (w : State S) (steps o i : ℕ)
         (after : State S × ℕ) → Indexes accesses scope depth x y (w, steps) (value.Package o) i after → (n : Name)
@@ -67,25 +67,24 @@ pub fn a_name_in_a_package_is_searched_where_it_is_used<S>()
         after }
 {}
 
-/// The name in a package of one name that an answer hands out stands for the integer, the string or the buffer that
-/// it finds, searched for from the scope where the package was made. Where it finds a reference, or what holds
-/// neither data nor a field, it is handed out as the path of what it finds; where nothing is found, as the path that
-/// it would have. It costs the step of an element. A name that is handed out as nothing, as the link of an entry of a
-/// routing table, is refused by this.
+/// Where an answer hands out a package whose only element is a name, the name is searched for from the scope where the
+/// package was made, and is handed out as the integer, the string or the buffer that it finds. Where it finds a
+/// reference, or what holds neither data nor a field, it is handed out as the path of what it finds; where nothing is
+/// found, as the path that it would have. This costs the step of an element. The law excludes a name that is handed out
+/// as nothing, as the link of an entry of a routing table.
 pub fn a_name_in_a_package_is_handed_out_as_what_it_finds<S>()
     ensures { (accesses : Accesses S) (w : State S) (steps o : ℕ) (n : Name) (home : List Seg) (g : Given) →
         slice_get w.objects o ≡ Some (object.Package (element.Name n home ∷ [])) → NameIsHandedOut w n home g →
         exported accesses (value.Package o) (w, suc steps) ≡ (Ok (Package (more g none)), (w, steps)) }
 {}
 
-/// An answer hands out a package element by element, from the first on, each of which costs a step. An element that
-/// is a name is handed out as what it finds then, searched for from the scope where the package was made: a package
-/// with all its elements, which nest at most 64 deep through names, too; a field as its bits, read as in a call of
-/// its own, which are an integer where they are no more than an integer has, and else bytes; other data as it is; and
-/// anything else as its path. The first element that isn't handed out ends it, and refuses the answer: no step is
-/// left for it, a package nests too deep, a field can't be read, or its name leads above the root. A package that a
-/// name finds and that is handed out as its path or as nothing, and a field that is handed out as 0, are refused by
-/// this.
+/// An answer hands out a package element by element, from the first on, each of which costs a step. An element that is
+/// a name is searched for then, from the scope where the package was made, and is handed out as what it finds: a
+/// package with all its elements, which nest at most 64 deep, also through names; a field as its bits, read as in a
+/// call of its own, which are an integer where they are no more than an integer has, and else bytes; other data as it
+/// is; and anything else as its path. The first element that can't be handed out refuses the answer: no step is left
+/// for it, a package nests too deep, a field can't be read, or a name leads above the root. The law excludes a package
+/// that a name finds and that is handed out as its path or as nothing, and a field that is handed out as 0.
 pub fn a_package_is_handed_out_with_what_its_names_find<S>()
     ensures handed_out { (accesses : Accesses S) (v : Value) (s : State S × ℕ) (g : Given) (end : State S × ℕ) →
         IsHandedOut accesses 64 v s g end → exported accesses v s ≡ (Ok g, end) }
@@ -93,13 +92,13 @@ pub fn a_package_is_handed_out_with_what_its_names_find<S>()
         IsKeptBack accesses 64 v s e end → exported accesses v s ≡ (Err e, end) }
 {}
 
-/// Increment and Decrement of an element of a package that is a name read the integer of what the name finds,
-/// searched for from the scope where the package was made: of its data, or of the bits of the field, which is read
-/// once. The next integer, or the one before it, is their value, and stands in the element in place of the name; the
-/// field isn't written, and what the name finds stays (ACPI 6.5, 19.6: Decrement, Increment). Where the name finds no
-/// integer, as one that holds no value yet, they are refused as `WrongType`; where it finds nothing, what it finds
-/// doesn't convert, or the field can't be read, by that refusal. The name stays then. An Increment that writes the
-/// field, and one that leaves the name, are refused by this.
+/// Increment and Decrement of an element of a package that is a name search for it from the scope where the package was
+/// made, and read the integer of what it finds: of its data, or of the bits of the field, which is read once. The next
+/// integer, or the one before it, is their value, and takes the place of the name in the element; the field isn't
+/// written, and what the name finds stays (ACPI 6.5, 19.6: Decrement, Increment). Where the name finds no integer, as
+/// one that holds no value yet, they are refused as `WrongType`. Where it finds nothing, where what it finds doesn't
+/// convert, and where the field can't be read, they are refused for that. The name stays in each of these cases. The
+/// law excludes an Increment that writes the field, and one that leaves the name.
 pub fn a_name_in_a_package_is_counted_and_replaced<S>()
     ensures up { CountsName S opcodes.Increment (λ width a m. m ≡ (a + 1) % 2 ^ bits_of width) }
     ensures down { CountsName S opcodes.Decrement (λ width a m.
@@ -109,8 +108,8 @@ pub fn a_name_in_a_package_is_counted_and_replaced<S>()
 {}
 
 /// Match compares an element that is a name by the integer that the name finds, searched for from the scope where the
-/// package was made: it is found where it meets both tests, and else not. A name that matches nothing, and one that is
-/// searched for from the root, are refused by this.
+/// package was made: the element is found where this integer meets both tests, and else not. The law excludes a name
+/// that matches nothing, and one that is searched for from the root.
 pub fn a_match_compares_what_a_name_finds<S>()
     ensures met { (accesses : Accesses S) (scope : List Seg) (depth : ℕ) (p x y i : Tree) (w : State S) (steps : ℕ)
         (n : Name) (home : List Seg) (a b : ℕ) (after : State S × ℕ) →

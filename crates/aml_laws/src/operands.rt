@@ -31,9 +31,9 @@ ghost use Rattle.aml_laws.specs.IntegersOfValues.{lowest_first, AreDigits, EndsD
 
 /// Where an operator takes an integer, an integer is itself; a buffer is the number of its first bytes, as many as an
 /// integer has, the lowest first; and a string is that of the hexadecimal digits that it begins with, of either case,
-/// at most as many as an integer has. An empty string, an empty buffer, a package, a reference and what holds no
-/// value are refused, and nothing changes. Bytes in the other order, decimal digits, digits of one case alone, and a
-/// reference that is 0, are refused by this.
+/// at most as many as an integer has. An empty string, an empty buffer, a package, a reference and what holds no value
+/// are refused, and nothing changes. The law excludes bytes in the other order, decimal digits, digits of one case
+/// alone, and a reference that is 0.
 pub fn operands_convert_to_integers<S>()
     ensures integer { (w : State S) (n : ℕ) → integer_in (value.Integer n) w ≡ (Ok n, w) }
     ensures buffer { (w : State S) (o b : ℕ) (bytes : List ℕ) →
@@ -52,9 +52,9 @@ pub fn operands_convert_to_integers<S>()
     ensures no_data { (w : State S) (v : Value) → IsNoData v → integer_in v w ≡ (Err (refusal.Value WrongType), w) }
 {}
 
-/// An operator that takes two integers, Divide, LAnd and LOr among them, is refused as the conversion of its first
-/// operand is, or of its second one where the first converts: both are evaluated before that, and nothing is stored.
-/// One that converts its second operand first is refused by this.
+/// An operator that takes two integers, Divide, LAnd and LOr among them, evaluates both operands. It is then refused as
+/// the conversion of the first one is, or, where the first converts, as that of the second, and nothing is stored. The
+/// law excludes an operator that converts its second operand first.
 pub fn operands_that_do_not_convert_are_refused<S>()
     ensures first { (accesses : Accesses S) (scope : List Seg) (depth : ℕ) (op : Opcode) (x y : Tree) (p : Part)
         (w : State S) (steps : ℕ) (v u : Value) (after : State S × ℕ) (e : Refusal) → TakesIntegers op →
@@ -79,15 +79,14 @@ pub fn operands_that_do_not_convert_are_refused<S>()
         IsRefused accesses scope depth (of_two opcodes.LOr x y) (w, suc steps) e after }
 {}
 
-/// A term that takes an integer of an operand whose value doesn't convert to one is refused as the conversion is, and
-/// nothing is stored, formed or declared (ACPI 6.5, 19.3.5.7): once this operand is evaluated, and for Index,
-/// OperationRegion, ToString and Mid once all their operands are. So are Not, FindSetLeftBit, FindSetRightBit and LNot,
-/// and FromBCD and ToBCD in the wide profile, by their operand; an If, and a While in its first turn, by its condition;
-/// a Buffer and a VarPackage by its size; an Index of a package, a string or a buffer by its index; an OperationRegion
-/// by its offset, and by its length where the offset converts; and in the wide profile a ToString of a value that
-/// converts to a buffer by its length, and a Mid of an integer, a string or a buffer by its index, and by its length
-/// where the index converts. A condition, a size, an index or an offset that counts as 0 where it is no integer is
-/// refused by this.
+/// A term that takes the integer of an operand is refused where the operand's value doesn't convert to one, by the
+/// refusal of that conversion; nothing is stored, formed or declared (ACPI 6.5, 19.3.5.7). Refused once this operand is
+/// evaluated are Not, FindSetLeftBit, FindSetRightBit and LNot, and in the wide profile FromBCD and ToBCD; If, and
+/// While in its first turn, by the condition; and Buffer and VarPackage, by the size. Refused once all operands are
+/// evaluated are Index of a package, a string or a buffer, by the index; OperationRegion, by the offset, and by the
+/// length where the offset converts; and in the wide profile ToString of a value that converts to a buffer, by the
+/// length, and Mid of an integer, a string or a buffer, by the index, and by the length where the index converts. The
+/// law excludes a condition, a size, an index or an offset that counts as 0 where it is no integer.
 pub fn an_operand_that_is_no_integer_refuses_its_term<S>()
     ensures alone { (accesses : Accesses S) (scope : List Seg) (depth : ℕ) (w : State S) (steps : ℕ) (t x : Tree) →
         AsksInteger w.profile t x → (v : Value) (e : Refusal) (after : State S × ℕ) →
@@ -128,12 +127,11 @@ pub fn an_operand_that_is_no_integer_refuses_its_term<S>()
 {}
 
 /// A term that evaluates operands as values is refused as one of them is, where those in front of it give values; no
-/// further operand is evaluated, and nothing is stored. So is each operator with one operand or two, LAnd and LOr
-/// among them, Store and CopyObject by their source, DerefOf, the conversions, Mid and Match; so are Return, the
-/// condition of an If and of the first turn of a While, the time of a Sleep or Stall, and the argument of a Fatal;
-/// and so are the size of a Buffer and of a VarPackage, the value of a Name, the place and the length of an
-/// OperationRegion, and the operands of CreateField and its like. An operand that counts as 0 where it is refused is
-/// refused by this.
+/// further operand is evaluated, and nothing is stored. These terms are the operators with one operand or two, LAnd and
+/// LOr among them; Store and CopyObject, by their source; DerefOf, the conversions, Mid and Match; Return; If, and
+/// While in its first turn, by the condition; Sleep and Stall, by the time; Fatal, by its argument; Buffer and
+/// VarPackage, by the size; Name, by its value; OperationRegion, by its offset and its length; and CreateField and its
+/// like. The law excludes an operand that counts as 0 where it is refused.
 pub fn an_operand_that_is_refused_refuses_its_term<S>()
     ensures { (accesses : Accesses S) (scope : List Seg) (depth : ℕ) (w : State S) (steps : ℕ) (t : Tree)
         (operands : List Tree) → TakesValues w.profile t operands → (x : Tree) (between : State S × ℕ) →
@@ -141,9 +139,10 @@ pub fn an_operand_that_is_refused_refuses_its_term<S>()
         IsRefused accesses scope depth x between e after → IsRefused accesses scope depth t (w, suc steps) e after }
 {}
 
-/// An operand of these terms that gives nothing, as a call of a control method that comes to its end, is refused as
-/// `NoValue`, since a value is wanted there. The term is refused before it evaluates any further operand, and nothing
-/// is stored. A call without a Return that counts as a value is refused by this.
+/// An operand of the terms that `an_operand_that_is_refused_refuses_its_term` lists that gives no value is refused as
+/// `NoValue`: for example a call of a control method that ends without a Return. The term is refused before it
+/// evaluates any further operand, and nothing is stored. The law excludes a call without a Return that counts as a
+/// value.
 pub fn an_operand_without_a_value_is_refused<S>()
     ensures { (accesses : Accesses S) (scope : List Seg) (depth : ℕ) (w : State S) (steps : ℕ) (t : Tree)
         (operands : List Tree) → TakesValues w.profile t operands → (x : Tree) (between : State S × ℕ) →

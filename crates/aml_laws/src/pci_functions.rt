@@ -39,7 +39,7 @@ ghost use Rattle.aml_laws.specs.AddressObjects.{HoldsNoValueAt, IsAskedAt, Takes
 /// The objects that tell which function a scope belongs to and what its address is have these four names: `_ADR`, the
 /// address of a device, `_HID`, its hardware id, `_SEG`, the segment group, and `_BBN`, the base bus number (ACPI 6.5,
 /// 6.1.1, 6.1.5, 6.5.6 and 6.5.5). The other laws of PCI functions, and those of the bus of a routing table, speak of
-/// the objects of these names. One of another name is refused by this.
+/// the objects of these names. The law excludes any other name.
 pub fn the_objects_of_a_pci_address_have_four_names()
     ensures address { adr.bytes ≡ codes "_ADR" }
     ensures hardware_id { hid.bytes ≡ codes "_HID" }
@@ -48,10 +48,10 @@ pub fn the_objects_of_a_pci_address_have_four_names()
 {}
 
 /// A scope belongs to the nearest Device with an `_ADR`, of itself and the scopes above it: that is the PCI function of
-/// a region of PCI_Config there. Where there is none it is refused (DeepPci). So it is in the core profile where a
-/// Device above that one has an `_ADR` and no `_HID`, and in the wide profile it isn't. Asking changes nothing. Of
-/// which scope a region is asked, `a_region_of_pci_config_is_located_by_its_own_scope` says. A search from the root
-/// down, one that takes a name that is no Device, or one that begins above the scope is refused by this.
+/// a region of PCI_Config there. A scope without such a Device is refused as `DeepPci`. In the core profile a scope is
+/// refused so, too, where a Device above that one has an `_ADR` and no `_HID`; in the wide profile it isn't. Asking
+/// changes nothing. For which scope a region asks, `a_region_of_pci_config_is_located_by_its_own_scope` says. The law
+/// excludes a search from the root down, one that takes a name that is no Device, and one that begins above the scope.
 #[tactic(auto, using(crate::proofs::PciScopes::a_region_of_pci_config_belongs_to_the_nearest_device))]
 pub fn a_region_of_pci_config_belongs_to_the_nearest_device<S>()
     ensures nearest { (w : State S) (scope : List Seg) (k : ℕ) →
@@ -76,9 +76,9 @@ pub fn segment_groups_and_buses_are_the_nearest<S>()
         NoneSuch (StandsIn w.names.map name) scope (length scope) → nearest (Parent name) scope w ≡ (Ok None, w) }
 {}
 
-/// A name that holds an integer tells it where the address of a function is asked for: it takes no step and no
-/// access, and changes nothing, where one more call is allowed. So what the next laws ask of `_SEG`, `_BBN` and
-/// `_ADR` holds of names. An object that is asked for at another path, or that costs a step, is refused by this.
+/// Where the address of a function is asked for and one more call is allowed, a name that holds an integer tells it,
+/// without a step and without an access, and nothing changes. So what the next laws assume of `_SEG`, `_BBN` and `_ADR`
+/// holds of such names. The law excludes an object that is asked for at another path, and one that costs a step.
 pub fn a_name_that_holds_an_integer_tells_it<S>()
     ensures { (accesses : Accesses S) (path : List Seg) (entry : Entry) (n : ℕ) →
         entry.object ≡ Data (Integer n) → (depth : ℕ) → depth < 32 → (w : State S) → depth < w.nesting.calls →
@@ -87,8 +87,8 @@ pub fn a_name_that_holds_an_integer_tells_it<S>()
 
 /// The bridges that are asked for the bus behind them, in the wide profile, are those above the function, each once and
 /// from the outermost on: the Devices with an `_ADR` and without a `_HID` from which on down to the function no scope
-/// has a `_BBN`. A list that has another device, that leaves one out, or that begins with the innermost is refused by
-/// this.
+/// has a `_BBN`. The law excludes a list that has another device, that leaves one out, or that begins with the
+/// innermost.
 #[tactic(auto, using(crate::proofs::AskedBridges::bridges_above_a_function_are_asked_from_the_outermost_on))]
 pub fn bridges_above_a_function_are_asked_from_the_outermost_on()
     ensures each { (names : Map) (function bridge : List Seg) → IsAmong bridge (bridges_to names function) →
@@ -98,10 +98,10 @@ pub fn bridges_above_a_function_are_asked_from_the_outermost_on()
     ensures order { (names : Map) (function : List Seg) → GrowFrom 0 (bridges_to names function) }
 {}
 
-/// The bus behind bridges is found by two reads of each, the header type and the secondary bus, the first bridge on the
-/// bus itself and each further one on the bus that the one before it told, at the device and the function that its own
-/// `_ADR` answers. There are no other accesses. A bridge that is asked on another's bus, twice, or by the address of
-/// the function below it is refused by this.
+/// The bus behind bridges is found by two reads of each, of its header type and of its secondary bus. The first bridge
+/// is read on the bus that is given, each further one on the bus that the one before it told, at the device and the
+/// function that its own `_ADR` answers. There are no other accesses. The law excludes a bridge that is asked on
+/// another's bus, twice, or by the address of the function below it.
 #[tactic(auto, using(crate::proofs::BusesFound::buses_found))]
 pub fn each_bridge_is_asked_on_the_bus_that_the_one_above_told<S>()
     ensures { (accesses : Accesses S) (seg : ℕ) → seg < 65536 → (call : List Seg → Run S ℕ) (w : State S)
@@ -113,8 +113,8 @@ pub fn each_bridge_is_asked_on_the_bus_that_the_one_above_told<S>()
 /// The PCI address of a scope is that of the function that it belongs to: in the segment group that the nearest `_SEG`
 /// tells, on the bus that the nearest `_BBN` tells or that the bridges lead to from there, at the device and the
 /// function of its `_ADR`. Nothing else is accessed. That a region of PCI_Config has the address of its own scope,
-/// `a_region_of_pci_config_is_located_by_its_own_scope` says. Parts that are exchanged, a bus that is counted from 0 in
-/// spite of `_BBN`, and another device's `_ADR` are refused by this.
+/// `a_region_of_pci_config_is_located_by_its_own_scope` says. The law excludes parts that are exchanged, a bus that is
+/// counted from 0 in spite of `_BBN`, and another device's `_ADR`.
 #[tactic(auto, using(crate::proofs::BusesFound::address_told))]
 pub fn a_pci_address_is_told_by_its_objects<S>()
     ensures { (accesses : Accesses S) (seg : ℕ) → seg < 65536 → (call : List Seg → Run S ℕ) (w : State S)
@@ -129,10 +129,9 @@ pub fn a_pci_address_is_told_by_its_objects<S>()
 
 /// An operation region of PCI_Config lies in the registers at the PCI address of the very scope that it stands in, at
 /// its offset and as long as it was declared. Where that address is refused, so is the region, and asking leaves what
-/// the address left. A region of another address space than SystemMemory, SystemIO and PCI_Config is refused
-/// (SpaceKind), and nothing changes (ACPI 6.5, 5.5.2.4 and 19.6: OperationRegion). A region that is located by the
-/// scope above its own, PCI_Config under another number than 2, and another refusal of other spaces are refused by
-/// this.
+/// the address left. A region of another address space than SystemMemory, SystemIO and PCI_Config is refused as
+/// `SpaceKind`, and nothing changes (ACPI 6.5, 5.5.2.4 and 19.6: OperationRegion). The law excludes a region that is
+/// located by the scope above its own, PCI_Config under another number than 2, and another refusal of other spaces.
 pub fn a_region_of_pci_config_is_located_by_its_own_scope<S>()
     ensures there { (accesses : Accesses S) (call : List Seg → Run S ℕ) (w : State S) (steps n : ℕ) (scope : List Seg)
         (region : OperationRegion) → RegionStandsIn w n scope region → region.space ≡ 2 → (space : AddressSpace)
@@ -148,11 +147,11 @@ pub fn a_region_of_pci_config_is_located_by_its_own_scope<S>()
 {}
 
 /// A device is asked for the bus behind it by a read of its header type and, where the low seven bits of that are 1 or
-/// 2, of its secondary bus, which is the answer (PCI-to-PCI Bridge Architecture 1.2, 3.2). Of any other type it is
-/// refused (DeepPci), and the second byte isn't read. A fault that a read answers refuses it, and nothing more is read.
-/// An `_ADR` whose device or function is too great for one, and such a segment group or bus, are refused (RegionLimit),
-/// and nothing is read (ACPI 6.5, 6.1.1). A function of another type that is taken for a bridge, and all functions of a
-/// device that are taken for one, are refused by this.
+/// 2, of its secondary bus, which is the answer (PCI-to-PCI Bridge Architecture 1.2, 3.2). A device of any other type
+/// is refused as `DeepPci`, and its secondary bus isn't read. A fault that a read answers refuses it, and nothing more
+/// is read. Where the segment group, the bus, or the device or the function of the `_ADR` is too great for one, it is
+/// refused as `RegionLimit`, and nothing is read (ACPI 6.5, 6.1.1). The law excludes a function of another type that is
+/// taken for a bridge, and all functions of a device that are taken for one.
 pub fn what_is_no_bridge_tells_no_bus<S>()
     ensures { (accesses : Accesses S) (seg bus dev func : ℕ) → func < 65536 → (s : S) (r : Outcome ℕ) (after : S) →
         BridgeTells accesses seg bus dev func s r after →
@@ -161,12 +160,12 @@ pub fn what_is_no_bridge_tells_no_bus<S>()
 
 /// The objects of a PCI address are asked one after another, each in the world that the one before it left: `_SEG`,
 /// then `_BBN`, then the bridges above the function, from the outermost on, each by its `_ADR` and its registers, and
-/// at last the `_ADR` of the function (ACPI 6.5, 5.5.2.4, 6.1.1, 6.5.5 and 6.5.6). The first that is refused refuses
-/// the address, and nothing behind it is asked. The address is refused, too, where its segment group, bus, device or
-/// function is too great for one (RegionLimit). Where the scope belongs to no function it is refused so, and nothing is
-/// asked. There is no other way to an address: one that is told is that of the nearest device with an `_ADR`, whose
-/// objects answered so. Objects in another order, a refused `_BBN` that counts as 0, and all functions of a device that
-/// are taken for one, are refused by this.
+/// at last the `_ADR` of the function (ACPI 6.5, 5.5.2.4, 6.1.1, 6.5.5 and 6.5.6). The first one that is refused
+/// refuses the address, and no later one is asked. A segment group, a bus, a device or a function that is too great for
+/// one refuses the address as `RegionLimit`. Where the scope belongs to no function, the address is refused for that,
+/// and nothing is asked. There is no other way to an address: one that is told is that of the nearest Device with an
+/// `_ADR`, whose objects answered so. The law excludes objects in another order, a refused `_BBN` that counts as 0, and
+/// all functions of a device that are taken for one.
 pub fn the_objects_of_a_pci_address_are_asked_in_turn<S>()
     ensures in_turn { (accesses : Accesses S) (call : List Seg → Run S ℕ) (w : State S) (steps : ℕ)
         (scope path : List Seg) (r : Outcome AddressSpace) (after : State S × ℕ) →
@@ -180,17 +179,17 @@ pub fn the_objects_of_a_pci_address_are_asked_in_turn<S>()
         AddressFound accesses call scope s space after }
 {}
 
-/// What is asked for an address answers an integer (ACPI 6.5, 6.1.1, 6.5.5 and 6.5.6): a name the one that it holds, a
-/// field the one that its bits make, where they are no more than an integer has, and a control method the one that it
+/// What is asked for an address answers an integer (ACPI 6.5, 6.1.1, 6.5.5 and 6.5.6): a name the one that it holds; a
+/// field the one that its bits make, where they are no more than an integer has; and a control method the one that it
 /// returns. A control method is called without arguments, one call deeper than the term that accesses the field; the
-/// objects of the address of a field that is asked stand one call deeper still. What an alias leads to answers for it.
-/// Another value is refused (WrongType), even one that converts to an integer, and so is a field of more bits; a name
-/// without a value and a control method that returns none are refused (NoValue). What refuses the control method or the
-/// field refuses it. Inside 32 calls, and inside as many as the world allows, nothing answers (CallDepth,
-/// DepthSetting). A control method that takes arguments isn't called (ArityChanged). Of a name that stands for anything
-/// else, as a Device, this says only that nothing answers inside so many calls; what else holds of it
-/// `what_holds_no_value_tells_no_address` says. A control method that answers 0, a String that is converted, and 32
-/// calls anew inside a call are refused by this.
+/// objects of the address of a field that is asked stand one call deeper still. An alias answers as what it leads to.
+/// Another value is refused as `WrongType`, even one that converts to an integer, and so is a field of more bits; a
+/// name without a value, and a control method that returns none, are refused as `NoValue`. What refuses the control
+/// method or the field refuses the object. Inside 32 calls nothing answers (`CallDepth`), nor inside as many as the
+/// world allows (`DepthSetting`). A control method that takes arguments isn't called (`ArityChanged`). Of a name that
+/// stands for anything else, for example a Device, this says only that nothing answers inside so many calls; what else
+/// holds of it, `what_holds_no_value_tells_no_address` says. The law excludes a control method that answers 0, a String
+/// that is converted, and 32 calls anew inside a call.
 pub fn what_is_asked_for_an_address_answers_an_integer<S>()
     ensures answers { (accesses : Accesses S) (depth : ℕ) → depth < 32 → (w : State S) → depth < w.nesting.calls →
         (steps : ℕ) (path at : List Seg) (o : NamedObject) → IsAskedAt w path at o → (r : Outcome ℕ)
@@ -208,10 +207,10 @@ pub fn what_is_asked_for_an_address_answers_an_integer<S>()
 {}
 
 /// An object that holds neither a value nor a field and is no control method, such as a Device, a mutex, an event or a
-/// thermal zone, is refused where an address asks it and one more call is allowed (WrongType); nothing changes (ACPI
-/// 6.5, 6.1.1, 6.5.5 and 6.5.6). So is what an alias leads to. The address is refused so where this is the nearest
-/// `_SEG`, or the nearest `_BBN`, or the `_ADR` of the function, once those that are asked before it have answered. A
-/// Device that tells 0 is refused by this.
+/// thermal zone, is refused as `WrongType` where an address asks it and one more call is allowed; nothing changes (ACPI
+/// 6.5, 6.1.1, 6.5.5 and 6.5.6). So is what an alias leads to. The address is refused so where this object is the
+/// nearest `_SEG`, or the nearest `_BBN`, or the `_ADR` of the function, once those that are asked before it have
+/// answered. The law excludes a Device that tells 0.
 pub fn what_holds_no_value_tells_no_address<S>()
     ensures object { (accesses : Accesses S) (depth : ℕ) → depth < 32 → (w : State S) → depth < w.nesting.calls →
         (steps : ℕ) (path : List Seg) → HoldsNoValueAt w path →

@@ -30,22 +30,21 @@ ghost use Rattle.aml_laws.specs.StoredParts.{TakesUnconverted, GivesByte, ByteTa
 
 /// A Store and a CopyObject to no target, and to Debug, are done and change nothing, whatever the value is: none is
 /// refused, and no copy is made (ACPI 6.5, 19.6: Debug, and 20.2.2: Target). So an operator without a target gives what
-/// it formed, and costs no object more. A store to Debug that refuses strings, and one that makes an object, are
-/// refused by this.
+/// it formed, and makes no further object. The law excludes a store to Debug that refuses strings, and one that makes
+/// an object.
 pub fn a_store_to_no_target_changes_nothing<S>()
     ensures stored { (w : State S) (v : Value) → stored targets.Nowhere v w ≡ (Ok store.Done, w) }
     ensures copied { (w : State S) (v : Value) → copied_to targets.Nowhere v w ≡ (Ok store.Done, w) }
 {}
 
-/// A Store and a CopyObject to a local, and to an argument that holds no reference, of the control method that runs are
-/// done for each value that can be copied (`what_is_within_the_limits_is_copied`), and leave a copy in that very slot:
-/// as many objects are made as the value has, and the copy shares none with anything that was there before. So it is
-/// through a reference to such a slot of any control method that hasn't ended, whose frame is found by its number
-/// (`a_frame_that_stands_is_found_by_its_number`): it is the slot of that one that takes the copy, also where it is a
-/// caller. Nothing else of the world changes (`a_store_changes_its_slot_alone`). Where the value can't be copied, they
-/// are refused as its copy is, and nothing changes. A Store to a local that is refused, one to an argument that does
-/// nothing, and one through a reference to a local of the caller that changes a local of the control method that runs,
-/// are refused by this.
+/// A Store and a CopyObject of a value that can be copied (`what_is_within_the_limits_is_copied`) to a local of the
+/// control method that runs, or to an argument of it that holds no reference, put a copy of the value there. As many
+/// objects are made as the value has, and the copy shares none with anything that was there before. The same holds
+/// through a reference to such a slot of any control method that hasn't ended, a caller too. Its frame is found by its
+/// number (`a_frame_that_stands_is_found_by_its_number`), and the slot of that frame takes the copy. Nothing else of
+/// the world changes (`a_store_changes_its_slot_alone`). Where the value can't be copied, the term is refused as its
+/// copy is, and nothing changes. The law excludes a Store to a local that is refused, one to an argument that does
+/// nothing, and one through a reference to a local of the caller that changes a local of the control method that runs.
 pub fn slots_take_copies<S>()
     ensures latest { (before : State S) (last : ℕ) (f : Frame) (slot : Slot) (v : Value) (count : ℕ) →
         length before.frames ≡ suc last → slice_get before.frames last ≡ Some f → TakesCopies f slot →
@@ -69,10 +68,10 @@ pub fn slots_take_copies<S>()
         (copied_to (targets.Refers (reference.Slot slot n)) v w ≡ (Err e, w)) }
 {}
 
-/// A Store to an element of a package takes a copy of each value that can be copied, of as many objects as the value
-/// has, which shares none with anything that was there before; nothing else of the world changes. Where the value can't
-/// be copied, it is refused as its copy is, and nothing changes. A Store that does nothing, and one that shares a
-/// string, a buffer or a package, are refused by this.
+/// A Store of a value that can be copied to an element of a package puts a copy of the value there. As many objects are
+/// made as the value has, the copy shares none with anything that was there before, and nothing else of the world
+/// changes. Where the value can't be copied, the Store is refused as its copy is, and nothing changes. The law excludes
+/// a Store that does nothing, and one that shares a string, a buffer or a package.
 pub fn elements_take_copies<S>()
     ensures part { (before : State S) (o i : ℕ) (es : List Element) →
         slice_get before.objects o ≡ Some (object.Package es) → i < length es → (v : Value) (count : ℕ) →
@@ -84,13 +83,13 @@ pub fn elements_take_copies<S>()
         stored (targets.Refers (reference.Element o i)) v w ≡ (Err e, w) }
 {}
 
-/// A CopyObject to a name that holds a value is done for each value that can be copied, and leaves a copy there, under
-/// the number of the name's declaration: as many objects are made as the value has, and the copy shares none with
-/// anything that was there before. So is a Store of a package to a name that holds one, and each Store to a name that
-/// holds a reference or no value. Nothing else of the world changes. Where the value can't be copied, they are refused
-/// as its copy is, and nothing changes. That a CopyObject and a Store through a reference to the name go to the name
-/// `a_reference_to_a_name_finds_its_declaration` and `a_reference_refers_to_its_target` say. A CopyObject to a name
-/// that is refused, and one that makes an object too many, are refused by this.
+/// A CopyObject of a value that can be copied to a name that holds a value puts a copy there, under the number of the
+/// name's declaration. So does a Store of a package to a name that holds one, and each Store of such a value to a name
+/// that holds a reference or no value. As many objects are made as the value has, the copy shares none with anything
+/// that was there before, and nothing else of the world changes. Where the value can't be copied, the term is refused
+/// as its copy is, and nothing changes. That a CopyObject and a Store through a reference to the name go to the name,
+/// `a_reference_to_a_name_finds_its_declaration` and `a_reference_refers_to_its_target` say. The law excludes a
+/// CopyObject to a name that is refused, and one that makes an object too many.
 pub fn names_take_copies<S>()
     ensures copied { (before : State S) (path : List Seg) (number : ℕ) (old v : Value) (count : ℕ) →
         get before.names.map path ≡ Some (data_entry number old) → IsCopyable before.objects 64 count v →
@@ -111,8 +110,8 @@ pub fn names_take_copies<S>()
 /// CopyObject to a local or an argument, and through a reference to an element of a package or to a byte of a string or
 /// of a buffer, does what a Store does there, whatever comes of it: `slots_take_copies`, `elements_take_copies` and
 /// `a_byte_takes_the_first_byte_of_a_value` say it of both. So an argument that holds a reference to an element or a
-/// byte takes what is stored to it there (`an_argument_stands_for_what_it_refers_to`). A CopyObject to an element or a
-/// byte that is refused as a dead reference is refused by this.
+/// byte takes what is stored to it there (`an_argument_stands_for_what_it_refers_to`). The law excludes a CopyObject to
+/// an element or a byte that is refused as `DeadReference`.
 pub fn copies_to_slots_and_parts_are_stores<S>()
     ensures slot { (w : State S) (slot : Slot) (v : Value) →
         copied_to (targets.Slot slot) v w ≡ stored (targets.Slot slot) v w }
@@ -122,13 +121,14 @@ pub fn copies_to_slots_and_parts_are_stores<S>()
         copied_to (targets.Refers (reference.Byte o i)) v w ≡ stored (targets.Refers (reference.Byte o i)) v w }
 {}
 
-/// A Store to an argument of the control method that runs that holds a reference goes where CopyObject through this
-/// reference goes: to what it refers to, and to a name without conversion (ACPI 6.5, 19.3.5.8.1). So does CopyObject to
-/// the argument, and a Store through a reference to an argument that holds a reference, of any control method that
-/// hasn't ended yet. Where CopyObject through a reference goes `a_reference_to_a_name_finds_its_declaration` says of
-/// names, `slots_take_copies` of locals and of arguments that hold no reference, `copies_to_slots_and_parts_are_stores`
-/// of elements and bytes, and `at_most_64_references_are_followed` of arguments that hold references. An argument that
-/// is overwritten, and a Store that converts, are refused by this.
+/// A Store to an argument of the control method that runs, where the argument holds a reference, goes where CopyObject
+/// through this reference goes: to what it refers to, and to a name without conversion (ACPI 6.5, 19.3.5.8.1). So does
+/// CopyObject to the argument, and a Store through a reference to an argument that holds a reference, of any control
+/// method that hasn't ended yet. Where CopyObject through a reference goes,
+/// `a_reference_to_a_name_finds_its_declaration` says of names, `slots_take_copies` of locals and of arguments that
+/// hold no reference, `copies_to_slots_and_parts_are_stores` of elements and bytes, and
+/// `at_most_64_references_are_followed` of arguments that hold references. The law excludes an argument that is
+/// overwritten, and a Store that converts.
 pub fn an_argument_stands_for_what_it_refers_to<S>()
     ensures stored { (w : State S) (i last : ℕ) (r : Reference) (v : Value) →
         ArgumentHolds w i last (value.Reference r) →
@@ -141,8 +141,8 @@ pub fn an_argument_stands_for_what_it_refers_to<S>()
 {}
 
 /// A Store to a byte of a string or of a buffer takes an integer modulo 256, and of a string or a buffer the first
-/// byte; nothing else of the world changes. An empty one is refused, and so is a value of any other type. A byte that
-/// is written elsewhere is refused by this.
+/// byte; nothing else of the world changes. An empty string or buffer is refused, and so is a value of any other type.
+/// The law excludes a byte that is written elsewhere.
 pub fn a_byte_takes_the_first_byte_of_a_value<S>()
     ensures stored { (w : State S) (o i : ℕ) (v : Value) (b : ℕ) (old new : Object) →
         slice_get w.objects o ≡ Some old → GivesByte w v b → ByteTaken i b old new →
