@@ -15,7 +15,7 @@ use crate::activation::Activation;
 use crate::addresses::RegionAccess;
 use crate::banked::{BankReads, BankWrites, BankedField, BanksLeft, Selector};
 use crate::boxed::Boxed;
-use crate::field_access::{begin_declared, finish_read};
+use crate::field_access::{begin_declared, finish_read, region_of};
 use crate::frames::{Frame, Next};
 use crate::index_access::write_then;
 use crate::indexed::{is_kept, merge_unit, put_unit, zeros};
@@ -45,7 +45,7 @@ pub(crate) fn begin_banked<S: Space>(
     let (region, bank) = lies_in;
     let (unit, doing) = access;
     let field = run.world.field_declared(bank.field)?;
-    let declared = run.world.region_declared(region)?;
+    let declared = region_of(run, region)?;
     let selector = Selector {
         field,
         value: bank.value,

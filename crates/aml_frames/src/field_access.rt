@@ -1,8 +1,11 @@
 //! Accesses of fields of operation regions (ACPI 6.5, 5.5.2.4 and 19.6: OperationRegion, Field, BankField).
 ghost use Rattle.std.specs.Prelude.{◌≡◌, ◌≤◌, ◌<◌, ◌+◌, ◌*◌, IfOk, Ok};
+ghost use Rattle.ar_space.specs.Change.{Does};
 ghost use Rattle.ar_space.specs.Outcome.{NotMemory};
 ghost use Rattle.aml_meaning.specs.declared.regions.RegionSpace.TheVariants as kinds;
 ghost use Rattle.aml_meaning.specs.Fields.{unit_of};
+ghost use Rattle.aml_meaning.specs.Regions.{region_declared};
+ghost use Rattle.aml_meaning.specs.Run.{lift};
 ghost use Rattle.ar_space.specs.Accesses.{bit_count};
 ghost use Rattle.aml_meaning.specs.Meaning.{meaning};
 ghost use Rattle.aml_objects.specs.declared.entry.Field.TheVariants as fields;
@@ -23,7 +26,9 @@ use crate::target_uses::tell;
 use crate::uses::{Access, Accessed, Doing, Reading};
 use aml_fields::{AddressSpace, Region, merge};
 use aml_meaning::{Flow, RegionField, RegionSpace, Running, space_numbered};
-use aml_objects::{BufferField, Field, FieldSource, FieldUnit, Octets, UpdateRule, Value};
+use aml_objects::{
+    BufferField, Field, FieldSource, FieldUnit, Octets, OperationRegion, UpdateRule, Value,
+};
 use aml_path::Path;
 use ar_space::{EvaluationFault, Refusal, Result, Space, Width};
 
@@ -121,7 +126,7 @@ pub fn begin_region<S: Space>(
         (access_done S.accesses (meaning S.accesses) calls (object.Unit field) doing) run.old }
     ensures ends { EndsAt result act.now act.now }
 {
-    let declared = run.world.region_declared(field.region)?;
+    let declared = region_of(run, field.region)?;
     let access = RegionAccess {
         calls,
         field,
@@ -137,6 +142,14 @@ pub fn begin_region<S: Space>(
         space_numbered(declared.1.space),
         &declared.0,
     )
+}
+
+/// The region with the number of a declaration, and the scope that it was declared in.
+#[tactic(auto, using(aml_meaning::proofs::Runs::running))]
+pub(crate) fn region_of<S: Space>(run: &Running<S>, number: u64) -> Result<(Path, OperationRegion)>
+    ensures { Does result run.now (lift (region_declared number)) run.now }
+{
+    run.world.region_declared(number)
 }
 
 /// An access of a field of a region of this kind, which was declared in a scope.
