@@ -126,13 +126,13 @@ impl<S: Space> Machine<S> {
         outcome
     }
 
-    #[tactic(auto, using(crate::proofs::Noticed::noticing, crate::proofs::Noticed::worlds))]
+    #[tactic(auto, using(crate::proofs::Noticed::noticing))]
     fn answer_noticed(&mut self, alloc: Global, path: &Path, arguments: Vec<Datum>) -> Result<Datum>
         ensures answer { Does (seen given_of result) self.new (object_answered S.accesses path.now
             (map given_of arguments.items)) self.old }
         ensures memory { IfErr result (λ refusal. refusal ≡ OutOfMemory → self.new.spent ≡ true) }
     {
-        let outcome = answer(alloc, &mut self.world, path, arguments, self.steps);
+        let outcome = self.answer(alloc, path, arguments);
         self.notice(&outcome);
         outcome
     }
@@ -209,11 +209,11 @@ impl<S: Space> Machine<S> {
         }
     }
 
-    #[tactic(auto, using(ar_space::proofs::Changes::changing, crate::proofs::Noticed::worlds), unfolding(crate::specs::Calls::object_called))]
+    #[tactic(auto, using(ar_space::proofs::Changes::changing), unfolding(crate::specs::Calls::object_called))]
     fn call(&mut self, alloc: Global, path: &Path, arguments: Vec<Datum>) -> Result<()>
         ensures { Does result self.new (object_called S.accesses path.now (map given_of arguments.items)) self.old }
     {
-        answer(alloc, &mut self.world, path, arguments, self.steps)?;
+        self.answer(alloc, path, arguments)?;
         Ok(())
     }
 
@@ -222,6 +222,14 @@ impl<S: Space> Machine<S> {
         ensures { result ≡ contains_key self.now.world.names.map path.now }
     {
         self.world.names().get(path).is_some()
+    }
+
+    #[tactic(auto, using(crate::proofs::Noticed::worlds))]
+    fn answer(&mut self, alloc: Global, path: &Path, arguments: Vec<Datum>) -> Result<Datum>
+        ensures { Does (seen given_of result) self.new (object_answered S.accesses path.now
+            (map given_of arguments.items)) self.old }
+    {
+        answer(alloc, &mut self.world, path, arguments, self.steps)
     }
 }
 
