@@ -1,12 +1,15 @@
 //! Gathers, chooses, sets, reports.
-ghost use Rattle.std.specs.Prelude.{◌≡◌, ◌≢◌, ◌<◌, ◌≤◌, All, Ok, Err, IfOk, IfErr, length};
+ghost use Rattle.std.specs.Prelude.{◌≡◌, ◌≢◌, ◌<◌, ◌≤◌, All, Contains, Ok, Err, IfOk, IfErr, length, map};
 ghost use Rattle.ar_space.specs.declared.refusal.Refusal.TheVariants.{OutOfMemory};
-ghost use Rattle.ar_space.specs.Outcome.{Answers};
+ghost use Rattle.std.specs.List.{AllZip};
+ghost use Rattle.ar_space.specs.Outcome.{Answers, seen};
+ghost use Rattle.ar_space.specs.Change.{Does};
 ghost use Rattle.acpi_links.specs.Gatherings.{gathered};
 ghost use Rattle.acpi_machine.specs.MachineStates.{sci_of};
 ghost use Rattle.route_report.specs.Readable.{IsReadableOffer};
 ghost use Rattle.acpi_configure.specs.Configured.{report_of, with_settings, IsReport};
-ghost use Rattle.acpi_configure.specs.Stops.{StopsInRun, StopsInRunWith};
+ghost use Rattle.acpi_configure.specs.Settling.{settled_unless};
+ghost use Rattle.acpi_configure.specs.Stops.{StopsInSettling, StopsInRun, StopsInRunWith};
 ghost use Rattle.acpi_configure.specs.WithOptions.{found_by, with_options, all_lines, IsReportWith};
 
 use crate::choosing::{answer_to, choose};
@@ -74,7 +77,7 @@ pub fn configure<S: Space>(
     pins_are_counted_in_order();
     the_numbers_of_a_set_ascend();
     let report = report_of(alloc, machine, sci, avoid, &gathered, &answer)?;
-    let settings = settle_unless(alloc, machine, dry, &gathered, &answer)?;
+    let settings = settle_answer(alloc, machine, dry, &gathered, &answer)?;
     Ok(with_settings(report, settings))
 }
 
@@ -100,7 +103,7 @@ pub(crate) fn configure_plainly<S: Space>(
     pins_are_counted_in_order();
     the_numbers_of_a_set_ascend();
     let report = all_lines(alloc, machine, sci, options, &found, &answer)?;
-    let settings = settle_unless(alloc, machine, options.dry, &found.gathered, &answer)?;
+    let settings = settle_answer(alloc, machine, options.dry, &found.gathered, &answer)?;
     Ok(with_settings(report, settings))
 }
 
@@ -141,6 +144,25 @@ fn with_settings(report: Report, settings: Settings) -> Report
         afters,
         ..report
     }
+}
+
+/// Sets each link that was gathered to its interrupt of an answer, and reads what each is set to, unless the run is
+/// dry.
+fn settle_answer<S: Space>(
+    alloc: Global,
+    machine: &mut Machine<S>,
+    dry: bool,
+    gathered: &Gathered,
+    answer: &Answer,
+) -> Result<Settings>
+    requires each { length answer.now.choice ≡ length gathered.now.links }
+    requires offered { AllZip Contains (map (λ link. link.1.numbers) gathered.now.links) answer.now.choice }
+    ensures value { Does (seen (λ x. (x.0.items, x.1.items)) result) machine.new
+        (settled_unless S.accesses dry gathered.now.links answer.now.choice) machine.old }
+    ensures evaluated { StopsInSettling S.accesses dry gathered.now.links answer.now.choice machine.old machine.new }
+    ensures memory { IfErr result (λ refusal. refusal ≡ OutOfMemory) }
+{
+    settle_unless(alloc, machine, dry, gathered.links(), &answer.choice)
 }
 
 /// The report of what was found and chosen, without the lines of what was set.

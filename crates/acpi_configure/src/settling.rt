@@ -14,39 +14,38 @@ ghost use Rattle.acpi_configure.specs.Settling.{links_read, settled, settled_unl
 ghost use Rattle.acpi_configure.specs.Stops.{StopsInSets, StopsInReads, StopsInSettling};
 
 use crate::link_lines::numbers_now;
-use acpi_links::{Gathered, PresentLink, get_current_resources, set_current_resources};
+use acpi_links::{PresentLink, get_current_resources, set_current_resources};
 use acpi_machine::Machine;
 use acpi_resources::InterruptNumbers;
 use aml_path::Path;
 use ar_space::{Refusal, Result, Space};
 use route_report::{After, AfterLine, SetLine, SetOutcome};
-use route_solve::Answer;
 use std::alloc::Global;
 
 /// What came of setting the links, and what they are set to then.
 pub(crate) type Settings = (Vec<SetLine>, Vec<AfterLine>);
 
-/// Sets each link that was gathered to its interrupt of an answer, and then reads what each is set to; neither in a
-/// dry run. Only want of memory refuses it: any other refusal is told in the line of its link, and the next link
-/// follows.
+/// Sets each of some links to the interrupt that it is given, and then reads what each is set to; neither where no
+/// link is to be set. Only want of memory refuses it: any other refusal is told in the line of its link, and the next
+/// link follows.
 #[tactic(auto, using(ar_space::proofs::Changes::changing, acpi_machine::proofs::Stopping::making), unfolding(crate::specs::Settling::settled_unless))]
 pub(crate) fn settle_unless<S: Space>(
     alloc: Global,
     machine: &mut Machine<S>,
     dry: bool,
-    gathered: &Gathered,
-    answer: &Answer,
+    links: &[PresentLink],
+    choice: &[u32],
 ) -> Result<Settings>
-    requires each { length answer.now.choice ≡ length gathered.now.links }
-    requires offered { AllZip Contains (map (λ link. link.1.numbers) gathered.now.links) answer.now.choice }
+    requires each { length choice.now ≡ length links.now }
+    requires offered { AllZip Contains (map (λ link. link.1.numbers) links.now) choice.now }
     ensures value { Does (seen (λ x. (x.0.items, x.1.items)) result) machine.new
-        (settled_unless S.accesses dry gathered.now.links answer.now.choice) machine.old }
-    ensures evaluated { StopsInSettling S.accesses dry gathered.now.links answer.now.choice machine.old machine.new }
+        (settled_unless S.accesses dry links.now choice.now) machine.old }
+    ensures evaluated { StopsInSettling S.accesses dry links.now choice.now machine.old machine.new }
     ensures memory { IfErr result (λ refusal. refusal ≡ OutOfMemory) }
 {
     match dry {
         true => Ok((Vec::new(alloc), Vec::new(alloc))),
-        false => settle(alloc, machine, gathered.links(), &answer.choice),
+        false => settle(alloc, machine, links, choice),
     }
 }
 

@@ -25,7 +25,7 @@ use Rattle.acpi_links.specs.ObjectNames.{sta, prs, crs, srs}
 use Rattle.acpi_links.specs.Presence.{presence_of, is_present}
 use Rattle.acpi_links.specs.Resources.{offer_in, offered_bytes, possible_resources, current_resources}
 use Rattle.acpi_links.specs.Settings.{resources_set}
-use Rattle.acpi_links.specs.Devices.{devices, pins_at, pins_of_device}
+use Rattle.acpi_links.specs.Devices.{devices, devices_listed, pins_at, pins_of_device}
 use Rattle.acpi_links.specs.Gatherings.{pins_found}
 use Rattle.acpi_links.specs.Links.{links_named, few_links, some_left}
 use Rattle.acpi_links.specs.Stops.{StopsIfTable, StopsInDevice, StopsInTables, offer_asked, StopsInOffer, StopsIfPresent, StopsInLinks, StopsInFew, StopsInGathering}
@@ -116,9 +116,10 @@ module _ {S : Type 0} (accesses : Accesses S) where
     unfolding pins_at
     does_no_table is = record { is = λ _. ap (λ b. if b then routing_table accesses device s else (Ok [], s)) (as_found ∙ is) }
 
-  pub devices_as_listed : (list : List (List Seg)) (s t : MachineState S) → Answers (Ok list) (Ok (devices s)) → StopsInTables accesses list s t → StopsInTables accesses (devices s) s t
-  devices_as_listed list s t a h =
-      let is : devices s ≡ list = cc (a.is tt) in
+  pub devices_as_listed : (list : List (List Seg)) (s t : MachineState S) → Does (Ok list) s devices_listed s → StopsInTables accesses list s t → StopsInTables accesses (devices s) s t
+  unfolding devices_listed
+  devices_as_listed list s t d h =
+      let is : devices s ≡ list = (let e = ap (λ (x : Outcome (List (List Seg)) × MachineState S). x.0) (d.is tt) in cc e) in
       subst (λ xs. StopsInTables accesses xs s t) (sym is) h
 
   pub no_few : (avoid : List ℕ) (list : List (List Seg)) (s : MachineState S) → StopsInFew accesses avoid list s s

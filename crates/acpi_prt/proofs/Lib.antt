@@ -1,6 +1,5 @@
 pub mod Entries
 pub mod Firsts
-pub mod Found
 pub mod Places
 pub mod Rows
 pub mod Stopped

@@ -16,20 +16,17 @@ use Rattle.acpi_machine.specs.Stops.{Made, AllOrNone}
 use Rattle.acpi_machine.proofs.Stopping.{made_asked, made_after, made_settled, made_given, made_then_settled, made_then_tested, stops_first, stops_next}
 use Rattle.acpi_prt.specs.declared.pin.Route.TheVariants.{Link}
 use Rattle.acpi_prt.specs.Children.{child_named}
-use Rattle.acpi_prt.specs.Finding.{device_in, id_in}
 use Rattle.acpi_prt.specs.Entries.{entries_of, word_of, source_tested, pin_tested, no_index}
 use Rattle.acpi_prt.specs.Links.{device_at, id_at, link_id_or_not, link_at}
 use Rattle.acpi_prt.specs.RoutingTables.{linked, route_of, pin_with}
-use Rattle.acpi_prt.proofs.Found.{device_found, id_found}
 use Rattle.acpi_prt.specs.Stops.{entries_answered, StopsInEntries, StopsInTable}
 
 module _ {S : Type 0} (accesses : Accesses S) {s t : MachineState S} where
-  pub link_made : (p device hid name : List Seg) (arguments : List Given) → Answers (Ok device) (device_in s.world.names.map p) → Answers (Ok hid) (child_named device (codes "_HID"))
-      → Answers (Ok name) (id_in s.world.profile s.world.names.map hid)
+  pub link_made : (p device hid name : List Seg) (arguments : List Given) → Does (Ok device) s (device_at p) s → Answers (Ok hid) (child_named device (codes "_HID")) → Does (Ok name) s (id_at hid) s
       → Made (evaluated_object accesses name arguments) s t → arguments ≡ [] → AllOrNone (link_at accesses p) s t
   unfolding link_at
   link_made p device hid name arguments d h i m none =
-      made_after (device_at p) _ (device_found (Ok device) p d) (made_settled (child_named device (codes "_HID")) _ h (made_after (id_at hid) _ (id_found (Ok name) hid i)
+      made_after (device_at p) _ d (made_settled (child_named device (codes "_HID")) _ h (made_after (id_at hid) _ i
       (made_then_tested (evaluated_object accesses name []) link_id_or_not (λ _ _. device) (made_asked accesses name arguments m none))))
 
   pub linked_made : (p : List Seg) (index : ℕ) → AllOrNone (link_at accesses p) s t → AllOrNone (linked accesses p index) s t

@@ -8,7 +8,7 @@ ghost use Rattle.aml_meaning.specs.Given.{given_of};
 ghost use Rattle.acpi_machine.specs.Kinds.{kind_seen};
 ghost use Rattle.acpi_prt.specs.Children.{child_named};
 ghost use Rattle.acpi_prt.specs.Finding.{followed, device_or_not, device_in, method_or_not, id_or_not, id_in};
-ghost use Rattle.acpi_prt.specs.Links.{is_link_id, link_id_or_not, link_at};
+ghost use Rattle.acpi_prt.specs.Links.{device_at, id_at, is_link_id, link_id_or_not, link_at};
 
 use acpi_machine::{Kind, Machine, Profile};
 use aml_meaning::Datum;
@@ -22,7 +22,7 @@ const NOT_A_LINK: Refusal = Refusal::RoutingTable(RoutingTableFault::NotALink);
 const LINK_EISA_ID: u64 = 0x0F0C_D041;
 
 /// The path of the link device that stands at a path, or that an alias there leads to; else `NotALink`.
-#[tactic(auto, using(ar_space::proofs::Changes::changing, acpi_machine::proofs::Stopping::making, crate::proofs::Found::finding), unfolding(crate::specs::Links::link_at))]
+#[tactic(auto, using(ar_space::proofs::Changes::changing, acpi_machine::proofs::Stopping::making), unfolding(crate::specs::Links::link_at))]
 pub(crate) fn link_at<S: Space>(
     alloc: Global,
     machine: &mut Machine<S>,
@@ -31,15 +31,22 @@ pub(crate) fn link_at<S: Space>(
     ensures value { Does result machine.new (link_at S.accesses path.now) machine.old }
     ensures evaluated { AllOrNone (link_at S.accesses path.now) machine.old machine.new }
 {
-    let device = device_in(alloc, machine, path)?;
+    let device = device_at(alloc, machine, path)?;
     let hid = child_named(alloc, &device, *b"_HID")?;
-    let id = id_in(alloc, machine, &hid)?;
+    let id = id_at(alloc, machine, &hid)?;
     let answer = machine.evaluate_object(alloc, &id, Vec::new(alloc))?;
     link_id_or_not(&answer)?;
     Ok(device)
 }
 
 /// The path of the device that stands at a path, or that an alias there leads to.
+#[tactic(auto, unfolding(crate::specs::Links::device_at))]
+fn device_at<S: Space>(alloc: Global, machine: &Machine<S>, path: &Path) -> Result<Path>
+    ensures { Does result machine.now (device_at path.now) machine.now }
+{
+    device_in(alloc, machine, path)
+}
+
 #[tactic(auto, using(ar_space::proofs::Outcomes::answering), unfolding(crate::specs::Finding::device_in))]
 fn device_in<S: Space>(alloc: Global, machine: &Machine<S>, path: &Path) -> Result<Path>
     ensures { Answers result (device_in machine.now.world.names.map path.now) }
@@ -60,6 +67,13 @@ fn device_or_not(kind: Option<Kind<'_>>) -> Result<()>
 
 /// The path of the name that holds an integer or a string and stands at a path, or that an alias there leads to; in
 /// the wide profile also that of a control method.
+#[tactic(auto, unfolding(crate::specs::Links::id_at))]
+fn id_at<S: Space>(alloc: Global, machine: &Machine<S>, path: &Path) -> Result<Path>
+    ensures { Does result machine.now (id_at path.now) machine.now }
+{
+    id_in(alloc, machine, path)
+}
+
 #[tactic(auto, using(ar_space::proofs::Outcomes::answering), unfolding(crate::specs::Finding::id_in))]
 fn id_in<S: Space>(alloc: Global, machine: &Machine<S>, path: &Path) -> Result<Path>
     ensures { Answers result (id_in machine.now.world.profile machine.now.world.names.map path.now) }

@@ -18,12 +18,12 @@ pub report_of-requires-clause-placed : goal.report_of-requires-clause-placed
 report_of-requires-clause-placed g c =
     placed c.in_ok-gathered.gathered.problem c.in_ok-answer.answer (solved_fits _ _ (subst (λ p. Solves p c.in_ok-answer.answer) c.problem.ensures c.in_ok-answer.ensures.solves))
 
-pub settle_unless-requires-clause-each : goal.settle_unless-requires-clause-each
-settle_unless-requires-clause-each g c =
+pub settle_answer-requires-clause-each : goal.settle_answer-requires-clause-each
+settle_answer-requires-clause-each g c =
     chosen_each c.args.avoid.now _ c.in_ok-gathered.gathered c.in_ok-answer.answer c.in_ok-gathered.ensures.posed (solved_fits _ _ (subst (λ p. Solves p c.in_ok-answer.answer) c.problem.ensures c.in_ok-answer.ensures.solves))
 
-pub settle_unless-requires-clause-offered : goal.settle_unless-requires-clause-offered
-settle_unless-requires-clause-offered g c =
+pub settle_answer-requires-clause-offered : goal.settle_answer-requires-clause-offered
+settle_answer-requires-clause-offered g c =
     offered_each c.args.avoid.now _ c.in_ok-gathered.gathered c.in_ok-answer.answer c.in_ok-gathered.ensures.posed (solved_fits _ _ (subst (λ p. Solves p c.in_ok-answer.answer) c.problem.ensures c.in_ok-answer.ensures.solves))
 
 pub returns-in_err-settings-clause-refusal : goal.returns-in_err-settings-clause-refusal

@@ -26,15 +26,15 @@ all_lines-requires-clause-placed g c =
     let problem = c.problem.ensures ∙ ap (λ (f : Findings). f.gathering.problem) c.found.view_is in
     placed c.in_ok-found.found.gathering.problem c.in_ok-answer.answer (chosen_fits _ _ _ (subst (λ p. IsChosen c.options.inside.spread p c.in_ok-answer.answer) problem c.in_ok-answer.ensures.chosen))
 
-pub settle_unless-requires-clause-each : goal.settle_unless-requires-clause-each
-settle_unless-requires-clause-each g c =
+pub settle_answer-requires-clause-each : goal.settle_answer-requires-clause-each
+settle_answer-requires-clause-each g c =
     let problem = c.problem.ensures ∙ ap (λ (f : Findings). f.gathering.problem) c.found.view_is in
     subst (λ (found : Gathering). length c.in_ok-answer.answer.choice ≡ length found.links) (sym (ap (λ (f : Findings). f.gathering) c.found.view_is))
     (chosen_each (barred_if c.args.options.now.spare c.args.options.now.avoid c.in_ok-found.found.asked) _ c.in_ok-found.found.gathering c.in_ok-answer.answer c.in_ok-found.ensures.posed
     (chosen_fits _ _ _ (subst (λ p. IsChosen c.options.inside.spread p c.in_ok-answer.answer) problem c.in_ok-answer.ensures.chosen)))
 
-pub settle_unless-requires-clause-offered : goal.settle_unless-requires-clause-offered
-settle_unless-requires-clause-offered g c =
+pub settle_answer-requires-clause-offered : goal.settle_answer-requires-clause-offered
+settle_answer-requires-clause-offered g c =
     let problem = c.problem.ensures ∙ ap (λ (f : Findings). f.gathering.problem) c.found.view_is in
     subst (λ (found : Gathering). AllZip Contains (map (λ link. link.1.numbers) found.links) c.in_ok-answer.answer.choice) (sym (ap (λ (f : Findings). f.gathering) c.found.view_is))
     (offered_each (barred_if c.args.options.now.spare c.args.options.now.avoid c.in_ok-found.found.asked) _ c.in_ok-found.found.gathering c.in_ok-answer.answer c.in_ok-found.ensures.posed
