@@ -7,7 +7,7 @@ use Rattle.ar_space.specs.declared.refusal.Refusal.TheVariants.{OutOfMemory}
 use Rattle.ar_space.specs.Outcome.{Outcome, NotMemory, seen}
 use Rattle.ar_space.specs.Change.{Does, Same, give, stop, settle, go_on, ◌>>=◌}
 use Rattle.aml_path.specs.declared.segment.Seg.{Seg}
-use Rattle.aml_marked.specs.Marked.{all_items, walk_levels}
+use Rattle.aml_marked.specs.Marked.{first, over, all_items, walk_levels}
 use Rattle.aml_objects.specs.declared.node.NodeId.{NodeId}
 use Rattle.aml_objects.specs.declared.entry.Field.{Field}
 use Rattle.aml_objects.specs.declared.value.Reference.{Reference}
@@ -15,8 +15,10 @@ use Rattle.aml_objects.specs.declared.value.Value.{Value}
 use Rattle.aml_objects.specs.declared.value.Value.TheVariants as value
 use Rattle.aml_meaning.specs.declared.flow.Flow.{Flow}
 use Rattle.aml_meaning.specs.declared.flow.Flow.TheVariants as flow
+use Rattle.aml_meaning.specs.declared.term_kind.OperatorKind.{OperatorKind}
+use Rattle.aml_meaning.specs.declared.term_kind.TermKind.TheVariants as kinds
 use Rattle.aml_meaning.specs.State.{State}
-use Rattle.aml_meaning.specs.Run.{Run}
+use Rattle.aml_meaning.specs.Run.{Run, charge}
 use Rattle.aml_meaning.specs.PassedOver.{is_passable}
 use Rattle.aml_meaning.specs.Passing.{with_passed, item_done, passing}
 use Rattle.aml_meaning.specs.Tasks.{Task, passes_over, goes_on}
@@ -47,10 +49,12 @@ use Rattle.aml_meaning.specs.Meaning.{meaning}
 use Rattle.aml_frames.proofs.PassedItems.{given_ok, never_refused, never_err, never_memory, refused_begun, refused_paid, refused_free, refused_met, access_enough, target_enough, four_enough, most_enough}
 use Rattle.aml_frames.proofs.Stepping.{leads_goes_on, leads_goes_off, leads_item, list_passing, leads_no_item, leads_end}
 use Rattle.aml_frames.proofs.Weighing.{charged_step, step_enough, falling}
-use Rattle.aml_frames.proofs.Knowing.{leads_done}
-use Rattle.aml_frames.specs.Places.{Site, behind_term}
+use Rattle.aml_frames.proofs.ShortOperators.{begun_by_operator, behind_by_operator}
+use Rattle.aml_frames.specs.Operands.{row_kind}
+use Rattle.aml_frames.specs.ShortTerms.{row_alone}
+use Rattle.aml_frames.specs.Places.{Site, at_place, behind_term}
 use Rattle.aml_frames.specs.Data.{package_run}
-use Rattle.aml_frames.specs.Follow.{at_position, ends, turn_items, read_access, term_run, items_run, list_run, all_left, body_run, resumed, next_run, next_ends, Leads}
+use Rattle.aml_frames.specs.Follow.{at_position, ends, turn_items, read_access, term_run, items_run, list_run, all_left, operator_run, behind_operator_at, body_run, resumed, next_run, next_ends, Leads}
 use Rattle.aml_frames.specs.Weights.{step_weight, charged}
 use Rattle.aml_frames.specs.Stack.{Rest, whole, frame_met, met, unwinding, at_bottom, then_all, machine, Goes, entry_weight, stack_weight, control_weight}
 
@@ -306,6 +310,32 @@ module _ {S : Type 0} {ac : Accesses S} where
       let g = goes_then {r = Err y} (control.Term i.levels) (item_waits c xs i (i.left - 1) (never_passed c b flag s same told fails) some left refl) (goes_leads_err d (behind_term c i.levels) (xs ++ entry.Frame x ∷ []) _ (rw same at l) h) in
       record { is = λ ne. g.is ne ∙ unwound_frame ac (meaning ac) y d xs x s1 }
 
+  -- an operator is done whole, and the list goes on
+  pub item_operated : {s s1 s2 : State S × ℕ} (v : Value) (c b a d : Site) (xs : List Entry) (i : Items) (n : ℕ) (k : OperatorKind) (flag : Bool) → flag ≡ passes_over b.depth s.0.profile → flag ≡ false → 0 < i.left → 0 < length c.place.rest → n ≡ i.left - 1 → b ≡ c
+      → row_kind (row_alone (first b.place.rest)) ≡ kinds.Operator k → 0 < i.levels → Does (Ok tt) s1 charge s → a ≡ at_place b (over 1 b.place)
+      → Leads ac (meaning ac) (Ok (next.Flow (flow.Value v))) d s2 (operator_run ac (meaning ac) k a (i.levels - 1)) s1 → d ≡ behind_operator_at k a (i.levels - 1)
+      → Goes ac (meaning ac) (Ok (control.Items (record { left = n; levels = i.levels; outer = i.outer }))) d xs s2 (machine ac (meaning ac) (control.Items i) c xs) s
+  item_operated v c b a d xs i n k flag told fails some left one same kind deep taken at l ends =
+      item_next (next.Flow (flow.Value v)) c b d xs i n flag told fails some left one (begun_by_operator b a i.levels k kind deep taken at l) same (behind_by_operator d b a i.levels k kind deep at ends) (item_on d xs (record { left = n; levels = i.levels; outer = i.outer }) (flow.Value v) true refl refl)
+
+  -- an operator begins behind its opcode
+  pub item_operator : {r : Outcome Control} {e : Site} {ys : List Entry} {s s1 t s2 s3 : State S × ℕ} (x : Next) (c b a o d : Site) (xs : List Entry) (i : Items) (n : ℕ) (k : OperatorKind) (flag : Bool) → flag ≡ passes_over b.depth s.0.profile → flag ≡ false → 0 < i.left → 0 < length c.place.rest → n ≡ i.left - 1 → b ≡ c
+      → row_kind (row_alone (first b.place.rest)) ≡ kinds.Operator k → 0 < i.levels → Does (Ok tt) s1 charge s → a ≡ at_place b (over 1 b.place) → t ≡ s1 → o ≡ a
+      → Leads ac (meaning ac) (Ok x) d s2 (operator_run ac (meaning ac) k o (i.levels - 1)) t → next_ends x d ≡ behind_operator_at k o (i.levels - 1)
+      → Goes ac (meaning ac) r e ys s3 (then_all ac (meaning ac) (next_run ac (meaning ac) x d) (next_ends x d) (xs ++ entry.Frame (frames.Items (record { left = n; levels = i.levels; outer = i.outer })) ∷ [])) s2
+      → Goes ac (meaning ac) r e ys s3 (machine ac (meaning ac) (control.Items i) c xs) s
+  item_operator x c b a o d xs i n k flag told fails some left one same kind deep taken at steps stays l ends g =
+      let begun = rw (steps, stays) at l in
+      let there = rw stays at ends in
+      item_next x c b d xs i n flag told fails some left one (begun_by_operator b a i.levels k kind deep taken at begun) same (behind_by_operator (next_ends x d) b a i.levels k kind deep at there) g
+
+  pub item_operator_refused : {e : Refusal} {r : Outcome Control} {s s1 t s2 : State S × ℕ} (c b a o d : Site) (xs : List Entry) (i : Items) (k : OperatorKind) (flag : Bool) → flag ≡ passes_over b.depth s.0.profile → flag ≡ false → 0 < i.left → 0 < length c.place.rest → b ≡ c
+      → row_kind (row_alone (first b.place.rest)) ≡ kinds.Operator k → 0 < i.levels → Does (Ok tt) s1 charge s → a ≡ at_place b (over 1 b.place) → t ≡ s1 → o ≡ a
+      → Leads ac (meaning ac) (Err e) d s2 (operator_run ac (meaning ac) k o (i.levels - 1)) t → IsErr r × IsErrAnd r (λ x. x ≡ e) → Goes ac (meaning ac) r d xs s2 (machine ac (meaning ac) (control.Items i) c xs) s
+  item_operator_refused c b a o d xs i k flag told fails some left same kind deep taken at steps stays l h =
+      let begun = rw (steps, stays) at l in
+      item_refused c b d xs i flag told fails some left (begun_by_operator b a i.levels k kind deep taken at begun) same h
+
 -- an item pays a step, and the items behind it may wait
 pub falls_item : (r : Outcome Control) (a b w n x y : ℕ) → a < b → w < step_weight → IfOk r (λ c. n + (x + control_weight c) ≤ charged a + (y + 3 + w)) → IfOk r (λ c. n + (x + control_weight c) < charged b + (y + 4))
 falls_item (Ok c) a b w n x y h i j = let p = charged_step a b h in omega (arith, p, i, j)
@@ -316,6 +346,13 @@ pub falls_done : (r : Outcome Control) (a x y : ℕ) → IfOk r (λ c. x + contr
 falls_done (Ok c) a x y h = omega (arith, h)
 falls_done (Err z) a x y h = tt
 
+-- an operator that is done whole pays a step, and its list goes on
+pub falls_operated : (i : Items) (a b d x : ℕ) → a ≤ b → b < d → charged a + (x + control_weight (control.Items i)) < charged d + (x + 4)
+falls_operated i a b d x h paid =
+    let p = charged_step a d (omega (arith, h, paid)) in
+    let enough = step_enough in
+    omega (arith, p, enough)
+
 -- an item that may be passed over begins
 pub falls_kept : (r : Outcome Control) (a levels : ℕ) (xs ys : List Entry) (x : ListItem) → OnOk r (ys ≡ xs ++ entry.Item x ∷ []) → IfOk r (λ c. c ≡ control.Term levels) → IfOk r (λ c. charged a + (stack_weight ys + control_weight c) < charged a + (stack_weight xs + 4))
 falls_kept (Ok c) a levels xs ys x pushed next =
@@ -324,7 +361,7 @@ falls_kept (Ok c) a levels xs ys x pushed next =
     omega (arith, k, none)
 falls_kept (Err e) a levels xs ys x pushed next = tt
 
-pub ruleset listing_on = (list_over, list_passed, falls_kept, weight_on, falls_item, falls_done, item_last, item_on, item_none, item_over, item_next, item_refused, item_kept, given_ok, never_refused, never_err, never_memory, refused_begun, goes_memory)
+pub ruleset listing_on = (list_over, list_passed, falls_kept, falls_operated, weight_on, falls_item, falls_done, item_last, item_on, item_none, item_over, item_operated, item_operator, item_operator_refused, item_next, item_refused, item_kept, given_ok, never_refused, never_err, never_memory, refused_begun, goes_memory)
 
 pub ruleset going = (never_refused, weight_on, goes_flow, goes_items, goes_package, goes_term, goes_turn, goes_scope, goes_body, goes_body_then, goes_target, goes_division, goes_found, goes_read, goes_counted, goes_access_then, goes_flow_then, goes_memory)
 

@@ -1,5 +1,5 @@
 -- An operator that is found by the byte that is its opcode is the term that begins there.
-use Rattle.std.specs.Prelude.{◌≡◌, ◌≢◌, ◌<◌, ◌-◌, ◌==◌, ℕ, zero, suc, List, [], ◌∷◌, length, Bool, false, Option, Some, None, Ok, Err, slice_get, refl}
+use Rattle.std.specs.Prelude.{◌≡◌, ◌≢◌, ◌<◌, ◌-◌, ◌==◌, ℕ, zero, suc, List, [], ◌∷◌, length, Bool, false, Option, Some, None, Ok, slice_get, refl}
 use Rattle.std.proofs.Common.{◌∙◌, sym, ap, arith}
 use Rattle.ar_space.specs.Accesses.{Accesses}
 use Rattle.ar_space.specs.Outcome.{Outcome}
@@ -23,7 +23,7 @@ use Rattle.aml_frames.specs.declared.frames.Next.{Next}
 use Rattle.aml_frames.specs.Operands.{row_kind}
 use Rattle.aml_frames.specs.Places.{Site, at_place, behind_term}
 use Rattle.aml_frames.specs.ShortTerms.{row_alone}
-use Rattle.aml_frames.specs.Follow.{term_run, operator_run, behind_operator_at, next_ends, Leads, EndsAt}
+use Rattle.aml_frames.specs.Follow.{term_run, operator_run, behind_operator_at, Leads}
 use Rattle.aml_frames.proofs.RuleShapes.{behind_operator_is}
 use Rattle.aml_frames.proofs.ShortTerms.{alone, alone_term}
 use Rattle.aml_frames.proofs.Stepping.{leads_ok, leads_meaning, leads_begun, leads_operator}
@@ -73,9 +73,5 @@ behind_by_operator x c d levels k h lt at l =
     let kind : row_kind (row_at o.0) ≡ kinds.Operator k = ap row_kind o.1 ∙ h in
     let b = a_term (count_at c.marks) (levels - 1) in
     l ∙ ap (λ (y : Site). behind_operator_at k y (levels - 1)) at ∙ ap (at_place c) (sym (behind_operator_is b k o.0 (over 1 c.place) kind) ∙ sym (ap (λ (y : Tree × Place). y.1) (operator_term (count_at c.marks) levels c.place k o.0 lt h o.1)))
-
-pub ends_by_operator : (r : Outcome Next) (x c d : Site) (levels : ℕ) (k : OperatorKind) → row_kind (row_alone (first c.place.rest)) ≡ kinds.Operator k → 0 < levels → d ≡ at_place c (over 1 c.place) → EndsAt r x (behind_operator_at k d (levels - 1)) → EndsAt r x (behind_term c levels)
-ends_by_operator (Ok n) x c d levels k h lt at l = behind_by_operator (next_ends n x) c d levels k h lt at l
-ends_by_operator (Err e) x c d levels k h lt at l = tt
 
 pub ruleset begun = (begun_by_operator, behind_by_operator)

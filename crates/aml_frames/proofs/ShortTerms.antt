@@ -138,6 +138,10 @@ charged_world : {S : Type 0} (s s1 : State S × ℕ) → Does (Ok tt) s1 charge 
 unfolding charge
 charged_world s s1 h = taken_by (s.1 == 0) s s1 (s.1 - 1) (h.is tt)
 
+pub charged_one : {S : Type 0} (s : State S × ℕ) → (s.1 == 0) ≡ false → Does (Ok tt) (s.0, s.1 - 1) charge s
+unfolding charge
+charged_one s some = record { is = λ _. rw some refl }
+
 -- ---- what the term means
 
 module _ {S : Type 0} (accesses : Accesses S) (scope : List Seg) (depth : ℕ) where

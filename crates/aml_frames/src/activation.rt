@@ -125,9 +125,9 @@ impl Activation {
         })
     }
 
-    /// An item of a list begins here: it is told where evaluation is refused.
+    /// The item of a list that begins here is told where evaluation is refused.
     #[inline(always)]
-    pub(crate) fn begin_item(&mut self)
+    pub(crate) fn tell_from_here(&mut self)
         ensures { self.new ≡ self.old }
     {
         self.start = self.position.at;
@@ -295,7 +295,7 @@ impl Activation {
     pub fn rest(&self) -> &[u8]
         ensures { result.now ≡ self.now.place.rest }
     {
-        self.cursor().rest()
+        between(self.bytes.as_slice(), self.position.at, self.position.end)
     }
 
     /// The next byte, or zero.

@@ -12,16 +12,19 @@ ghost use Rattle.aml_frames.specs.Stack.{then_all, machine, given_up, Goes, stac
 ghost use Rattle.aml_frames.specs.Weights.{next_weight, charged};
 
 use crate::frames::{Control, Entry, Frame, Items, Next};
+use crate::operators::begin_operator;
 use crate::passing::{passes_over, push_passable_item};
-use crate::short_items::begin_item;
+use crate::short_items::try_operator;
+use crate::short_opcodes::take_operator;
 use crate::stack::{end_call, follow};
+use crate::terms::begin_term;
 use crate::turns::end_list;
 use crate::waiting::{Stack, go_to_flow, go_to_items};
 use aml_meaning::{Flow, Running};
 use ar_space::{Refusal, Result, Space};
 
-/// The next item of a list is begun, or the list ends. What is left of the list waits on the stack only for an item
-/// that its first step doesn't finish.
+/// The next item of a list is begun, or the list ends. An operator over integers that are there already is done whole,
+/// its store with it. What is left of the list waits on the stack only for an item that its first step doesn't finish.
 #[inline(always)]
 #[tactic(auto, using(crate::proofs::Machine::listing_on))]
 pub(crate) fn step_items<S: Space>(
@@ -42,7 +45,7 @@ pub(crate) fn step_items<S: Space>(
         stack.act.go_to(items.outer);
         return end_list(run, stack);
     }
-    stack.act.begin_item();
+    stack.act.tell_from_here();
     let behind = Items {
         left: items.left - 1,
         ..items
@@ -50,7 +53,14 @@ pub(crate) fn step_items<S: Space>(
     if passes_over(run, &stack.act) {
         return push_passable_item(run.world.alloc, stack, behind);
     }
-    let next = begin_item(run, &mut stack.act, items.levels)?;
+    let next = match take_operator(run, &mut stack.act, items.levels) {
+        None => begin_term(run, &mut stack.act, items.levels)?,
+        Some(kind) => match try_operator(run, &mut stack.act, items.levels - 1, kind) {
+            // It is done, and a list has no use for its integer.
+            Some(_) => return Ok(Control::Items(behind)),
+            None => begin_operator(run, &mut stack.act, items.levels - 1, kind)?,
+        },
+    };
     follow_item(run, stack, behind, next)
 }
 

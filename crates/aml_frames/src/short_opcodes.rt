@@ -10,11 +10,10 @@ ghost use Rattle.aml_frames.specs.Places.{at_place};
 ghost use Rattle.aml_frames.specs.ShortTerms.{row_alone};
 
 use crate::activation::Activation;
-use crate::short_terms::take_step;
 use aml_convert::{BinaryOperator, Comparison, LogicalOperator};
 use aml_meaning::{Count, OperatorKind, Running, Test, TwoOperands};
 
-/// The operator with an opcode of this one byte, if it can be done at once: `operator_item` and `operator_integer` say
+/// The operator with an opcode of this one byte, if it can be done at once: `try_operator` and `operator_integer` say
 /// which of them where.
 #[inline(always)]
 #[tactic(auto, unfolding(aml_grammar::specs::Table::row_of, aml_grammar::specs::Names::starts_name))]
@@ -49,6 +48,7 @@ fn operator_at(byte: u8) -> Option<OperatorKind>
 /// Takes the step of the operator that stands next, goes over its opcode, and says which it is, where `operator_at`
 /// knows it. In every other case nothing changes, also where no step or no level is left.
 #[inline(always)]
+#[tactic(auto, unfolding(aml_meaning::specs::Run::charge))]
 pub(crate) fn take_operator<S>(
     run: &mut Running<S>,
     act: &mut Activation,
@@ -63,15 +63,13 @@ pub(crate) fn take_operator<S>(
     ensures none { result ≡ None → run.new ≡ run.old }
     ensures stays { result ≡ None → act.new ≡ act.old }
 {
-    if levels == 0 {
+    if levels == 0 || run.steps == 0 {
         return None;
     }
     let Some(kind) = operator_at(act.next_byte()) else {
         return None;
     };
-    if !take_step(run) {
-        return None;
-    }
+    run.steps -= 1;
     act.advance(1);
     Some(kind)
 }

@@ -9,7 +9,6 @@ ghost use Rattle.aml_marked.specs.Marked.{an_integer};
 ghost use Rattle.aml_objects.specs.declared.value.Value.TheVariants as values;
 ghost use Rattle.aml_meaning.specs.declared.flow.Flow.TheVariants as flows;
 ghost use Rattle.aml_meaning.specs.Meaning.{meaning};
-ghost use Rattle.aml_meaning.specs.Run.{charge};
 ghost use Rattle.aml_frames.specs.declared.short_terms.Short.TheVariants as shorts;
 ghost use Rattle.aml_frames.specs.declared.uses.TargetUse.TheVariants as uses;
 ghost use Rattle.aml_frames.specs.Follow.{term_run};
@@ -70,23 +69,6 @@ fn short_at(byte: u8) -> Short
     }
 }
 
-/// Takes a step, where one is left.
-#[inline(always)]
-#[tactic(auto, unfolding(aml_meaning::specs::Run::charge))]
-pub(crate) fn take_step<S>(run: &mut Running<S>) -> bool
-    ensures kept { run.new.0 ≡ run.old.0 }
-    ensures spent { run.new.1 ≤ run.old.1 }
-    ensures taken { result ≡ true → Does (Ok tt) run.new charge run.old }
-    ensures paid { result ≡ true → run.new.1 < run.old.1 }
-    ensures none { result ≡ false → run.new ≡ run.old }
-{
-    if run.steps == 0 {
-        return false;
-    }
-    run.steps -= 1;
-    true
-}
-
 /// The integer of a short term that stands next: a local or an argument that holds an integer, a constant, or an
 /// integer behind its opcode. It takes a step, and evaluation goes behind the term. In every other case nothing
 /// changes, also where no step is left.
@@ -104,38 +86,31 @@ pub(crate) fn short_integer<S: Space>(
     ensures none { result ≡ None → run.new ≡ run.old }
     ensures stays { result ≡ None → act.new ≡ act.old }
 {
-    if levels == 0 {
+    if levels == 0 || run.steps == 0 {
         return None;
     }
-    match short_at(act.next_byte()) {
+    let number = match short_at(act.next_byte()) {
         Short::Slot(slot) => {
             let Some(number) = run.world.slot_integer(slot) else {
                 return None;
             };
-            if !take_step(run) {
-                return None;
-            }
             act.advance(1);
-            Some(number)
+            number
         }
         Short::Constant(number) => {
-            if !take_step(run) {
-                return None;
-            }
             act.advance(1);
-            Some(run.world.truncated_number(number))
+            run.world.truncated_number(number)
         }
         Short::Number(count) => {
-            if !take_step(run) {
-                return None;
-            }
             act.advance(1);
             let number = number_at(act, count);
             act.advance(count);
-            Some(run.world.truncated_number(number))
+            run.world.truncated_number(number)
         }
-        Short::Other => None,
-    }
+        Short::Other => return None,
+    };
+    run.steps -= 1;
+    Some(number)
 }
 
 /// The integer of the next bytes, the lowest first; missing ones are zero. One, two and four bytes are read without a

@@ -19,7 +19,8 @@ use aml_objects::{FieldSource, FieldUnit, NamedObject, NodeId, OperationRegion};
 use ar_space::{Result, Space};
 
 impl<S> WorldState<S> {
-    /// The region in which a field unit lies, where it is one of SystemMemory or SystemIO.
+    /// The region in which a field unit lies, where it is one of SystemMemory or SystemIO; none of a unit of an
+    /// IndexField or a BankField.
     fn plain_region(&self, unit: FieldUnit) -> Option<Region>
         ensures { IfSome result (λ region. IsPlainRegion self.now unit.source region) }
     {
@@ -36,8 +37,9 @@ impl<S> WorldState<S> {
 
 impl<S: Space> WorldState<S> {
     /// The value of a field unit as an integer, or none, and then nothing changes. Refused as `read_field` refuses it.
-    /// It answers an integer for a unit that lies within one access unit of SystemMemory or SystemIO and has no more
-    /// bits than an integer, and none for any other. No clause says for which units it answers one.
+    /// It answers an integer for a unit that lies within one access unit of a region of SystemMemory or SystemIO and
+    /// has no more bits than an integer, unless the unit is of an IndexField or a BankField. No clause says for which
+    /// units it answers one.
     pub fn unit_integer(&mut self, unit: FieldUnit) -> Result<Option<u64>>
         ensures read { IfOk result (λ read. MatchOption read (self.new ≡ self.old)
             (λ number. (call : List Segment → Run S ℕ) (steps : ℕ) →
@@ -57,8 +59,8 @@ impl<S: Space> WorldState<S> {
     }
 
     /// Stores an integer to a field unit, or answers no, and then nothing changes. Refused as `write_field` refuses it.
-    /// It stores to a unit of SystemMemory or SystemIO that has no more bits than an integer, and to no other. No
-    /// clause says for which units it stores.
+    /// It stores to a unit of a region of SystemMemory or SystemIO that has no more bits than an integer, unless the
+    /// unit is of an IndexField or a BankField. No clause says for which units it stores.
     pub fn put_unit_integer(&mut self, unit: FieldUnit, number: u64) -> Result<bool>
         ensures written { IfOk result (λ done. MatchBool done ((call : List Segment → Run S ℕ) (steps : ℕ) →
             Does (Ok tt) (self.new, steps) (field_stored S.accesses call (field.Unit unit) (Integer number))
