@@ -69,7 +69,7 @@ module _ {S : Type 0} {ac : Accesses S} where
   leads_bridge {s = s} a device l q qs seg bus e h = rw e (record { is = λ ne. next_bridge ac a device q qs seg bus s ∙ h.is ne })
 
   -- a part that is known is handed to what waits for it
-  pub leads_part_known : {c : Site} {s : State S × ℕ} (x : PciAccess) (n : ℕ) → Leads ac (meaning ac) (Ok (next.FlowThen (flow.Value (value.Integer n)) (frames.Address x))) c s (part_known ac (meaning ac) x n) s
+  pub leads_part_known : {c : Site} {s : State S × ℕ} (x : PciAccess) (n : ℕ) → Leads ac (meaning ac) (Ok (next.IntegerThen n (frames.Address x))) c s (part_known ac (meaning ac) x n) s
   unfolding give settle ◌>>=◌ go_on
   leads_part_known x n = record { is = λ _. refl }
 

@@ -148,9 +148,6 @@ module _ {S : Type 0} {ac : Accesses S} {ev : Task → Run S Flow} where
   pub goes_target : {c : Site} {xs : List Entry} {s : State S × ℕ} (t : Target) (u : TargetUse) → Goes ac ev (Ok (control.Target t u)) c xs s (then_all ac ev (target_run ac ev t u c) (target_ends t u c) xs) s
   goes_target t u = record { is = λ _. refl }
 
-  pub goes_read : {c : Site} {xs : List Entry} {s : State S × ℕ} (f : Field) (how : Reading) → Goes ac ev (Ok (control.Read f how)) c xs s (then_all ac ev (next_run ac ev (next.Read f how) c) c xs) s
-  goes_read f how = record { is = λ _. refl }
-
   target_then : {c : Site} {s : State S × ℕ} (xs ys : List Entry) (t : Target) (u : TargetUse) (x : Frame) → ys ≡ xs ++ entry.Frame x ∷ [] → Goes ac ev (Ok (control.Target t u)) c ys s (then_all ac ev (target_run ac ev t u c >>= resumed ac ev x (target_ends t u c)) (ends x (target_ends t u c)) xs) s
   target_then {c = c} {s = s} xs ys t u x e = record { is = λ _. sym (ap (λ zs. then_all ac ev (target_run ac ev t u c) (target_ends t u c) zs s) e ∙ at_frame ac ev (target_run ac ev t u c) (target_ends t u c) xs x s) }
 
@@ -160,14 +157,13 @@ module _ {S : Type 0} {ac : Accesses S} {ev : Task → Run S Flow} where
   pub goes_found : {c : Site} {s : State S × ℕ} (xs ys : List Entry) (levels : ℕ) (r : Reference) → ys ≡ xs ++ entry.Frame frames.Found ∷ [] → Goes ac ev (Ok (control.Target (optional levels) (uses.Store (value.Reference r)))) c ys s (then_all ac ev (next_run ac ev (next.Found levels r) c) (next_ends (next.Found levels r) c) xs) s
   goes_found xs ys levels r e = target_then xs ys (optional levels) (uses.Store (value.Reference r)) frames.Found e
 
-  pub goes_counted : {c : Site} {s : State S × ℕ} (xs ys : List Entry) (k : Count) (x : StoreTarget × Field) (f : Field) → f ≡ x.1 → ys ≡ xs ++ entry.Frame (frames.Counted k x) ∷ [] → Goes ac ev (Ok (control.Read f reading.Integer)) c ys s (then_all ac ev (next_run ac ev (next.Counted k x) c) (next_ends (next.Counted k x) c) xs) s
-  goes_counted {c = c} {s = s} xs ys k x f h e = rw h (record { is = λ _. sym (ap (λ zs. then_all ac ev (access_run ac ev (read_access c x.1 reading.Integer)) c zs s) e ∙ at_frame ac ev (access_run ac ev (read_access c x.1 reading.Integer)) c xs (frames.Counted k x) s) })
-
   pub goes_access_then : {c : Site} {s : State S × ℕ} (xs ys : List Entry) (a : Access) (x : Frame) → ys ≡ xs ++ entry.Frame x ∷ [] → Goes ac ev (Ok (control.Access a)) c ys s (then_all ac ev (next_run ac ev (next.AccessThen a x) c) (next_ends (next.AccessThen a x) c) xs) s
   goes_access_then {c = c} {s = s} xs ys a x e = record { is = λ _. sym (ap (λ zs. then_all ac ev (access_run ac ev a) c zs s) e ∙ at_frame ac ev (access_run ac ev a) c xs x s) }
 
-  pub goes_flow_then : {c : Site} {s : State S × ℕ} (xs ys : List Entry) (f : Flow) (x : Frame) → ys ≡ xs ++ entry.Frame x ∷ [] → Goes ac ev (Ok (control.Flow f)) c ys s (then_all ac ev (next_run ac ev (next.FlowThen f x) c) (next_ends (next.FlowThen f x) c) xs) s
-  goes_flow_then {c = c} {s = s} xs ys f x e = record { is = λ _. sym (ap (λ zs. then_all ac ev (give f) c zs s) e ∙ at_frame ac ev (give f) c xs x s) }
+  pub goes_integer_then : {c : Site} {s : State S × ℕ} (xs ys : List Entry) (n : ℕ) (x : Frame) → ys ≡ xs ++ entry.Frame x ∷ [] → Goes ac ev (Ok (control.Flow (flow.Value (value.Integer n)))) c ys s (then_all ac ev (next_run ac ev (next.IntegerThen n x) c) (next_ends (next.IntegerThen n x) c) xs) s
+  goes_integer_then {c = c} {s = s} xs ys n x e =
+      let m = give (flow.Value (value.Integer n)) in
+      record { is = λ _. sym (ap (λ zs. then_all ac ev m c zs s) e ∙ at_frame ac ev m c xs x s) }
 
   pub goes_memory : {s : State S × ℕ} (r : Outcome Control) (c : Site) (xs : List Entry) (after : State S × ℕ) (m : Run S Flow) → IsErr r × IsErrAnd r (λ e. e ≡ OutOfMemory) → Goes ac ev r c xs after m s
   goes_memory (Ok x) c xs after m i = absurd (cc i.0)
@@ -363,7 +359,7 @@ falls_kept (Err e) a levels xs ys x pushed next = tt
 
 pub ruleset listing_on = (list_over, list_passed, falls_kept, falls_operated, weight_on, falls_item, falls_done, item_last, item_on, item_none, item_over, item_operated, item_operator, item_operator_refused, item_next, item_refused, item_kept, given_ok, never_refused, never_err, never_memory, refused_begun, goes_memory)
 
-pub ruleset going = (never_refused, weight_on, goes_flow, goes_items, goes_package, goes_term, goes_turn, goes_scope, goes_body, goes_body_then, goes_target, goes_division, goes_found, goes_read, goes_counted, goes_access_then, goes_flow_then, goes_memory)
+pub ruleset going = (never_refused, weight_on, goes_flow, goes_items, goes_package, goes_term, goes_turn, goes_scope, goes_body, goes_body_then, goes_target, goes_division, goes_found, goes_access_then, goes_integer_then, goes_memory)
 
 pub ruleset taking = (falling, goes_leads, goes_leads_err, goes_frame, goes_item, goes_leave, goes_memory, never_err, never_memory, refused_paid, refused_free, refused_met, access_enough, target_enough, four_enough, most_enough)
 

@@ -142,6 +142,11 @@ pub charged_one : {S : Type 0} (s : State S × ℕ) → (s.1 == 0) ≡ false →
 unfolding charge
 charged_one s some = record { is = λ _. rw some refl }
 
+-- a number is kept as an integer: its lowest 32 or 64 bits
+pub does_kept : {S : Type 0} (s : State S) (n m : ℕ) → n ≡ truncated s.width m → Does (Ok (value.Integer n)) s (integer_kept m) s
+unfolding integer_kept
+does_kept s n m h = record { is = λ _. rw h refl }
+
 -- ---- what the term means
 
 module _ {S : Type 0} (accesses : Accesses S) (scope : List Seg) (depth : ℕ) where

@@ -56,8 +56,8 @@ use Rattle.aml_frames.specs.declared.uses.Reading.TheVariants as reading
 use Rattle.aml_frames.specs.declared.uses.TargetUse.TheVariants as uses
 use Rattle.aml_frames.specs.Places.{Site, at_place, terms, next_term, behind_term}
 use Rattle.aml_frames.specs.Operands.{behind_one, behind_two, operator_tree, argument_super_at, argument_target_at, arguments_target_at, arguments_targets_at, super_at, super_word_at, super_argument_at}
-use Rattle.aml_frames.specs.Uses.{super, optional, behind_target, target_run, read_as, told, stored_at, inquired, counted_back, found_next, used}
-use Rattle.aml_frames.specs.Follow.{operator_run, statement_run, behind_operator_at, inquiry_kind, Leads, EndsAt}
+use Rattle.aml_frames.specs.Uses.{super, optional, behind_target, target_run, access_run, read_as, told, stored_at, inquired, counted_back, found_next, used}
+use Rattle.aml_frames.specs.Follow.{read_access, operator_run, statement_run, behind_operator_at, inquiry_kind, Leads, EndsAt}
 use Rattle.aml_frames.proofs.Stepping.{bind_bind, leads_value, leads_value_at, leads_data, stepping}
 use Rattle.aml_frames.proofs.Targeting.{target_part_is, named_part, term_part, bind_as, bind_same, leads_nested, leads_given, aiming, names_of_targets, kinds_of_targets, operands_of_targets}
 use Rattle.aml_frames.proofs.Declaring.{leads_declaration, ends_declaration}
@@ -169,15 +169,15 @@ module _ {S : Type 0} (ac : Accesses S) where
 module _ {S : Type 0} {ac : Accesses S} where
   -- ---- accesses
 
-  pub leads_read : {c : Site} {s : State S × ℕ} (depth : ℕ) (f : Field) → depth ≡ c.depth → Leads ac (meaning ac) (Ok (next.Read f reading.Value)) c s (field_value ac (asked (answer_within ac (meaning ac) (32 - depth))) f >>= (λ v. give (flow.Value v))) s
+  pub leads_read : {r : Outcome Next} {d : Site} {s s1 : State S × ℕ} (c : Site) (depth : ℕ) (f : Field) → depth ≡ c.depth → Leads ac (meaning ac) r d s1 (access_run ac (meaning ac) (read_access c f reading.Value)) s → Leads ac (meaning ac) r d s1 (field_value ac (asked (answer_within ac (meaning ac) (32 - depth))) f >>= (λ v. give (flow.Value v))) s
   unfolding field_value read_as
-  leads_read {c = c} {s = s} depth f e = rw e (record { is = λ _. bind_bind (bits_in ac (asked (answer_within ac (meaning ac) (32 - c.depth))) f) (λ bytes. lift (value_of_bits _ bytes)) (λ v. give (flow.Value v)) s })
+  leads_read {s = s} c depth f e h = rw e (record { is = λ ne. bind_bind (bits_in ac (asked (answer_within ac (meaning ac) (32 - c.depth))) f) (λ bytes. lift (value_of_bits _ bytes)) (λ v. give (flow.Value v)) s ∙ h.is ne })
 
-  pub leads_told : {c : Site} {s : State S × ℕ} (depth : ℕ) (f : Field) (i : Inquiry) → depth ≡ c.depth → Leads ac (meaning ac) (Ok (next.Read f (reading.Inquire i))) c s (field_referent ac (asked (answer_within ac (meaning ac) (32 - depth))) f >>= (λ r. lift (told i r) >>= (λ v. give (flow.Value v)))) s
+  pub leads_told : {r : Outcome Next} {d : Site} {s s1 : State S × ℕ} (c : Site) (depth : ℕ) (f : Field) (i : Inquiry) → depth ≡ c.depth → Leads ac (meaning ac) r d s1 (access_run ac (meaning ac) (read_access c f (reading.Inquire i))) s → Leads ac (meaning ac) r d s1 (field_referent ac (asked (answer_within ac (meaning ac) (32 - depth))) f >>= (λ x. lift (told i x) >>= (λ v. give (flow.Value v)))) s
   unfolding field_referent read_as
-  leads_told {c = c} {s = s} depth f i e = rw e (record { is = λ _. bind_bind (bits_in ac (asked (answer_within ac (meaning ac) (32 - c.depth))) f) (λ bytes. lift (referent_of_bits _ bytes)) (λ r. lift (told i r) >>= (λ v. give (flow.Value v))) s })
+  leads_told {s = s} c depth f i e h = rw e (record { is = λ ne. bind_bind (bits_in ac (asked (answer_within ac (meaning ac) (32 - c.depth))) f) (λ bytes. lift (referent_of_bits _ bytes)) (λ x. lift (told i x) >>= (λ v. give (flow.Value v))) s ∙ h.is ne })
 
-  pub leads_counted : {c : Site} {s : State S × ℕ} (depth : ℕ) (k : Count) (p : StoreTarget) (f : Field) → depth ≡ c.depth → Leads ac (meaning ac) (Ok (next.Counted k (p, f))) c s (field_integer ac (asked (answer_within ac (meaning ac) (32 - depth))) f >>= (λ n. counted_back ac (meaning ac) k p (held.Field f) c n)) s
+  pub leads_counted : {c : Site} {s : State S × ℕ} (depth : ℕ) (k : Count) (p : StoreTarget) (f : Field) → depth ≡ c.depth → Leads ac (meaning ac) (Ok (next.AccessThen (read_access c f reading.Integer) (frames.Counted k (p, f)))) c s (field_integer ac (asked (answer_within ac (meaning ac) (32 - depth))) f >>= (λ n. counted_back ac (meaning ac) k p (held.Field f) c n)) s
   unfolding field_integer read_as
   leads_counted {c = c} {s = s} depth k p f e =
       let m = bits_in ac (asked (answer_within ac (meaning ac) (32 - c.depth))) f in

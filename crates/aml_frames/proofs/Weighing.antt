@@ -54,6 +54,11 @@ pub few_calls : (depth : ℕ) → field_weight (32 - depth) ≤ most
 unfolding most
 few_calls depth = part_up (suc (32 - depth)) (32 - (32 - depth)) 33 (omega arith)
 
+-- a read by a term asks for less than the most that an access of a term does
+pub read_free : (r : Outcome Next) (depth : ℕ) → IfOk r (λ n. next_weight n < field_weight (32 - depth)) → IfOk r (λ n. next_weight n < most)
+read_free (Ok n) depth h = let p = few_calls depth in omega (arith, p, h)
+read_free (Err e) depth h = tt
+
 -- what a step leaves that took no step back
 pub charged_free : (r : Outcome Next) (a b v u : ℕ) → a ≤ b → v ≤ u → IfOk r (λ n. next_weight n < v) → IfOk r (λ n. charged a + next_weight n < charged b + u)
 charged_free (Ok n) a b v u h i j = let p = charged_less a b h in omega (arith, p, i, j)
@@ -107,10 +112,5 @@ falls_met (Err z) a b w u n x y h j = tt
 pub falls_found : (r : Outcome Control) (a b w v n x y : ℕ) → charged a + w < charged b + v → IfOk r (λ c. n + (x + control_weight c) ≤ charged a + (y + w)) → IfOk r (λ c. n + (x + control_weight c) < charged b + (y + v))
 falls_found (Ok c) a b w v n x y h j = omega (arith, h, j)
 falls_found (Err z) a b w v n x y h j = tt
-
--- a read of a field by a term
-pub falls_read : (r : Outcome Control) (a b w d n x y : ℕ) → a ≤ b → w < field_weight (32 - d) → IfOk r (λ c. n + (x + control_weight c) ≤ charged a + (y + w)) → IfOk r (λ c. n + (x + control_weight c) < charged b + (y + most))
-falls_read (Ok c) a b w d n x y h i j = let p = charged_less a b h in let q = few_calls d in omega (arith, p, q, i, j)
-falls_read (Err z) a b w d n x y h i j = tt
 
 pub ruleset falling = (falls_paid, falls_free, falls_met, falls_found)

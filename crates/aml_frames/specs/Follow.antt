@@ -184,10 +184,8 @@ next_ends (next.BodyThen b x) c = ends (frames.Address x) c
 next_ends (next.Target t u) c = target_ends t u c
 next_ends (next.Division levels v q) c = ends (frames.Quotient levels q) (target_ends (optional levels) (uses.Store v) c)
 next_ends (next.Found levels r) c = ends frames.Found (target_ends (optional levels) (uses.Store (values.Reference r)) c)
-next_ends (next.Read f how) c = c
-next_ends (next.Counted k x) c = ends (frames.Counted k x) c
 next_ends (next.AccessThen a x) c = ends x c
-next_ends (next.FlowThen f x) c = ends x c
+next_ends (next.IntegerThen n x) c = ends x c
 
 -- a step of a rule ends where the rule ends
 abbrev pub EndsAt : Outcome Next → Site → Site → Type 0
@@ -384,10 +382,8 @@ module _ {S : Type 0} (accesses : Accesses S) (ev : Task → Run S Flow) where
   next_run (next.Target t u) c = target_run accesses ev t u c
   next_run (next.Division levels v q) c = target_run accesses ev (optional levels) (uses.Store v) c >>= resumed (frames.Quotient levels q) (target_ends (optional levels) (uses.Store v) c)
   next_run (next.Found levels r) c = target_run accesses ev (optional levels) (uses.Store (values.Reference r)) c >>= resumed frames.Found (target_ends (optional levels) (uses.Store (values.Reference r)) c)
-  next_run (next.Read f how) c = access_run accesses ev (read_access c f how)
-  next_run (next.Counted k x) c = access_run accesses ev (read_access c x.1 reading.Integer) >>= resumed (frames.Counted k x) c
   next_run (next.AccessThen a x) c = access_run accesses ev a >>= resumed x c
-  next_run (next.FlowThen f x) c = give f >>= resumed x c
+  next_run (next.IntegerThen n x) c = give (flow.Value (values.Integer n)) >>= resumed x c
 
   abbrev pub followed : Outcome Next → Site → Run S Flow
   followed (Ok n) c = next_run n c

@@ -42,7 +42,6 @@ control_ends (control.Term levels) c = behind_term c levels
 control_ends (control.Items i) c = at_position c i.outer
 control_ends (control.Package k) c = at_position c k.outer
 control_ends (control.Target t u) c = target_ends t u c
-control_ends (control.Read f how) c = c
 control_ends (control.Access a) c = c
 control_ends (control.Flow f) c = c
 
@@ -79,7 +78,6 @@ module _ {S : Type 0} (accesses : Accesses S) (ev : Task → Run S Flow) where
   controlled (control.Items i) c = items_run accesses ev i c
   controlled (control.Package k) c = package_run ev k c
   controlled (control.Target t u) c = target_run accesses ev t u c
-  controlled (control.Read f how) c = access_run accesses ev (read_access c f how)
   controlled (control.Access a) c = access_run accesses ev a
   controlled (control.Flow f) c = give f
 
@@ -129,6 +127,5 @@ control_weight (control.Term levels) = 0
 control_weight (control.Items i) = 4
 control_weight (control.Package k) = 4
 control_weight (control.Target t u) = target_weight u
-control_weight (control.Read f how) = most
 control_weight (control.Access a) = access_weight a
 control_weight (control.Flow f) = 3

@@ -191,10 +191,8 @@ next_weight (next.BodyThen b x) = 5 + weight (frames.Address x)
 next_weight (next.Target t u) = target_weight u
 next_weight (next.Division levels v q) = target_weight (uses.Store v) + weight (frames.Quotient levels q)
 next_weight (next.Found levels r) = target_weight (uses.Store (values.Reference r)) + weight frames.Found
-next_weight (next.Read f how) = most
-next_weight (next.Counted k x) = most + weight (frames.Counted k x)
 next_weight (next.AccessThen a x) = access_weight a + weight x
-next_weight (next.FlowThen f x) = 3 + weight x
+next_weight (next.IntegerThen n x) = 3 + weight x
 
 -- ---- steps: each pays for what a term asks for when it begins
 

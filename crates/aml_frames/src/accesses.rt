@@ -1,14 +1,13 @@
 //! Accesses of fields by terms: what is asked for, and what waits for it (ACPI 6.5, 5.5.2.4).
-ghost use Rattle.std.specs.Prelude.{◌≡◌, ◌≤◌, ◌<◌, ◌+◌, ◌-◌, IfOk, Ok};
+ghost use Rattle.std.specs.Prelude.{◌≡◌, ◌≤◌, ◌<◌, ◌+◌, ◌-◌, IfOk};
 ghost use Rattle.aml_meaning.specs.Meaning.{meaning};
-ghost use Rattle.aml_frames.specs.declared.uses.Accessed.TheVariants as object;
-ghost use Rattle.aml_frames.specs.declared.uses.Doing.TheVariants as doing;
-ghost use Rattle.aml_frames.specs.Follow.{Leads, EndsAt};
-ghost use Rattle.aml_frames.specs.Uses.{field_put};
+ghost use Rattle.aml_frames.specs.Follow.{read_access, Leads, EndsAt};
+ghost use Rattle.aml_frames.specs.Uses.{access_run, field_put};
 ghost use Rattle.aml_frames.specs.Weights.{most, next_weight};
 
 use crate::activation::Activation;
 use crate::boxed::Boxed;
+use crate::field_access::begin_access;
 use crate::frames::{Frame, Next};
 use crate::uses::{Access, Accessed, Doing, Reading};
 use aml_meaning::Running;
@@ -25,9 +24,26 @@ pub(crate) fn calls_left(depth: usize) -> usize
     MAX_DEPTH.saturating_sub(depth)
 }
 
+/// A field is read by a term.
+#[tactic(auto)]
+pub(crate) fn begin_read<S: Space>(
+    run: &mut Running<S>,
+    act: &Activation,
+    field: Field,
+    reading: Reading,
+) -> Result<Next>
+    ensures spent { run.new.1 ≤ run.old.1 }
+    ensures falls { IfOk result (λ n. next_weight n < most) }
+    ensures means { Leads S.accesses (meaning S.accesses) result act.now run.new
+        (access_run S.accesses (meaning S.accesses) (read_access act.now field reading)) run.old }
+    ensures ends { EndsAt result act.now act.now }
+{
+    begin_access(run, act, read_access(act, field, reading))
+}
+
 /// A read of a field by a term.
-pub(crate) fn begin_read(act: &Activation, field: Field, reading: Reading) -> Access
-    ensures { result ≡ record { calls = 32 - act.now.depth; object = object.Field field; doing = doing.Read reading } }
+pub(crate) fn read_access(act: &Activation, field: Field, reading: Reading) -> Access
+    ensures { result ≡ read_access act.now field reading }
 {
     Access {
         calls: calls_left(act.depth()),

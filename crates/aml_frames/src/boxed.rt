@@ -3,6 +3,7 @@ ghost use Rattle.std.specs.Prelude.{◌≡◌, IfOk};
 
 use std::alloc::{AllocError, Global};
 use std::marker::Model;
+use std::mem;
 
 /// A `Box` that contracts see as what it holds.
 #[derive(Drop)]
@@ -25,6 +26,15 @@ impl<T> Boxed<T> {
         ensures { result.now ≡ self.now }
     {
         &self.inside
+    }
+
+    /// Exchanges what it holds with another value.
+    #[inline(always)]
+    pub fn swap(&mut self, other: &mut T)
+        ensures held { self.new ≡ other.old }
+        ensures given { other.new ≡ self.old }
+    {
+        mem::swap(&mut *self.inside, other);
     }
 
     /// What it holds, whose memory is given back.

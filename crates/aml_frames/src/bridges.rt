@@ -11,8 +11,7 @@ use crate::addresses::{AddressPart, Asked, FunctionAddress, PciAccess};
 use crate::boxed::Boxed;
 use crate::frames::{Frame, Next};
 use crate::pci::{ask_address, begin_function, wait};
-use aml_meaning::{Flow, Running};
-use aml_objects::Value;
+use aml_meaning::Running;
 use aml_path::Path;
 use ar_space::{Result, Space};
 
@@ -86,7 +85,7 @@ fn give_part<S: Space>(
     ensures ends { EndsAt result act.now act.now }
 {
     let waiting = Boxed::new(run.world.alloc, pci)?;
-    Ok(Next::FlowThen(Flow::Value(Value::Integer(part)), Frame::Address(waiting)))
+    Ok(Next::IntegerThen(part, Frame::Address(waiting)))
 }
 
 /// The address of a bridge is known: the bus behind it is read, and the next bridge is asked for.

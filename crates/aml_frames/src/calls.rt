@@ -138,7 +138,7 @@ pub(crate) fn enter<S: Space>(
     depth: usize,
     called: (Path, Body),
     arguments: &[Value],
-) -> Result<Activation>
+) -> Result<Boxed<Activation>>
     ensures spent { run.new.1 ≤ run.old.1 }
     ensures means { Enters S.accesses (meaning S.accesses) result run.new
         (invoked (meaning S.accesses) depth called.0 called.1 arguments.now) run.old }
@@ -150,6 +150,7 @@ pub(crate) fn enter<S: Space>(
     let node = run.world.scope(&path).node;
     let method = MethodPath::new(run.world.alloc, path)?;
     let entered = Activation::new(body, marks, method, node, depth + 1);
+    let entered = Boxed::new(run.world.alloc, entered)?;
     run.world.open_frame(frame_arguments(arguments))?;
     Ok(entered)
 }

@@ -52,7 +52,7 @@ fn run_method<S: Space>(
     ensures { Does result run.new (invoked (meaning S.accesses) depth called.0 called.1 arguments.now) run.old }
 {
     match enter(run, depth, called, arguments) {
-        Ok(body) => evaluate(run, body),
+        Ok(body) => evaluate(run, body.into_inner()),
         Err(refusal) => Err(refusal),
     }
 }

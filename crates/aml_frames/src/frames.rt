@@ -8,7 +8,7 @@ use crate::banked::{BankWrites, BanksLeft};
 use crate::boxed::Boxed;
 use crate::indexed::{UnitWrites, UnitsLeft};
 use crate::position::{MethodPath, Position};
-use crate::uses::{Access, Dyadic, Inquiry, Monadic, Reading, SecondOperand, Target, TargetUse};
+use crate::uses::{Access, Dyadic, Inquiry, Monadic, SecondOperand, Target, TargetUse};
 use aml_fields::Unit;
 use aml_meaning::{BufferFieldSize, Count, Flow, Searching, StoreTarget};
 use aml_objects::{Body, Elements, Field, NodeId, Reference, Value};
@@ -212,23 +212,19 @@ pub enum Next {
     /// The elements of a package that are left, and then the package.
     Package(Boxed<Package>),
     /// The body of a control method.
-    Body(Activation),
+    Body(Boxed<Activation>),
     /// The body of a control method, which gives a part of an address, and then what is left of the access.
-    BodyThen(Activation, Boxed<PciAccess>),
+    BodyThen(Boxed<Activation>, Boxed<PciAccess>),
     /// The target that stands next, and what is done with it.
     Target(Target, TargetUse),
     /// The targets of a Divide with so many levels below it: its remainder and its quotient are stored.
     Division(u8, Value, Value),
     /// The target of a CondRefOf with so many levels below it, to which a reference is stored.
     Found(u8, Reference),
-    /// A read of a field by a term.
-    Read(Field, Reading),
-    /// A read of a field that is counted, and then the count.
-    Counted(Count, Boxed<(StoreTarget, Field)>),
     /// An access of a field, and then a frame.
     AccessThen(Boxed<Access>, Frame),
-    /// Nothing but a frame, which this flow is handed to.
-    FlowThen(Flow, Frame),
+    /// Nothing but a frame, which this integer is handed to.
+    IntegerThen(u64, Frame),
 }
 
 /// An item of a list that may be passed over, while it is evaluated.
@@ -248,7 +244,7 @@ pub enum Entry {
     /// An item of a list at module level, which the wide profile passes over where it is refused.
     Item(Boxed<ListItem>),
     /// A call of a control method: what goes on behind it, and the path of the control method.
-    Leave(Activation, MethodPath),
+    Leave(Boxed<Activation>, MethodPath),
 }
 
 /// What the machine does at its next step.
@@ -262,8 +258,6 @@ pub enum Control {
     Package(Boxed<Package>),
     /// It finds the target that stands next.
     Target(Target, TargetUse),
-    /// It reads a field.
-    Read(Field, Reading),
     /// It accesses a field.
     Access(Boxed<Access>),
     /// It hands a flow to what waits for it.

@@ -161,8 +161,8 @@ fn give_up_begun<S: Space>(run: &mut Running<S>, next: &Next)
     ensures { run.new ≡ given_up next.now run.old }
 {
     match next {
-        Next::Body(body) => end_call(run, body.scope().path),
-        Next::BodyThen(body, _) => end_call(run, body.scope().path),
+        Next::Body(body) => end_call(run, body.get().scope().path),
+        Next::BodyThen(body, _) => end_call(run, body.get().scope().path),
         _ => {}
     }
 }

@@ -84,7 +84,7 @@ fn begin_invocation<S: Space>(
         }
         Invocation::Field(field) => {
             act.over_arguments(levels, count);
-            Ok(Next::Read(field, Reading::Value))
+            begin_read(run, act, field, Reading::Value)
         }
         Invocation::Method(path, body) => {
             let call = Call {

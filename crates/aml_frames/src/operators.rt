@@ -2,7 +2,6 @@
 //! operands stand next.
 ghost use Rattle.std.specs.Prelude.{◌≡◌, ◌≤◌, ◌<◌, ◌+◌, ◌*◌, IfOk, IfErr};
 ghost use Rattle.ar_space.specs.declared.refusal.Refusal.TheVariants.{OutOfMemory};
-ghost use Rattle.ar_space.specs.Outcome.{NotMemory};
 ghost use Rattle.aml_meaning.specs.Meaning.{meaning};
 ghost use Rattle.aml_frames.specs.declared.frames.Frame.TheVariants as frames;
 ghost use Rattle.aml_frames.specs.declared.frames.Next.TheVariants as next;
@@ -207,23 +206,23 @@ fn finish_monadic<S: Space>(
         Monadic::DerefOf => {
             let reference = reference_in(value)?;
             let held = run.world.dereference(reference)?;
-            read_held(run, act, held)
+            give_held(run, act, held)
         }
     }
 }
 
 /// The value that a target holds: that of a field is read.
 #[tactic(auto, using(crate::proofs::Using::using_targets))]
-fn read_held<S: Space>(run: &Running<S>, act: &Activation, held: Held) -> Result<Next>
+fn give_held<S: Space>(run: &mut Running<S>, act: &Activation, held: Held) -> Result<Next>
+    ensures spent { run.new.1 ≤ run.old.1 }
     ensures falls { IfOk result (λ n. next_weight n < most + 4) }
-    ensures memory { NotMemory result }
-    ensures means { Leads S.accesses (meaning S.accesses) result act.now run.now
-        (held_given S.accesses (meaning S.accesses) held act.now) run.now }
+    ensures means { Leads S.accesses (meaning S.accesses) result act.now run.new
+        (held_given S.accesses (meaning S.accesses) held act.now) run.old }
     ensures ends { EndsAt result act.now act.now }
 {
     match held {
         Held::Value(value) => Ok(Next::Flow(Flow::Value(value))),
-        Held::Field(field) => Ok(Next::Read(field, Reading::Value)),
+        Held::Field(field) => begin_read(run, act, field, Reading::Value),
     }
 }
 

@@ -63,15 +63,15 @@ pub(crate) fn begin_inquiry<S: Space>(
 /// SizeOf or ObjectType of a term that refers, whose value was evaluated: references are followed.
 #[tactic(auto, using(crate::proofs::Using::using_targets))]
 pub(crate) fn resume_referent<S: Space>(
-    run: &Running<S>,
+    run: &mut Running<S>,
     act: &Activation,
     inquiry: Inquiry,
     flow: Flow,
 ) -> Result<Next>
+    ensures spent { run.new.1 ≤ run.old.1 }
     ensures falls { IfOk result (λ n. next_weight n < most + 4) }
-    ensures memory { NotMemory result }
-    ensures means { Leads S.accesses (meaning S.accesses) result act.now run.now
-        (resumed S.accesses (meaning S.accesses) (frames.Referent inquiry) act.now flow) run.now }
+    ensures means { Leads S.accesses (meaning S.accesses) result act.now run.new
+        (resumed S.accesses (meaning S.accesses) (frames.Referent inquiry) act.now flow) run.old }
     ensures ends { EndsAt result act.now act.now }
 {
     let value = flow.value()?;

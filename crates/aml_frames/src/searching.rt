@@ -13,7 +13,7 @@ ghost use Rattle.aml_frames.specs.Matching.{match_run, match_left, match_ends, e
 ghost use Rattle.aml_frames.specs.Follow.{read_access, resumed, ends, next_ends, Leads, EndsAt};
 ghost use Rattle.aml_frames.specs.Weights.{most_searched, search_weight, step_weight, next_weight};
 
-use crate::accesses::begin_read;
+use crate::accesses::read_access;
 use crate::activation::Activation;
 use crate::boxed::Boxed;
 use crate::frames::{Frame, MatchPart, Next, leave};
@@ -188,7 +188,7 @@ fn read_element(
         (frames.Matched (record { search = search; left = left }))) }
     ensures memory { IfErr result (λ e. e ≡ OutOfMemory) }
 {
-    let access = begin_read(act, field, Reading::Value);
+    let access = read_access(act, field, Reading::Value);
     let held = Boxed::new(alloc, access)?;
     let searching = Boxed::new(alloc, Searching { search, left })?;
     Ok(Next::AccessThen(held, Frame::Matched(searching)))

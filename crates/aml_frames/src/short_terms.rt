@@ -17,6 +17,7 @@ ghost use Rattle.aml_frames.specs.ShortTerms.{row_alone, IsShort};
 ghost use Rattle.aml_frames.specs.Uses.{super, behind_target, target_run};
 
 use crate::activation::Activation;
+use aml_convert::truncate_integer;
 use aml_meaning::{Count, Running};
 use aml_objects::Slot;
 use aml_scan::little_endian;
@@ -99,13 +100,13 @@ pub(crate) fn short_integer<S: Space>(
         }
         Short::Constant(number) => {
             act.advance(1);
-            run.world.truncated_number(number)
+            truncate_integer(run.world.width(), number)
         }
         Short::Number(count) => {
             act.advance(1);
             let number = number_at(act, count);
             act.advance(count);
-            run.world.truncated_number(number)
+            truncate_integer(run.world.width(), number)
         }
         Short::Other => return None,
     };

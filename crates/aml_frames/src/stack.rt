@@ -21,7 +21,6 @@ ghost use Rattle.aml_frames.specs.Uses.{optional, access_done};
 ghost use Rattle.aml_frames.specs.Stack.{whole, then_all, machine, Goes, Stepped, stack_weight, entry_weight, control_weight};
 ghost use Rattle.aml_frames.specs.Weights.{most, next_weight, target_weight, access_weight, charged};
 
-use crate::accesses::begin_read;
 use crate::activation::Activation;
 use crate::addresses::PciAccess;
 use crate::boxed::Boxed;
@@ -36,13 +35,12 @@ use crate::targets::begin_target;
 use crate::terms::begin_term;
 use crate::tracing::{give_up, tell_last, tell_place};
 use crate::uses::{Access, Accessed, Doing, Reading, Target, TargetUse};
-use crate::waiting::{Stack, go_to_flow, go_to_items, go_to_package, go_to_read, go_to_target};
-use aml_meaning::{Count, Flow, Running, StoreTarget, is_passable};
+use crate::waiting::{Stack, go_to_flow, go_to_items, go_to_package, go_to_target};
+use aml_meaning::{Flow, Running, is_passable};
 use aml_objects::{Field, NodeId, Reference, Value};
 use aml_path::Path;
 use aml_terms::LEVELS;
 use ar_space::{Refusal, Result, Space};
-use std::mem;
 
 /// Evaluates the body of a control method whose slots stand already, in one loop; `body` stands at its first byte.
 /// However the body ends, its call ends, unless memory runs out: its frame of slots is closed, and the names below it
@@ -148,9 +146,6 @@ fn take_steps<S: Space>(run: &mut Running<S>, stack: &mut Stack, first: Control)
             Control::Target(target, aim) => {
                 control = step_target(run, stack, target, aim)?;
             }
-            Control::Read(field, reading) => {
-                control = step_read(run, stack, field, reading)?;
-            }
             Control::Access(access) => control = step_access(run, stack, access)?,
             Control::Flow(flow) => match stack.entries.pop() {
                 None => return Ok(flow),
@@ -240,29 +235,6 @@ fn step_access<S: Space>(
     follow(run, stack, next)
 }
 
-/// A field is read by a term.
-#[inline(always)]
-#[tactic(auto, using(crate::proofs::Machine::taking))]
-fn step_read<S: Space>(
-    run: &mut Running<S>,
-    stack: &mut Stack,
-    field: Field,
-    reading: Reading,
-) -> Result<Control>
-    ensures falls { IfOk result (λ c. charged run.new.1 + (stack_weight stack.new.entries.items + control_weight c) <
-        charged run.old.1 + (stack_weight stack.old.entries.items + most)) }
-    ensures refused { IfErr result (λ e. is_passable e ≡ true →
-        charged run.new.1 + (stack_weight stack.new.entries.items + 1) <
-        charged run.old.1 + (stack_weight stack.old.entries.items + most)) }
-    ensures means { Goes S.accesses (meaning S.accesses) result stack.new.act stack.new.entries.items run.new
-        (machine S.accesses (meaning S.accesses) (control.Read field reading) stack.old.act
-        stack.old.entries.items) run.old }
-{
-    let access = begin_read(&stack.act, field, reading);
-    let next = begin_access(run, &stack.act, access)?;
-    follow(run, stack, next)
-}
-
 /// What was on top of the stack goes on with the flow that it waited for.
 #[inline(always)]
 #[tactic(auto, using(crate::proofs::Machine::taking))]
@@ -290,7 +262,7 @@ fn step_entry<S: Space>(
         }
         Entry::Leave(caller, method) => {
             end_call(run, method.path());
-            stack.act = caller;
+            stack.act = caller.into_inner();
             Ok(Control::Flow(flow.of_call()))
         }
     }
@@ -323,10 +295,8 @@ pub(crate) fn follow<S: Space>(
             levels, remainder, quotient,
         ),
         Next::Found(levels, reference) => stack.wait_for_reference(levels, reference),
-        Next::Read(field, reading) => go_to_read(field, reading),
-        Next::Counted(count, counted) => stack.wait_for_count(count, counted),
         Next::AccessThen(access, frame) => stack.wait_for_access(access, frame),
-        Next::FlowThen(flow, frame) => stack.wait_for_flow(flow, frame),
+        Next::IntegerThen(number, frame) => stack.wait_for_integer(number, frame),
         Next::Body(body) => run_in(run, stack, body),
         Next::BodyThen(body, asked) => run_then(run, stack, body, asked),
     }
@@ -337,7 +307,7 @@ pub(crate) fn follow<S: Space>(
 fn run_then<S: Space>(
     run: &mut Running<S>,
     stack: &mut Stack,
-    body: Activation,
+    body: Boxed<Activation>,
     asked: Boxed<PciAccess>,
 ) -> Result<Control>
     ensures falls { IfOk result (λ c. charged run.new.1 + (stack_weight stack.new.entries.items + control_weight c) ≤
@@ -347,7 +317,7 @@ fn run_then<S: Space>(
         (then_all S.accesses (meaning S.accesses) (next_run S.accesses (meaning S.accesses) (next.BodyThen body asked)
         stack.old.act) (next_ends (next.BodyThen body asked) stack.old.act) stack.old.entries.items) run.old }
 {
-    push_frame(run, stack, &body, Frame::Address(asked))?;
+    push_frame(run, stack, body.get(), Frame::Address(asked))?;
     run_in(run, stack, body)
 }
 
@@ -376,7 +346,11 @@ fn push_frame<S: Space>(
 
 /// Goes into the body of a control method whose slots stand already; its caller waits (`Entry::Leave`). Without memory
 /// for that the call ends.
-fn run_in<S: Space>(run: &mut Running<S>, stack: &mut Stack, body: Activation) -> Result<Control>
+fn run_in<S: Space>(
+    run: &mut Running<S>,
+    stack: &mut Stack,
+    body: Boxed<Activation>,
+) -> Result<Control>
     ensures steps { run.new.1 ≡ run.old.1 }
     ensures kept { OnOk result (run.new ≡ run.old) }
     ensures act { OnOk result (stack.new.act ≡ body) }
@@ -386,15 +360,16 @@ fn run_in<S: Space>(run: &mut Running<S>, stack: &mut Stack, body: Activation) -
     ensures ended { IfErr result (λ e. run.new ≡ (left body.scope run.old.0, run.old.1)) }
     ensures memory { IfErr result (λ e. e ≡ OutOfMemory) }
 {
-    let method = match body.share_scope() {
+    let method = match body.get().share_scope() {
         Ok(method) => method,
         Err(refusal) => {
-            end_call(run, body.scope().path);
+            end_call(run, body.get().scope().path);
             return Err(refusal);
         }
     };
-    let list = whole(&body);
-    let caller = mem::replace(&mut stack.act, body);
+    let list = whole(body.get());
+    let mut caller = body;
+    caller.swap(&mut stack.act);
     match stack.entries.push(Entry::Leave(caller, method)) {
         Ok(()) => Ok(Control::Items(list)),
         Err(failed) => {
@@ -434,7 +409,7 @@ fn unwind<S: Space>(run: &mut Running<S>, stack: &mut Stack, refusal: Refusal) -
                 tell_place(run, &stack.act, &outer);
                 outer = None;
                 end_call(run, method.path());
-                stack.act = caller;
+                stack.act = caller.into_inner();
             }
         }
     }

@@ -9,7 +9,7 @@ ghost use Rattle.aml_frames.specs.Follow.{resumed, Leads, EndsAt};
 ghost use Rattle.aml_frames.specs.Uses.{told, inquired, put_complete, put_back, stored_at, used, use_ends};
 ghost use Rattle.aml_frames.specs.Weights.{most, use_weight, next_weight};
 
-use crate::accesses::{begin_read, begin_write};
+use crate::accesses::{begin_read, begin_write, read_access};
 use crate::activation::Activation;
 use crate::boxed::Boxed;
 use crate::frames::{Frame, Next};
@@ -172,10 +172,12 @@ fn count_target<S: Space>(
             let result = run.world.count(count, number)?;
             store_back(run, act, &target, held, result)
         }
-        Held::Field(field) => Ok(Next::Counted(
-            count,
-            Boxed::new(run.world.alloc, (target, field))?,
-        )),
+        Held::Field(field) => {
+            let access = read_access(act, field, Reading::Integer);
+            let access = Boxed::new(run.world.alloc, access)?;
+            let counted = Boxed::new(run.world.alloc, (target, field))?;
+            Ok(Next::AccessThen(access, Frame::Counted(count, counted)))
+        }
     }
 }
 
@@ -229,19 +231,19 @@ fn store_back<S: Space>(
 /// What SizeOf and ObjectType tell of a referent; a field that an element of a package names is read first.
 #[tactic(auto, using(crate::proofs::Using::using_targets), unfolding(crate::specs::Uses::inquired))]
 pub(crate) fn inquire<S: Space>(
-    run: &Running<S>,
+    run: &mut Running<S>,
     act: &Activation,
     inquiry: Inquiry,
     referent: Referent,
 ) -> Result<Next>
+    ensures spent { run.new.1 ≤ run.old.1 }
     ensures falls { IfOk result (λ n. next_weight n < most + 4) }
-    ensures memory { NotMemory result }
-    ensures means { Leads S.accesses (meaning S.accesses) result act.now run.now
-        (inquired S.accesses (meaning S.accesses) inquiry act.now referent) run.now }
+    ensures means { Leads S.accesses (meaning S.accesses) result act.now run.new
+        (inquired S.accesses (meaning S.accesses) inquiry act.now referent) run.old }
     ensures ends { EndsAt result act.now act.now }
 {
     match referent {
-        Referent::Field(field) => { Ok(Next::Read(field, Reading::Inquire(inquiry))) }
+        Referent::Field(field) => begin_read(run, act, field, Reading::Inquire(inquiry)),
         Referent::Value(_) | Referent::Object(_) | Referent::Bytes(_) => {
             let value = tell(&run.world, inquiry, referent)?;
             Ok(Next::Flow(Flow::Value(value)))

@@ -4,8 +4,8 @@ ghost use Rattle.ar_space.specs.declared.refusal.Refusal.TheVariants.{OutOfMemor
 ghost use Rattle.aml_frames.specs.declared.frames.Control.TheVariants as control;
 ghost use Rattle.aml_frames.specs.declared.frames.Entry.TheVariants as entry;
 ghost use Rattle.aml_frames.specs.declared.frames.Frame.TheVariants as frames;
-ghost use Rattle.aml_frames.specs.declared.uses.Reading.TheVariants as reading;
 ghost use Rattle.aml_frames.specs.declared.uses.TargetUse.TheVariants as uses;
+ghost use Rattle.aml_meaning.specs.declared.flow.Flow.TheVariants as flows;
 ghost use Rattle.aml_objects.specs.declared.value.Value.TheVariants as values;
 ghost use Rattle.aml_frames.specs.Follow.{turn_items};
 ghost use Rattle.aml_frames.specs.Uses.{optional};
@@ -14,9 +14,9 @@ use crate::activation::Activation;
 use crate::boxed::Boxed;
 use crate::frames::{Control, Entry, Frame, Items, Loop, Package};
 use crate::position::MethodPath;
-use crate::uses::{Access, Reading, Target, TargetUse};
-use aml_meaning::{Count, Flow, StoreTarget};
-use aml_objects::{Field, NodeId, Reference, Value};
+use crate::uses::{Access, Target, TargetUse};
+use aml_meaning::Flow;
+use aml_objects::{NodeId, Reference, Value};
 use ar_space::Result;
 use std::alloc::Global;
 
@@ -116,24 +116,6 @@ impl Stack {
         ))
     }
 
-    /// A field is read that is counted.
-    pub(crate) fn wait_for_count(
-        &mut self,
-        count: Count,
-        counted: Boxed<(StoreTarget, Field)>,
-    ) -> Result<Control>
-        ensures act { OnOk result (self.new.act ≡ self.old.act) }
-        ensures pushed { OnOk result (self.new.entries.items ≡ self.old.entries.items ++
-            entry.Frame (frames.Counted count counted) ∷ []) }
-        ensures next { IfOk result (λ c. c ≡ control.Read counted.1 reading.Integer) }
-        ensures memory { IfErr result (λ e. e ≡ OutOfMemory) }
-    {
-        let field = counted.get().1;
-        self.entries
-            .push(Entry::Frame(Frame::Counted(count, counted)))?;
-        Ok(Control::Read(field, Reading::Integer))
-    }
-
     /// An access of a field, and the frame that waits for it.
     #[inline(always)]
     pub(crate) fn wait_for_access(&mut self, access: Boxed<Access>, frame: Frame) -> Result<Control>
@@ -146,15 +128,15 @@ impl Stack {
         Ok(Control::Access(access))
     }
 
-    /// A flow, and the frame that it is handed to.
-    pub(crate) fn wait_for_flow(&mut self, flow: Flow, frame: Frame) -> Result<Control>
+    /// An integer, and the frame that it is handed to.
+    pub(crate) fn wait_for_integer(&mut self, number: u64, frame: Frame) -> Result<Control>
         ensures act { OnOk result (self.new.act ≡ self.old.act) }
         ensures pushed { OnOk result (self.new.entries.items ≡ self.old.entries.items ++ entry.Frame frame ∷ []) }
-        ensures next { IfOk result (λ c. c ≡ control.Flow flow) }
+        ensures next { IfOk result (λ c. c ≡ control.Flow (flows.Value (values.Integer number))) }
         ensures memory { IfErr result (λ e. e ≡ OutOfMemory) }
     {
         self.entries.push(Entry::Frame(frame))?;
-        Ok(Control::Flow(flow))
+        Ok(Control::Flow(Flow::Value(Value::Integer(number))))
     }
 }
 
@@ -188,12 +170,4 @@ pub(crate) fn go_to_target(target: Target, target_use: TargetUse) -> Result<Cont
     ensures { result ≡ Ok (control.Target target target_use) }
 {
     Ok(Control::Target(target, target_use))
-}
-
-/// A field is read next.
-#[inline(always)]
-pub(crate) fn go_to_read(field: Field, reading: Reading) -> Result<Control>
-    ensures { result ≡ Ok (control.Read field reading) }
-{
-    Ok(Control::Read(field, reading))
 }

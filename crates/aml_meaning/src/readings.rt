@@ -2,7 +2,6 @@
 ghost use Rattle.std.specs.Prelude.{◌≡◌, Ok};
 ghost use Rattle.ar_space.specs.Change.{Does};
 ghost use Rattle.ar_space.specs.Outcome.{Answers, NotMemory, seen};
-ghost use Rattle.aml_objects.specs.declared.value.Value.TheVariants.{Integer};
 ghost use Rattle.aml_meaning.specs.Readings.{integer_kept, integer_in, entry_found, path_found, is_scope, scope_or_not};
 ghost use Rattle.aml_meaning.specs.Readings.{scope_found, arguments_of, arguments_found, as_many, read_as};
 
@@ -21,15 +20,6 @@ impl<S> WorldState<S> {
         ensures memory { NotMemory result }
     {
         Ok(Value::Integer(truncate_integer(self.width, number)))
-    }
-
-    /// The lowest 32 or 64 bits of a number: what `integer_kept` gives, as a number.
-    #[inline]
-    #[tactic(auto, unfolding(crate::specs::Readings::integer_kept))]
-    pub fn truncated_number(&self, number: u64) -> u64
-        ensures { Does (Ok (Integer result)) self.now (integer_kept number) self.now }
-    {
-        truncate_integer(self.width, number)
     }
 
     /// A value where an integer is wanted, converted to one; it is refused as conversions are.

@@ -100,6 +100,14 @@ impl<S> WorldState<S> {
         &self.declarations.names
     }
 
+    /// How wide integers are, which nothing changes.
+    #[inline]
+    pub fn width(&self) -> IntegerWidth
+        ensures { result ≡ self.now.width }
+    {
+        self.width
+    }
+
     /// The profile, which nothing changes.
     pub fn profile(&self) -> Profile
         ensures { result ≡ self.now.profile }
