@@ -20,9 +20,10 @@ use aml_meaning::{Count, Running};
 use aml_objects::Value;
 use ar_space::{Result, Space};
 
-/// The integer that the term gives which stands next, where no frame is needed: that of a local, an argument, a
-/// constant, a name, a field unit whose bits are read at once, or an operator without a target over two short terms.
-/// It takes the steps that the term takes, and is refused as the term is. Where it answers none, nothing changes.
+/// The integer of the term that stands next, where no frame is needed: that of a local, an argument, a constant, a name,
+/// a field unit whose bits are read at once, or an operator without a target whose operands are short terms. It takes
+/// the steps of the term. A refusal is that of the term, and comes from the read of a field unit. Where it answers none,
+/// nothing changes.
 #[inline(always)]
 pub(crate) fn known_integer<S: Space>(
     run: &mut Running<S>,
@@ -51,8 +52,8 @@ pub(crate) fn known_integer<S: Space>(
 }
 
 /// What is done with the target that stands next, where it is done at once: an integer is stored to a local, an
-/// argument, or a name that takes one, or what one of these holds is counted. It gives the value of the term, and is
-/// refused as the term is. Where it answers none, nothing changes.
+/// argument, or a name that takes one, or what one of these holds is incremented or decremented. It gives the value of
+/// the term, takes no step, and is refused as the term is. Where it answers none, nothing changes.
 #[inline(always)]
 pub(crate) fn use_known<S: Space>(
     run: &mut Running<S>,
@@ -109,7 +110,7 @@ fn put_known<S: Space>(
     Ok(None)
 }
 
-/// What the local, the argument or the name that stands next holds is counted up or down.
+/// The integer that the local, the argument or the name holds that stands next is incremented or decremented.
 #[inline(always)]
 fn count_known<S: Space>(
     run: &mut Running<S>,

@@ -1,5 +1,6 @@
-//! Lists of terms (ACPI 6.5, 20.2.5). The first step of an item finishes it, or leaves a part of it to be evaluated: a
-//! `Next` other than `Next::Flow`. Only then are the items behind it put on the stack.
+//! Lists of terms (ACPI 6.5, 20.2.5). An item is finished in the turn of the machine's loop that comes to it, or leaves
+//! a part of it to be evaluated: a `Next` other than `Next::Flow`. Only then are the items behind it put on the stack;
+//! at module level the wide profile puts them there before each item.
 ghost use Rattle.std.specs.Prelude.{◌≡◌, ◌≤◌, ◌<◌, ◌+◌, [], ◌∷◌, ◌++◌, true, OnOk, IfOk, IfErr, IsOk};
 ghost use Rattle.ar_space.specs.declared.refusal.Refusal.TheVariants.{OutOfMemory};
 ghost use Rattle.aml_meaning.specs.Meaning.{meaning};
@@ -23,8 +24,9 @@ use crate::waiting::{Stack, go_to_flow, go_to_items};
 use aml_meaning::{Flow, Running};
 use ar_space::{Refusal, Result, Space};
 
-/// The next item of a list is begun, or the list ends. An operator over integers that are there already is done whole,
-/// its store with it. What is left of the list waits on the stack only for an item that its first step doesn't finish.
+/// The next item of a list begins, or the list ends. Store, Increment, Decrement, and operators on two integers are
+/// finished here where `try_operator` can. The rest of the list waits on the stack only for an item that isn't finished
+/// at once.
 #[inline(always)]
 #[tactic(auto, using(crate::proofs::Machine::listing_on))]
 pub(crate) fn step_items<S: Space>(
@@ -56,7 +58,7 @@ pub(crate) fn step_items<S: Space>(
     let next = match take_operator(run, &mut stack.act, items.levels) {
         None => begin_term(run, &mut stack.act, items.levels)?,
         Some(kind) => match try_operator(run, &mut stack.act, items.levels - 1, kind) {
-            // It is done, and a list has no use for its integer.
+            // The operator is done; a list has no use for its integer.
             Some(_) => return Ok(Control::Items(behind)),
             None => begin_operator(run, &mut stack.act, items.levels - 1, kind)?,
         },
@@ -64,8 +66,8 @@ pub(crate) fn step_items<S: Space>(
     follow_item(run, stack, behind, next)
 }
 
-/// Where its first step has finished an item (`Next::Flow`), the list goes on. Else what the item leaves to do is put
-/// on the stack, above the items behind it.
+/// Where an item is finished (`Next::Flow`), the list goes on, or ends with the item's flow. Else what the item leaves
+/// to do is put on the stack, above the items behind it.
 #[inline(always)]
 #[tactic(auto, using(crate::proofs::Machine::listing_on))]
 fn follow_item<S: Space>(
@@ -130,8 +132,8 @@ pub(crate) fn next_item<S: Space>(
     go_to_flow(flow)
 }
 
-/// The items behind one that its first step doesn't finish are put on the stack. Without memory for them a call ends
-/// that the item has begun.
+/// The items behind one that isn't finished at once are put on the stack. Without memory for them the call that the
+/// item has begun is ended.
 #[inline(always)]
 fn push_list<S: Space>(
     run: &mut Running<S>,

@@ -1,11 +1,11 @@
-//! Items of a list that are done at once: a local or an argument is counted, or takes an integer that is there already
-//! or what an operator gives of two of them (ACPI 6.5, 19.6).
+//! Operators that are evaluated at once where they are items of a list (ACPI 6.5, 19.6): Increment and Decrement of a
+//! local or an argument, and Store and operators on two integers, whose operands are short terms and whose target is a
+//! local or an argument.
 //!
-//! Each function does its operator whole, or answers none. Then steps may have been taken and the place may have moved,
-//! and nothing else has changed: `try_operator` gives both back, and the operator is done the long way
-//! (`begin_operator`).
+//! `binary_to_slot` and `store_to_slot` may answer none after steps were taken and the place has moved; `try_operator`
+//! restores both. Then `begin_operator` begins the operator, as any other one, behind its opcode.
 //!
-//! So is an operator with a name as an operand or as its target: the long way looks for the integer at the name
+//! Names aren't tried here: `begin_operator` reads an operand that is a name, and stores to a target that is one
 //! (`known`).
 ghost use Rattle.std.specs.Prelude.{◌≡◌, ◌≤◌, ◌<◌, Ok, None, IfSome};
 ghost use Rattle.ar_space.specs.Change.{Does};
@@ -25,8 +25,8 @@ use aml_convert::BinaryOperator;
 use aml_meaning::{OperatorKind, Running, TwoOperands};
 use ar_space::Space;
 
-/// Does an operator whole whose operands stand next, its store with it, and gives its integer. It takes the steps of its
-/// operands. In every other case it answers none, and nothing changes.
+/// Does Store, Increment, Decrement or an operator on two integers, whose operands stand next, with its store, and gives
+/// its integer. It takes the steps of its operands. In every other case it answers none, and nothing changes.
 #[tactic(auto, using(crate::proofs::ShortItems::items))]
 pub(crate) fn try_operator<S: Space>(
     run: &mut Running<S>,
@@ -59,7 +59,8 @@ pub(crate) fn try_operator<S: Space>(
     done
 }
 
-/// As `try_operator`, of an operator on two integers whose target is a local or an argument.
+/// An operator on two integers whose target is a local or an argument, with its store. Where it answers none, steps may
+/// have been taken and the place may have moved; the world is as it was.
 #[inline(always)]
 #[tactic(auto, using(crate::proofs::ShortItems::items))]
 fn binary_to_slot<S: Space>(
@@ -83,11 +84,12 @@ fn binary_to_slot<S: Space>(
     let Some(y) = operand_integer(run, act, levels) else {
         return None;
     };
-    // A NullName: the target is left out (ACPI 6.5, 20.2.2), and there is nowhere to store.
+    // Without a target (a NullName stands there; ACPI 6.5, 20.2.2) the operator is left to `begin_operator`. The proof
+    // rests on it that a target stands here.
     if act.next_byte() == 0 {
         return None;
     }
-    // A refusal, such as DivideByZero of Mod, is dropped: the long way evaluates the term again, and refuses it.
+    // Mod by 0 is the only refusal. It is dropped: `begin_operator` evaluates the operands again, and refuses it.
     let Ok(number) = run.world.operate_on_integers(operator, x, y) else {
         return None;
     };
@@ -114,7 +116,8 @@ fn operand_integer<S: Space>(run: &mut Running<S>, act: &mut Activation, levels:
     }
 }
 
-/// As `try_operator`, of a Store to a local or an argument.
+/// A Store of a short term to a local or an argument. Where it answers none, a step may have been taken and the place
+/// may have moved; the world is as it was.
 #[inline(always)]
 #[tactic(auto, using(crate::proofs::ShortItems::items))]
 fn store_to_slot<S: Space>(run: &mut Running<S>, act: &mut Activation, levels: u8) -> Option<u64>

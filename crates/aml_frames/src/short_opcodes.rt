@@ -1,5 +1,4 @@
-//! The operators that are done at once where their operands are there already, by the byte that is their opcode
-//! (ACPI 6.5, 19.6 and 20.3).
+//! The operators that may be evaluated at once, by the byte that is their opcode (ACPI 6.5, 19.6 and 20.3).
 ghost use Rattle.std.specs.Prelude.{◌≡◌, ◌<◌, Ok, None, IfSome};
 ghost use Rattle.ar_space.specs.Change.{Does};
 ghost use Rattle.aml_marked.specs.Marked.{first, over};
@@ -13,8 +12,9 @@ use crate::activation::Activation;
 use aml_convert::{BinaryOperator, Comparison, LogicalOperator};
 use aml_meaning::{Count, OperatorKind, Running, Test, TwoOperands};
 
-/// The operator with an opcode of this one byte, if it can be done at once: `try_operator` and `operator_integer` say
-/// which of them where.
+/// The operator with an opcode of this one byte, if one of two functions may evaluate it at once: `try_operator` does
+/// Store, Increment, Decrement and operators on two integers; `operator_integer` does operators on two integers, tests
+/// and LNot.
 #[inline(always)]
 #[tactic(auto, unfolding(aml_grammar::specs::Table::row_of, aml_grammar::specs::Names::starts_name))]
 fn operator_at(byte: u8) -> Option<OperatorKind>

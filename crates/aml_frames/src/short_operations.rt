@@ -1,8 +1,8 @@
-//! Operators without a target whose operands are locals, arguments or constants that are integers (ACPI 6.5, 19.6):
-//! most predicates.
+//! Operators whose operands are short terms (`short_terms`) and that store nothing: operators on two integers with a
+//! NullName as their target, tests, and LNot of a short term (ACPI 6.5, 19.6).
 //!
-//! Each function does its term whole, or answers none. Then steps may have been taken and the place may have moved, and
-//! nothing else has changed: `operation_integer` gives both back.
+//! Where a function answers none, steps may have been taken and the place may have moved, and nothing else has changed.
+//! `operation_integer` restores both.
 ghost use Rattle.std.specs.Prelude.{◌≡◌, ◌≤◌, ◌<◌, Ok, None, IfSome};
 ghost use Rattle.ar_space.specs.Change.{Does};
 ghost use Rattle.aml_objects.specs.declared.value.Value.TheVariants as values;
@@ -21,8 +21,8 @@ use aml_convert::BinaryOperator;
 use aml_meaning::{OperatorKind, Running, Test, TwoOperands};
 use ar_space::Space;
 
-/// The integer that an operator gives which stands next, where its operands are there already and it has no target.
-/// It takes the steps of the operator and of its operands. In every other case nothing changes.
+/// The integer of the operator that stands next, where its operands are short terms that hold integers, and it has no
+/// target. It takes the steps of the operator and of its operands. In every other case nothing changes.
 #[tactic(auto, using(crate::proofs::ShortOperations::giving, crate::proofs::ShortOperators::begun))]
 pub(crate) fn operation_integer<S: Space>(
     run: &mut Running<S>,
@@ -105,7 +105,7 @@ fn binary_without_target<S: Space>(
     if act.next_byte() != 0 {
         return None;
     }
-    // A refusal, such as DivideByZero of Mod, is dropped: the long way evaluates the term again, and refuses it.
+    // Mod by 0 is the only refusal. It is dropped: the caller evaluates the term again, and refuses it.
     let Ok(number) = run.world.operate_on_integers(operator, x, y) else {
         return None;
     };

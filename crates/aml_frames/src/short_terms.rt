@@ -1,7 +1,8 @@
-//! The commonest terms, where they give integers: locals, arguments, constants and integers behind their opcodes
-//! (ACPI 6.5, 19.6 and 20.2.3).
+//! Short terms, where they give integers: locals, arguments, constants and integers behind their opcodes (ACPI 6.5, 19.6
+//! and 20.2.3).
 //!
-//! Each function answers at once, or leaves everything as it was: then the term is evaluated as any other is.
+//! `short_integer`, `put_integer_to_slot` and `count_slot` act at once, or change nothing: then the term is evaluated as
+//! any other is.
 ghost use Rattle.std.specs.Prelude.{◌≡◌, ◌≤◌, ◌<◌, ℕ, Ok, None, true, false, take, IfSome};
 ghost use Rattle.ar_space.specs.Change.{Does};
 ghost use Rattle.aml_grammar.specs.State.{little_endian};
@@ -36,7 +37,7 @@ pub(crate) enum Short {
     Other,
 }
 
-/// What a byte says that is an opcode by itself.
+/// The short term of a byte that is an opcode by itself.
 #[inline(always)]
 #[tactic(auto, unfolding(aml_grammar::specs::Table::row_of, aml_grammar::specs::Names::starts_name))]
 fn short_at(byte: u8) -> Short
@@ -71,8 +72,8 @@ fn short_at(byte: u8) -> Short
 }
 
 /// The integer of a short term that stands next: a local or an argument that holds an integer, a constant, or an
-/// integer behind its opcode. It takes a step, and evaluation goes behind the term. In every other case nothing
-/// changes, also where no step is left.
+/// integer behind its opcode. It takes a step, and evaluation goes behind the term. In every other case, also where no
+/// step or no level is left, nothing changes.
 #[inline(always)]
 pub(crate) fn short_integer<S: Space>(
     run: &mut Running<S>,
@@ -114,8 +115,8 @@ pub(crate) fn short_integer<S: Space>(
     Some(number)
 }
 
-/// The integer of the next bytes, the lowest first; missing ones are zero. One, two and four bytes are read without a
-/// call, since most numbers have so many.
+/// The integer of the next bytes, the lowest first; missing ones are zero. Reads of one, two and four bytes are inlined;
+/// `number_of`, for eight bytes or missing ones, isn't.
 #[inline(always)]
 #[tactic(auto, using(crate::proofs::Matching::bytes))]
 fn number_at(act: &Activation, count: usize) -> u64
