@@ -343,8 +343,8 @@ falls_done (Ok c) a x y h = omega (arith, h)
 falls_done (Err z) a x y h = tt
 
 -- an operator that is done whole pays a step, and its list goes on
-pub falls_operated : (i : Items) (a b d x : ℕ) → a ≤ b → b < d → charged a + (x + control_weight (control.Items i)) < charged d + (x + 4)
-falls_operated i a b d x h paid =
+pub falls_operated : (a b d x : ℕ) → a ≤ b → b < d → charged a + (x + 4) < charged d + (x + 4)
+falls_operated a b d x h paid =
     let p = charged_step a d (omega (arith, h, paid)) in
     let enough = step_enough in
     omega (arith, p, enough)

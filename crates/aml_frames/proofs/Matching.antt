@@ -39,7 +39,7 @@ use Rattle.aml_frames.specs.Uses.{access_run}
 use Rattle.aml_frames.proofs.Forming.{count_is}
 use Rattle.aml_frames.proofs.Stepping.{bind_bind, leads_value, leads_value_at, leads_lift_err, stepping}
 use Rattle.aml_frames.proofs.Targeting.{bind_same}
-use Rattle.aml_frames.proofs.Using.{given_one, leads_read}
+use Rattle.aml_frames.proofs.Using.{given_one, value_read}
 use Rattle.aml_frames.proofs.Indexing.{bound, after_same}
 use Rattle.aml_frames.proofs.Weighing.{match_enough}
 
@@ -151,7 +151,7 @@ module _ {S : Type 0} (ac : Accesses S) (x : Search) where
             ∙ bind_bind bits (λ v. lift (value_meets x v)) (others ac c.depth x left) s
             ∙ bind_same bits _ _ s (λ v t. field_told c.depth left v t ∙ sym (given_one (flow.Value v) k t))
             ∙ sym (bind_bind bits told k s)
-            ∙ after_same (bits >>= told) (access_run ac (meaning ac) (read_access c f reading.Value)) k s ((leads_read {ac = ac} {c = c} {s = s} c.depth f refl).is tt);
+            ∙ after_same (bits >>= told) (access_run ac (meaning ac) (read_access c f reading.Value)) k s (value_read ac c f s);
       }
 
   pub leads_element : (c : Site) (w : State S) (b left index : ℕ) (o : Option Held) (f : Field) (n : Next) → 0 < left → index ≡ x.count - left → Does (Ok o) w (element_held x.source index) w → o ≡ Some (held.Field f) → n ≡ next.AccessThen (read_access c f reading.Value) (frames.Matched (record { search = x; left = left }))

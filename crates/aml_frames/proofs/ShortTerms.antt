@@ -138,9 +138,10 @@ charged_world : {S : Type 0} (s s1 : State S × ℕ) → Does (Ok tt) s1 charge 
 unfolding charge
 charged_world s s1 h = taken_by (s.1 == 0) s s1 (s.1 - 1) (h.is tt)
 
-pub charged_one : {S : Type 0} (s : State S × ℕ) → (s.1 == 0) ≡ false → Does (Ok tt) (s.0, s.1 - 1) charge s
+pub charged_one : {S : Type 0} (w : State S) (n : ℕ) → 0 < n → Does (Ok tt) (w, n - 1) charge (w, n)
 unfolding charge
-charged_one s some = record { is = λ _. rw some refl }
+charged_one w zero some = absurd (omega (arith, some))
+charged_one w (suc n) some = record { is = λ _. rw (not_zero n) refl }
 
 -- a number is kept as an integer: its lowest 32 or 64 bits
 pub does_kept : {S : Type 0} (s : State S) (n m : ℕ) → n ≡ truncated s.width m → Does (Ok (value.Integer n)) s (integer_kept m) s

@@ -166,12 +166,16 @@ module _ {S : Type 0} (ac : Accesses S) where
       ∙ bind_same target _ _ s (λ p i. bind_bind (lift (reference_of p)) (λ x. lift (if_initialized x)) last i
       ∙ bind_same (lift (reference_of p)) _ _ i (λ x j. bind_same (lift (if_initialized x)) _ _ j (λ o k. found_is c levels (inner u) q o k)))
 
+-- what a field is read as by a term
+pub value_read : {S : Type 0} (ac : Accesses S) (c : Site) (f : Field) (s : State S × ℕ) → (field_value ac (asked (answer_within ac (meaning ac) (32 - c.depth))) f >>= (λ v. give (flow.Value v))) s ≡ access_run ac (meaning ac) (read_access c f reading.Value) s
+unfolding field_value read_as
+value_read ac c f s = bind_bind (bits_in ac (asked (answer_within ac (meaning ac) (32 - c.depth))) f) (λ bytes. lift (value_of_bits _ bytes)) (λ v. give (flow.Value v)) s
+
 module _ {S : Type 0} {ac : Accesses S} where
   -- ---- accesses
 
   pub leads_read : {r : Outcome Next} {d : Site} {s s1 : State S × ℕ} (c : Site) (depth : ℕ) (f : Field) → depth ≡ c.depth → Leads ac (meaning ac) r d s1 (access_run ac (meaning ac) (read_access c f reading.Value)) s → Leads ac (meaning ac) r d s1 (field_value ac (asked (answer_within ac (meaning ac) (32 - depth))) f >>= (λ v. give (flow.Value v))) s
-  unfolding field_value read_as
-  leads_read {s = s} c depth f e h = rw e (record { is = λ ne. bind_bind (bits_in ac (asked (answer_within ac (meaning ac) (32 - c.depth))) f) (λ bytes. lift (value_of_bits _ bytes)) (λ v. give (flow.Value v)) s ∙ h.is ne })
+  leads_read {s = s} c depth f e h = rw e (record { is = λ ne. value_read ac c f s ∙ h.is ne })
 
   pub leads_told : {r : Outcome Next} {d : Site} {s s1 : State S × ℕ} (c : Site) (depth : ℕ) (f : Field) (i : Inquiry) → depth ≡ c.depth → Leads ac (meaning ac) r d s1 (access_run ac (meaning ac) (read_access c f (reading.Inquire i))) s → Leads ac (meaning ac) r d s1 (field_referent ac (asked (answer_within ac (meaning ac) (32 - depth))) f >>= (λ x. lift (told i x) >>= (λ v. give (flow.Value v)))) s
   unfolding field_referent read_as

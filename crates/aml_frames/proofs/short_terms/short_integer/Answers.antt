@@ -1,38 +1,46 @@
-use Rattle.std.proofs.Common.{◌≡◌, ◌∙◌, ap, arith, refl, rules}
+use Rattle.std.specs.Prelude.{◌≡◌, ◌<◌}
+use Rattle.std.proofs.Common.{◌∙◌, ap, arith, refl, subst, sym}
 use Rattle.aml_marked.specs.Marked.{count_at, first, over, an_integer}
+use Rattle.aml_objects.specs.declared.value.Value.TheVariants as values
 use Rattle.aml_frames.specs.declared.short_terms.Short.TheVariants as shorts
 use Rattle.aml_frames.specs.Places.{Site, at_place}
 use Rattle.aml_frames.specs.ShortTerms.{row_alone, IsShort}
-use Rattle.aml_frames.proofs.ShortTerms.{does_short_slot, does_short_constant, does_short_number, behind_slot, behind_integer}
+use Rattle.aml_frames.proofs.ShortTerms.{charged_one, does_kept, does_short_slot, does_short_constant, does_short_number, behind_slot, behind_integer}
 use Rattle.aml_frames.proofs.short_terms.short_integer.Goals as goal
+use Rattle.aml_frames.proofs.short_terms.short_integer.Goals.{in-Slot+in-Some, in-Constant, in-Number}
 
-pub returns-else-not-take_step-clause-integer : goal.returns-else-not-take_step-clause-integer
-returns-else-not-take_step-clause-integer g c =
-    let short : IsShort (shorts.Slot c.in-Slot.slot) (row_alone (first c.args.act.now.place.rest)) = search rules in
-    does_short_slot g.S.Space.accesses c.args.act.now.scope c.args.act.now.depth (count_at c.args.act.now.marks) c.args.levels c.args.act.now.place c.in-Slot.slot _ (omega (arith, c.if-levels-eq0.false)) short (c.if-not-take_step.ensures.taken refl) (rw (← c.run.view_is) c.in-Some.ensures.held)
+pub returns-clause-integer : goal.returns-clause-integer
+returns-clause-integer g c =
+    let a = c.args.act.now in
+    let lt : 0 < c.args.levels = omega (arith, c.if-levels-eq0.false) in
+    let paid = charged_one c.run.inside.world c.run.inside.steps (omega (arith, c.if-run-eq0.false)) in
+    elim c.match-short_at.branch [
+      | in-Slot+in-Some w ↦
+          let short : IsShort (shorts.Slot w.in-Slot.slot) (row_alone (first a.place.rest)) = rw (w.in-Slot.is, c.next_byte.ensures) at c.short_at.ensures.short in
+          rw (← c.run.view_is, w.number-is) (does_short_slot g.S.Space.accesses a.scope a.depth (count_at a.marks) c.args.levels a.place w.in-Slot.slot _ lt short paid w.in-Some.ensures.held)
+      | in-Constant w ↦
+          let short : IsShort (shorts.Constant w.in-Constant.number) (row_alone (first a.place.rest)) = rw (w.in-Constant.is, c.next_byte.ensures) at c.short_at.ensures.short in
+          let kept = does_kept c.run.inside.world w.truncate_integer-number.result w.in-Constant.number (rw w.width.ensures at w.truncate_integer-number.ensures.value) in
+          rw (← c.run.view_is, w.number-is) (does_short_constant g.S.Space.accesses a.scope a.depth (count_at a.marks) c.args.levels a.place w.in-Constant.number _ lt short paid kept)
+      | in-Number w ↦
+          let short : IsShort (shorts.Number w.in-Number.count) (row_alone (first a.place.rest)) = rw (w.in-Number.is, c.next_byte.ensures) at c.short_at.ensures.short in
+          let is : _ ≡ (an_integer w.in-Number.count (over 1 a.place)).0 = w.number_at-number.ensures ∙ ap (λ (x : Site). (an_integer w.in-Number.count x.place).0) w.advance-in-Number.ensures in
+          let kept = does_kept c.run.inside.world w.truncate_integer-number-in-Number.result w.number_at-number.result (rw w.width-in-Number.ensures at w.truncate_integer-number-in-Number.ensures.value) in
+          rw (← c.run.view_is, w.number-is) (does_short_number g.S.Space.accesses a.scope a.depth (count_at a.marks) c.args.levels a.place w.in-Number.count _ _ lt short is paid kept)
+    ]
 
-pub returns-else-not-take_step-clause-behind : goal.returns-else-not-take_step-clause-behind
-returns-else-not-take_step-clause-behind g c =
-    let short : IsShort (shorts.Slot c.in-Slot.slot) (row_alone (first c.args.act.now.place.rest)) = search rules in
-    c.advance.ensures ∙ behind_slot g.S.Space.accesses c.args.act.now c.args.levels (omega (arith, c.if-levels-eq0.false)) short.1.1
-
-pub returns-else-not-take_step-2-clause-integer : goal.returns-else-not-take_step-2-clause-integer
-returns-else-not-take_step-2-clause-integer g c =
-    let short : IsShort (shorts.Constant c.in-Constant.number) (row_alone (first c.args.act.now.place.rest)) = search rules in
-    does_short_constant g.S.Space.accesses c.args.act.now.scope c.args.act.now.depth (count_at c.args.act.now.marks) c.args.levels c.args.act.now.place c.in-Constant.number _ (omega (arith, c.if-levels-eq0.false)) short (c.if-not-take_step-2.ensures.taken refl) (rw (← c.run-in-Constant.view_is) c.truncated_number.ensures)
-
-pub returns-else-not-take_step-2-clause-behind : goal.returns-else-not-take_step-2-clause-behind
-returns-else-not-take_step-2-clause-behind g c =
-    let short : IsShort (shorts.Constant c.in-Constant.number) (row_alone (first c.args.act.now.place.rest)) = search rules in
-    c.advance-in-Constant.ensures ∙ behind_slot g.S.Space.accesses c.args.act.now c.args.levels (omega (arith, c.if-levels-eq0.false)) short.1
-
-pub returns-else-not-take_step-3-clause-integer : goal.returns-else-not-take_step-3-clause-integer
-returns-else-not-take_step-3-clause-integer g c =
-    let short : IsShort (shorts.Number c.in-Number.count) (row_alone (first c.args.act.now.place.rest)) = search rules in
-    let is : _ ≡ (an_integer c.in-Number.count (over 1 c.args.act.now.place)).0 = c.number_at-number.ensures ∙ ap (λ (x : Site). (an_integer c.in-Number.count x.place).0) c.advance-in-Number.ensures in
-    does_short_number g.S.Space.accesses c.args.act.now.scope c.args.act.now.depth (count_at c.args.act.now.marks) c.args.levels c.args.act.now.place c.in-Number.count _ _ (omega (arith, c.if-levels-eq0.false)) short is (c.if-not-take_step-3.ensures.taken refl) (rw (← c.run-in-Number.view_is) c.truncated_number-in-Number.ensures)
-
-pub returns-else-not-take_step-3-clause-behind : goal.returns-else-not-take_step-3-clause-behind
-returns-else-not-take_step-3-clause-behind g c =
-    let short : IsShort (shorts.Number c.in-Number.count) (row_alone (first c.args.act.now.place.rest)) = search rules in
-    c.advance-in-Number-2.ensures ∙ ap (λ (x : Site). at_place x (over c.in-Number.count x.place)) c.advance-in-Number.ensures ∙ behind_integer g.S.Space.accesses c.args.act.now c.args.levels c.in-Number.count (omega (arith, c.if-levels-eq0.false)) short
+pub returns-clause-behind : goal.returns-clause-behind
+returns-clause-behind g c =
+    let a = c.args.act.now in
+    let lt : 0 < c.args.levels = omega (arith, c.if-levels-eq0.false) in
+    elim c.match-short_at.branch [
+      | in-Slot+in-Some w ↦
+          let short : IsShort (shorts.Slot w.in-Slot.slot) (row_alone (first a.place.rest)) = rw (w.in-Slot.is, c.next_byte.ensures) at c.short_at.ensures.short in
+          w.act-is ∙ (w.advance.ensures ∙ behind_slot g.S.Space.accesses a c.args.levels lt short.1.1)
+      | in-Constant w ↦
+          let short : IsShort (shorts.Constant w.in-Constant.number) (row_alone (first a.place.rest)) = rw (w.in-Constant.is, c.next_byte.ensures) at c.short_at.ensures.short in
+          w.act-is ∙ (w.advance-in-Constant.ensures ∙ behind_slot g.S.Space.accesses a c.args.levels lt short.1)
+      | in-Number w ↦
+          let short : IsShort (shorts.Number w.in-Number.count) (row_alone (first a.place.rest)) = rw (w.in-Number.is, c.next_byte.ensures) at c.short_at.ensures.short in
+          w.act-is ∙ (w.advance-in-Number-2.ensures ∙ ap (λ (x : Site). at_place x (over w.in-Number.count x.place)) w.advance-in-Number.ensures ∙ behind_integer g.S.Space.accesses a c.args.levels w.in-Number.count lt short)
+    ]

@@ -41,5 +41,6 @@ entries-preserved g c =
           c.entries.invariant.same
           ∙ popped_leave g.S.Space.accesses (meaning g.S.Space.accesses) c.args.refusal c.entries.stack.act c.in-Some-Leave.caller c.in-Some-Leave.method c.entries.stack.entries.items c.pop.new.self.items c.in-Some-Leave.field-0 c.entries.run c.in-Some-Leave.ensures.items (search rules)
           ∙ ap (λ r. then_all g.S.Space.accesses (meaning g.S.Space.accesses) (stop c.args.refusal) c.in-Some-Leave.caller c.pop.new.self.items r)
-          (ap (λ p. (left p c.entries.run.0, c.entries.run.1)) (sym c.path.ensures) ∙ ap (λ r. (left c.path.result.now r.0, r.1)) (sym c.tell_place.ensures) ∙ sym c.end_call.ensures);
+          (ap (λ p. (left p c.entries.run.0, c.entries.run.1)) (sym c.path.ensures) ∙ ap (λ r. (left c.path.result.now r.0, r.1)) (sym c.tell_place.ensures) ∙ sym c.end_call.ensures)
+          ∙ ap (λ a. then_all g.S.Space.accesses (meaning g.S.Space.accesses) (stop c.args.refusal) a c.pop.new.self.items c.end_call.new.run) (sym c.into_inner-in-Some-Leave.ensures);
     }
