@@ -9,7 +9,6 @@ use Rattle.ar_space.specs.Change.{Does, Same, give, stop, settle, go_on, â—Œ>>=â
 use Rattle.aml_path.specs.declared.segment.Seg.{Seg}
 use Rattle.aml_marked.specs.Marked.{first, over, all_items, walk_levels}
 use Rattle.aml_objects.specs.declared.node.NodeId.{NodeId}
-use Rattle.aml_objects.specs.declared.entry.Field.{Field}
 use Rattle.aml_objects.specs.declared.value.Reference.{Reference}
 use Rattle.aml_objects.specs.declared.value.Value.{Value}
 use Rattle.aml_objects.specs.declared.value.Value.TheVariants as value
@@ -37,13 +36,9 @@ use Rattle.aml_frames.specs.declared.frames.Next.{Next}
 use Rattle.aml_frames.specs.declared.frames.Package.{Package}
 use Rattle.aml_frames.specs.declared.frames.Next.TheVariants as next
 use Rattle.aml_frames.specs.declared.uses.Access.{Access}
-use Rattle.aml_frames.specs.declared.uses.Reading.{Reading}
-use Rattle.aml_frames.specs.declared.uses.Reading.TheVariants as reading
 use Rattle.aml_frames.specs.declared.uses.Target.{Target}
 use Rattle.aml_frames.specs.declared.uses.TargetUse.{TargetUse}
 use Rattle.aml_frames.specs.declared.uses.TargetUse.TheVariants as uses
-use Rattle.aml_meaning.specs.declared.store_target.StoreTarget.{StoreTarget}
-use Rattle.aml_meaning.specs.declared.term_kind.Count.{Count}
 use Rattle.aml_frames.specs.Uses.{optional, target_ends, target_run, access_run}
 use Rattle.aml_meaning.specs.Meaning.{meaning}
 use Rattle.aml_frames.proofs.PassedItems.{given_ok, never_refused, never_err, never_memory, refused_begun, refused_paid, refused_free, refused_met, access_enough, target_enough, four_enough, most_enough}
@@ -54,7 +49,7 @@ use Rattle.aml_frames.specs.Operands.{row_kind}
 use Rattle.aml_frames.specs.ShortTerms.{row_alone}
 use Rattle.aml_frames.specs.Places.{Site, at_place, behind_term}
 use Rattle.aml_frames.specs.Data.{package_run}
-use Rattle.aml_frames.specs.Follow.{at_position, ends, turn_items, read_access, term_run, items_run, list_run, all_left, operator_run, behind_operator_at, body_run, resumed, next_run, next_ends, Leads}
+use Rattle.aml_frames.specs.Follow.{at_position, ends, turn_items, term_run, items_run, list_run, all_left, operator_run, behind_operator_at, body_run, resumed, next_run, next_ends, Leads}
 use Rattle.aml_frames.specs.Weights.{step_weight, charged}
 use Rattle.aml_frames.specs.Stack.{Rest, whole, frame_met, met, unwinding, at_bottom, then_all, machine, Goes, entry_weight, stack_weight, control_weight}
 

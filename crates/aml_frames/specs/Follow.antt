@@ -61,7 +61,6 @@ use Rattle.aml_frames.specs.declared.uses.Access.{Access}
 use Rattle.aml_frames.specs.declared.uses.Accessed.TheVariants as accessed
 use Rattle.aml_frames.specs.declared.uses.Doing.TheVariants as doing
 use Rattle.aml_frames.specs.declared.uses.Reading.{Reading}
-use Rattle.aml_frames.specs.declared.uses.Reading.TheVariants as reading
 use Rattle.aml_frames.specs.declared.uses.Inquiry.{Inquiry}
 use Rattle.aml_frames.specs.declared.uses.Inquiry.TheVariants as inquiry
 use Rattle.aml_frames.specs.declared.uses.TargetUse.TheVariants as uses

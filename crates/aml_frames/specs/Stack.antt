@@ -24,9 +24,9 @@ use Rattle.aml_frames.specs.declared.frames.Next.{Next}
 use Rattle.aml_frames.specs.declared.frames.Next.TheVariants as next
 use Rattle.aml_frames.specs.Places.{Site, behind_term}
 use Rattle.aml_frames.specs.Data.{package_run}
-use Rattle.aml_frames.specs.Follow.{at_position, ends, read_access, term_run, items_run, resumed}
+use Rattle.aml_frames.specs.Follow.{at_position, ends, term_run, items_run, resumed}
 use Rattle.aml_frames.specs.Uses.{target_ends, target_run, access_run}
-use Rattle.aml_frames.specs.Weights.{weight, most, access_weight, target_weight}
+use Rattle.aml_frames.specs.Weights.{weight, access_weight, target_weight}
 
 -- what goes on with an outcome, where evaluation stands
 abbrev pub Rest : Type 0 → Type 0

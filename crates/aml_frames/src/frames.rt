@@ -236,6 +236,11 @@ pub struct ListItem {
     pub behind: Items,
 }
 
+// Each turn of the machine's loop moves a frame, what a step leaves to do, and what is done next.
+const _: () = prove!(size_of::<Frame>() == 64);
+
+const _: () = prove!(size_of::<Next>() == 80);
+
 /// What stands on the stack.
 #[derive(Drop)]
 pub enum Entry {
@@ -263,6 +268,10 @@ pub enum Control {
     /// It hands a flow to what waits for it.
     Flow(Flow),
 }
+
+const _: () = prove!(size_of::<Entry>() == 72);
+
+const _: () = prove!(size_of::<Control>() == 40);
 
 /// Nothing is left to do: this is what the term leaves.
 #[inline(always)]

@@ -2,6 +2,9 @@
 //! operands stand next.
 ghost use Rattle.std.specs.Prelude.{◌≡◌, ◌≤◌, ◌<◌, ◌+◌, ◌*◌, IfOk, IfErr};
 ghost use Rattle.ar_space.specs.declared.refusal.Refusal.TheVariants.{OutOfMemory};
+ghost use Rattle.ar_space.specs.Outcome.{NotMemory};
+ghost use Rattle.aml_objects.specs.declared.value.Value.{Value as AnyValue};
+ghost use Rattle.aml_meaning.specs.declared.store_target.Held.TheVariants as helds;
 ghost use Rattle.aml_meaning.specs.Meaning.{meaning};
 ghost use Rattle.aml_frames.specs.declared.frames.Frame.TheVariants as frames;
 ghost use Rattle.aml_frames.specs.declared.frames.Next.TheVariants as next;
@@ -216,6 +219,7 @@ fn finish_monadic<S: Space>(
 fn give_held<S: Space>(run: &mut Running<S>, act: &Activation, held: Held) -> Result<Next>
     ensures spent { run.new.1 ≤ run.old.1 }
     ensures falls { IfOk result (λ n. next_weight n < most + 4) }
+    ensures memory { (value : AnyValue) → held ≡ helds.Value value → NotMemory result }
     ensures means { Leads S.accesses (meaning S.accesses) result act.now run.new
         (held_given S.accesses (meaning S.accesses) held act.now) run.old }
     ensures ends { EndsAt result act.now act.now }

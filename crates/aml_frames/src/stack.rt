@@ -19,7 +19,7 @@ ghost use Rattle.aml_frames.specs.Follow.{turn_items, body_run, list_run, all_le
 ghost use Rattle.aml_marked.specs.Marked.{walk_levels};
 ghost use Rattle.aml_frames.specs.Uses.{optional, access_done};
 ghost use Rattle.aml_frames.specs.Stack.{whole, then_all, machine, Goes, Stepped, stack_weight, entry_weight, control_weight};
-ghost use Rattle.aml_frames.specs.Weights.{most, next_weight, target_weight, access_weight, charged};
+ghost use Rattle.aml_frames.specs.Weights.{next_weight, target_weight, access_weight, charged};
 
 use crate::activation::Activation;
 use crate::addresses::PciAccess;

@@ -1,7 +1,9 @@
 //! What is done with a target that was found (ACPI 6.5, 19.6).
-ghost use Rattle.std.specs.Prelude.{◌≡◌, ◌≤◌, ◌<◌, ◌+◌, ◌*◌, IfOk};
+ghost use Rattle.std.specs.Prelude.{◌≡◌, ◌≢◌, ◌≤◌, ◌<◌, ◌+◌, ◌*◌, IfOk};
 ghost use Rattle.ar_space.specs.Change.{Does};
 ghost use Rattle.ar_space.specs.Outcome.{NotMemory};
+ghost use Rattle.aml_objects.specs.declared.entry.Field.{Field as AnyField};
+ghost use Rattle.aml_meaning.specs.declared.object_type.Referent.TheVariants as referents;
 ghost use Rattle.aml_meaning.specs.Meaning.{meaning};
 ghost use Rattle.aml_frames.specs.declared.frames.Frame.TheVariants as frames;
 ghost use Rattle.aml_frames.specs.declared.uses.TargetUse.TheVariants as uses;
@@ -238,6 +240,7 @@ pub(crate) fn inquire<S: Space>(
 ) -> Result<Next>
     ensures spent { run.new.1 ≤ run.old.1 }
     ensures falls { IfOk result (λ n. next_weight n < most + 4) }
+    ensures memory { ((field : AnyField) → referent ≢ referents.Field field) → NotMemory result }
     ensures means { Leads S.accesses (meaning S.accesses) result act.now run.new
         (inquired S.accesses (meaning S.accesses) inquiry act.now referent) run.old }
     ensures ends { EndsAt result act.now act.now }
