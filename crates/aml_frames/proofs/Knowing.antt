@@ -6,6 +6,7 @@ use Rattle.ar_space.specs.Outcome.{Outcome}
 use Rattle.ar_space.specs.Change.{Does, give, settle, stop, go_on, ◌>>=◌}
 use Rattle.ar_space.specs.declared.refusal.Refusal.{Refusal}
 use Rattle.aml_convert.specs.Operators.{is_true}
+use Rattle.aml_objects.specs.declared.value.Value.{Value}
 use Rattle.aml_objects.specs.declared.value.Value.TheVariants as value
 use Rattle.aml_meaning.specs.declared.flow.Flow.{Flow}
 use Rattle.aml_meaning.specs.declared.flow.Flow.TheVariants as flow
@@ -36,17 +37,24 @@ module _ {S : Type 0} {ac : Accesses S} where
   unfolding stop
   leads_undone e m h = record { is = λ ne. h.is ne }
 
-  -- ---- a part of a term that is an integer which is there already: the frame that would have waited for it goes on at once
+  -- ---- a part of a term whose value is there already: the frame that would have waited for it goes on at once
+
+  pub taken_value : {r : Outcome Next} {d e : Site} {s s1 s2 : State S × ℕ} (c : Site) (levels : ℕ) (v : Value) (x : Frame) → Does (Ok (flow.Value v)) s1 (term_run ac (meaning ac) c levels) s → d ≡ behind_term c levels → Leads ac (meaning ac) r e s2 (resumed ac (meaning ac) x d (flow.Value v)) s1 → Leads ac (meaning ac) r e s2 (next_run ac (meaning ac) (next.Term levels x) c) s
+  unfolding ◌>>=◌ go_on
+  taken_value c levels v x h e k = record { is = λ ne. rw (h.is tt, ← e) (k.is ne) }
 
   pub taken_known : {r : Outcome Next} {d e : Site} {s s1 s2 : State S × ℕ} (c : Site) (levels n : ℕ) (x : Frame) → Does (Ok (flow.Value (value.Integer n))) s1 (term_run ac (meaning ac) c levels) s → d ≡ behind_term c levels → Leads ac (meaning ac) r e s2 (resumed ac (meaning ac) x d (flow.Value (value.Integer n))) s1 → Leads ac (meaning ac) r e s2 (next_run ac (meaning ac) (next.Term levels x) c) s
-  unfolding ◌>>=◌ go_on
-  taken_known c levels n x h e k = record { is = λ ne. rw (h.is tt, ← e) (k.is ne) }
+  taken_known c levels n x h e k = taken_value c levels (value.Integer n) x h e k
 
   leads_same : {c : Site} {s : State S × ℕ} (n : Next) → Leads ac (meaning ac) (Ok n) c s (next_run ac (meaning ac) n c) s
   leads_same n = record { is = λ _. refl }
 
   pub left_unknown : {d : Site} {s s1 : State S × ℕ} (c : Site) (levels : ℕ) (x : Frame) → d ≡ c → s1 ≡ s → Leads ac (meaning ac) (Ok (next.Term levels x)) d s1 (next_run ac (meaning ac) (next.Term levels x) c) s
   left_unknown c levels x e h = rw (e, h) (leads_same (next.Term levels x))
+
+  -- and where nothing was taken yet
+  pub leads_same_start : {r : Outcome Next} {d e : Site} {s s1 s2 : State S × ℕ} (c : Site) (n : Next) → d ≡ c → s1 ≡ s → Leads ac (meaning ac) r e s2 (next_run ac (meaning ac) n d) s1 → Leads ac (meaning ac) r e s2 (next_run ac (meaning ac) n c) s
+  leads_same_start c n e h l = rw (← e, ← h) l
 
   pub refused_known : {r : Outcome Next} {d : Site} {s s1 : State S × ℕ} (c : Site) (e : Refusal) (levels : ℕ) (x : Frame) → Does {A = Flow} (Err e) s1 (term_run ac (meaning ac) c levels) s → IsErr r × IsErrAnd r (λ y. y ≡ e) → Leads ac (meaning ac) r d s1 (next_run ac (meaning ac) (next.Term levels x) c) s
   unfolding ◌>>=◌ go_on stop
@@ -73,7 +81,7 @@ module _ {S : Type 0} {ac : Accesses S} where
 
 pub ruleset knowing = (leads_done, leads_undone, charged_less)
 
-pub ruleset taking_known = (stepping, taken_known, left_unknown, refused_known, if_known, predicate_known, charged_less, charged_paid)
+pub ruleset taking_known = (stepping, taken_value, left_unknown, leads_same_start, refused_known, if_known, predicate_known, charged_less, charged_paid)
 
 pub ruleset returning = (taking_known, leads_return)
 

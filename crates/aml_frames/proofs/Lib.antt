@@ -34,3 +34,4 @@ pub mod Unwinding
 pub mod WideSteps
 pub mod LoopTurns
 mod Arguments
+mod ShortValues

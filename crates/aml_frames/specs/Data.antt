@@ -5,13 +5,16 @@ use Rattle.ar_space.specs.Change.{give, ◌>>=◌}
 use Rattle.aml_grammar.specs.declared.opcode.TermCode.TheVariants as codes
 use Rattle.aml_grammar.specs.Shape.{trees_of}
 use Rattle.aml_grammar.specs.Tree.{term, Trees}
-use Rattle.aml_marked.specs.Marked.{a_name, to_end}
+use Rattle.aml_marked.specs.Marked.{a_name, a_text, to_end}
 use Rattle.aml_scan.specs.declared.row_places.RowPlace.{RowPlace}
 use Rattle.aml_objects.specs.declared.object.Element.{Element}
 use Rattle.aml_objects.specs.declared.object.Element.TheVariants as element
+use Rattle.aml_objects.specs.declared.value.Value.{Value}
+use Rattle.aml_objects.specs.Objects.{make_string}
 use Rattle.aml_meaning.specs.declared.flow.Flow.{Flow}
 use Rattle.aml_meaning.specs.declared.flow.Flow.TheVariants as flow
 use Rattle.aml_meaning.specs.declared.term_kind.DataKind.{DataKind}
+use Rattle.aml_meaning.specs.State.{on_objects}
 use Rattle.aml_meaning.specs.Run.{Run, lift, charge}
 use Rattle.aml_meaning.specs.NewObjects.{new_buffer, new_package}
 use Rattle.aml_meaning.specs.Tasks.{Task}
@@ -37,10 +40,17 @@ unfilled n levels o c = record { count = n; left = n; turns = length c.place.res
 abbrev pub one_fewer : Package → Package
 one_fewer k = record k { left = k.left - 1; turns = k.turns - 1 }
 
+-- a string of the characters that stand before the next zero
+abbrev pub text_made : {S : Type 0} → Site → Run S Value
+text_made c = lift (on_objects (make_string (a_text c.place).0))
+
 -- a buffer of so many bytes, the first of which stand next
+abbrev pub buffer_filled : {S : Type 0} → ℕ → Site → Run S Value
+buffer_filled n c = lift (new_buffer n c.place.rest)
+
 abbrev pub buffer_made : {S : Type 0} → ℕ → Site → Run S Flow
 buffer_made n c = do
-  b ← lift (new_buffer n c.place.rest)
+  b ← buffer_filled n c
   give (flow.Value b)
 
 -- a package of so many elements, the first of which are these

@@ -1,6 +1,6 @@
 -- What is done with targets, with the values of operands, and with the bits of fields: what of a rule is left behind the part that is
 -- evaluated (ACPI 6.5, 19.6 and 20.2.2).
-use Rattle.std.specs.Prelude.{ℕ, List, Option, Some, None}
+use Rattle.std.specs.Prelude.{◌≡◌, ◌≢◌, ℕ, List, Option, Some, None, Ok}
 use Rattle.ar_space.specs.Accesses.{Accesses}
 use Rattle.ar_space.specs.Change.{Change, give, settle, ◌>>=◌}
 use Rattle.aml_path.specs.declared.segment.Seg.{Seg}
@@ -14,15 +14,16 @@ use Rattle.aml_objects.specs.declared.value.Reference.{Reference}
 use Rattle.aml_meaning.specs.declared.flow.Flow.{Flow}
 use Rattle.aml_meaning.specs.declared.flow.Flow.TheVariants as flow
 use Rattle.aml_meaning.specs.declared.object_type.Referent.{Referent}
+use Rattle.aml_meaning.specs.declared.object_type.Referent.TheVariants as referent
 use Rattle.aml_meaning.specs.declared.store_target.Held.{Held}
 use Rattle.aml_meaning.specs.declared.store_target.Stored.{Stored}
 use Rattle.aml_meaning.specs.declared.store_target.StoreTarget.{StoreTarget}
 use Rattle.aml_meaning.specs.declared.term_kind.Count.{Count}
 use Rattle.aml_meaning.specs.State.{State}
 use Rattle.aml_meaning.specs.Run.{Run, lift}
-use Rattle.aml_meaning.specs.Readings.{integer_kept}
+use Rattle.aml_meaning.specs.Readings.{integer_kept, value_in}
 use Rattle.aml_meaning.specs.Tasks.{Task, operand_value}
-use Rattle.aml_meaning.specs.StoreTargets.{dereferenced, target_read, reference_of, if_initialized, target_referent}
+use Rattle.aml_meaning.specs.StoreTargets.{dereferenced, target_read, reference_of, if_initialized, target_referent, value_followed, followed, most_references}
 use Rattle.aml_meaning.specs.Stores.{copied_to}
 use Rattle.aml_meaning.specs.Events.{event_named, event_changed, waited}
 use Rattle.aml_meaning.specs.Mutexes.{acquired_at, given_back_at}
@@ -320,3 +321,7 @@ module _ {S : Type 0} (accesses : Accesses S) (ev : Task → Run S Flow) where
 
   abbrev pub dyadic_done : SecondOperand → Value → Site → Run S Flow
   dyadic_done o u c = dyadic_by o.kind o.levels o.first u c
+
+-- what a term gives refers to no field: its size and its type are told without an access, which takes no memory
+abbrev pub RefersToNoField : {S : Type 0} → Flow → State S → Type 0
+RefersToNoField f w = (v : Value) (x : Field) → value_in f ≡ Ok v → (value_followed (followed most_references) v w).0 ≢ Ok (referent.Field x)

@@ -1,5 +1,5 @@
 //! Calls of control methods (ACPI 6.5, 5.5.2 and 20.2.5: MethodInvocation).
-ghost use Rattle.std.specs.Prelude.{◌≡◌, ◌≤◌, ◌<◌, ◌+◌, IfOk, slice_index_or};
+ghost use Rattle.std.specs.Prelude.{◌≡◌, ◌≤◌, ◌<◌, ◌+◌, IfOk, IfErr, slice_index_or};
 ghost use Rattle.aml_objects.specs.declared.value.Value.TheVariants.{Uninitialized};
 ghost use Rattle.aml_meaning.specs.Meaning.{meaning};
 ghost use Rattle.aml_meaning.specs.Invocations.{frame_arguments, invoked};
@@ -16,8 +16,8 @@ use crate::frames::{Call, Callee, Frame, Next};
 use crate::known::known_integer;
 use crate::position::MethodPath;
 use crate::tracing::told_path;
-use aml_meaning::{Flow, Running};
-use aml_objects::{Body, Value};
+use aml_meaning::{Flow, Running, WorldState};
+use aml_objects::{Body, NodeId, Value};
 use aml_path::Path;
 use ar_space::{Result, Space};
 
@@ -68,7 +68,7 @@ pub(crate) fn resume_argument<S: Space>(
 }
 
 /// Makes a call whose arguments are evaluated: a control method is entered, and `\_OSI` answers at once.
-#[tactic(auto, using(crate::proofs::Stepping::calls))]
+#[tactic(auto, using(crate::proofs::Stepping::calls, crate::proofs::Entering::entered))]
 fn begin_callee<S: Space>(run: &mut Running<S>, act: &Activation, call: Call) -> Result<Next>
     ensures spent { run.new.1 ≤ run.old.1 }
     ensures falls { IfOk result (λ n. next_weight n < 6) }
@@ -76,35 +76,20 @@ fn begin_callee<S: Space>(run: &mut Running<S>, act: &Activation, call: Call) ->
         (called S.accesses (meaning S.accesses) call.callee act.now.depth call.done.items) run.old }
     ensures ends { EndsAt result act.now act.now }
 {
+    let node = call.node;
     let done = call.done;
     match call.callee {
-        Callee::Method(path, body) => begin_body(run, act, path, body, &done),
+        Callee::Method(path, body) => {
+            match enter(run, act.depth(), (path, body), node, &done) {
+                Ok(entered) => Ok(Next::Body(entered)),
+                Err(refusal) => Err(refusal),
+            }
+        }
         Callee::Osi => {
             run.world.call_allowed(act.depth())?;
             let value = run.world.osi(&done)?;
             Ok(Next::Flow(Flow::Value(value)))
         }
-    }
-}
-
-/// Enters a control method: its body is next.
-#[tactic(auto, using(crate::proofs::Entering::entered))]
-fn begin_body<S: Space>(
-    run: &mut Running<S>,
-    act: &Activation,
-    path: Path,
-    body: Body,
-    arguments: &[Value],
-) -> Result<Next>
-    ensures spent { run.new.1 ≤ run.old.1 }
-    ensures falls { IfOk result (λ n. next_weight n < 6) }
-    ensures means { Leads S.accesses (meaning S.accesses) result act.now run.new
-        (invoked (meaning S.accesses) act.now.depth path body arguments.now) run.old }
-    ensures ends { EndsAt result act.now act.now }
-{
-    match enter(run, act.depth(), (path, body), arguments) {
-        Ok(entered) => Ok(Next::Body(entered)),
-        Err(refusal) => Err(refusal),
     }
 }
 
@@ -124,22 +109,25 @@ pub(crate) fn enter_then<S: Space>(
         (entered_then S.accesses (meaning S.accesses) depth called.0 called.1 (frames.Address asked) act.now) run.old }
     ensures ends { EndsAt result act.now (ends (frames.Address asked) act.now) }
 {
-    match enter(run, depth, called, &[]) {
+    match enter(run, depth, called, None, &[]) {
         Ok(entered) => Ok(Next::BodyThen(entered, asked)),
         Err(refusal) => Err(refusal),
     }
 }
 
-/// Enters a control method: tests the depth of calls, scans the body, and opens a frame of slots. Gives the activation
-/// at the first byte of the body. Where it is refused no frame is open.
+/// Enters a control method, whose node this is where it is known: tests the depth of calls, scans the body, and opens a
+/// frame of slots. Gives the activation at the first byte of the body. Where it is refused, or memory runs out, nothing
+/// changes: no frame is open.
 #[tactic(auto, using(crate::proofs::Entering::entering), unfolding(aml_meaning::specs::Invocations::invoked))]
 pub(crate) fn enter<S: Space>(
     run: &mut Running<S>,
     depth: usize,
     called: (Path, Body),
+    node: Option<NodeId>,
     arguments: &[Value],
 ) -> Result<Boxed<Activation>>
     ensures spent { run.new.1 ≤ run.old.1 }
+    ensures closed { IfErr result (λ e. run.new ≡ run.old) }
     ensures means { Enters S.accesses (meaning S.accesses) result run.new
         (invoked (meaning S.accesses) depth called.0 called.1 arguments.now) run.old }
 {
@@ -147,12 +135,20 @@ pub(crate) fn enter<S: Space>(
     run.world.call_allowed(depth)?;
     let marks = run.world.body_marks(&path, &body);
     let marks = told_path(&mut run.world, &path, marks)?;
-    let node = run.world.scope(&path).node;
+    let node = first_node(&run.world, node, &path);
     let method = MethodPath::new(run.world.alloc, path)?;
     let entered = Activation::new(body, marks, method, node, depth + 1);
     let entered = Boxed::new(run.world.alloc, entered)?;
     run.world.open_frame(frame_arguments(arguments))?;
     Ok(entered)
+}
+
+/// Where the scope of a control method is looked for first: at its node, where that is known.
+fn first_node<S>(world: &WorldState<S>, node: Option<NodeId>, method: &Path) -> NodeId {
+    match node {
+        Some(id) => id,
+        None => world.scope(method).node,
+    }
 }
 
 /// The slots of a frame for these arguments.

@@ -1,6 +1,7 @@
 //! Data that terms form: integers, strings and buffers; how packages begin (ACPI 6.5, 19.6 and 20.2.3). The parts
 //! stand next.
 ghost use Rattle.std.specs.Prelude.{◌≡◌, ◌≤◌, ◌<◌, ◌+◌, OnOk, IfOk, Ok};
+ghost use Rattle.ar_space.specs.Change.{Does};
 ghost use Rattle.ar_space.specs.Outcome.{Answers, NotMemory};
 ghost use Rattle.aml_marked.specs.Marked.{a_text, with_row};
 ghost use Rattle.aml_scan.specs.RowsAt.{row_at};
@@ -12,18 +13,18 @@ ghost use Rattle.aml_frames.specs.declared.frames.Frame.TheVariants as frames;
 ghost use Rattle.aml_frames.specs.declared.frames.Next.TheVariants as next;
 ghost use Rattle.aml_frames.specs.Places.{at_place};
 ghost use Rattle.aml_frames.specs.Operands.{row_kind, outside_at};
-ghost use Rattle.aml_frames.specs.Data.{data_run, behind_data_at, string_run, buffer_run, buffer_made};
+ghost use Rattle.aml_frames.specs.Data.{data_run, behind_data_at, string_run, text_made, buffer_run, buffer_filled};
 ghost use Rattle.aml_frames.specs.Follow.{resumed, ends, next_ends, next_run, Leads, EndsAt};
 ghost use Rattle.aml_frames.specs.Weights.{next_weight};
 
 use crate::activation::Activation;
-use crate::frames::{Frame, Next};
+use crate::frames::{Frame, Next, leave};
 use crate::known::known_integer;
 use crate::packages::{begin_package, begin_var_package};
 use crate::position::Position;
 use crate::values::integer_of;
 use aml_meaning::{DataKind, Flow, Running};
-use aml_objects::Octets;
+use aml_objects::{Octets, Value};
 use aml_scan::text_length;
 use aml_terms::RowPlace;
 use ar_space::{Result, Space};
@@ -95,9 +96,19 @@ fn begin_string<S: Space>(run: &mut Running<S>, act: &mut Activation) -> Result<
         (string_run (meaning S.accesses) act.old) run.old }
     ensures ends { EndsAt result act.new (at_place act.old (a_text act.old.place).1) }
 {
+    let value = make_text(run, act)?;
+    leave(Flow::Value(value))
+}
+
+/// A string of the characters that stand before the next zero. Evaluation goes over them and the zero.
+#[tactic(auto, using(aml_meaning::proofs::Runs::running))]
+pub(crate) fn make_text<S: Space>(run: &mut Running<S>, act: &mut Activation) -> Result<Value>
+    ensures steps { run.new.1 ≡ run.old.1 }
+    ensures made { Does result run.new (text_made act.old) run.old }
+    ensures behind { OnOk result (act.new ≡ at_place act.old (a_text act.old.place).1) }
+{
     let text = take_text(run.world.alloc, act)?;
-    let value = run.world.make_string(text)?;
-    Ok(Next::Flow(Flow::Value(value)))
+    run.world.make_string(text)
 }
 
 /// A copy of the text that stands next. Evaluation goes over it and its zero.
@@ -140,7 +151,10 @@ fn begin_size<S: Space>(
     ensures ends { EndsAt result act.new (next_ends (next.Term levels (frames.Buffer outer)) act.old) }
 {
     match known_integer(run, act, levels)? {
-        Some(size) => make_buffer(run, act, outer, size),
+        Some(size) => {
+            let buffer = make_buffer(run, act, outer, size)?;
+            leave(Flow::Value(buffer))
+        }
         None => Ok(Next::Term(levels, Frame::Buffer(outer))),
     }
 }
@@ -161,27 +175,26 @@ pub(crate) fn resume_buffer<S: Space>(
 {
     let value = flow.value()?;
     let size = integer_of(&run.world, value)?;
-    make_buffer(run, act, outer, size)
+    let buffer = make_buffer(run, act, outer, size)?;
+    leave(Flow::Value(buffer))
 }
 
-/// A Buffer of so many bytes, behind its size.
-#[tactic(auto, using(crate::proofs::Stepping::stepping))]
-fn make_buffer<S: Space>(
+/// A Buffer of so many bytes, behind its size. Evaluation goes on behind the term.
+#[tactic(auto, using(aml_meaning::proofs::Runs::running))]
+pub(crate) fn make_buffer<S: Space>(
     run: &mut Running<S>,
     act: &mut Activation,
     outer: Position,
     size: u64,
-) -> Result<Next>
-    ensures spent { run.new.1 ≤ run.old.1 }
-    ensures falls { IfOk result (λ n. next_weight n < 6) }
-    ensures means { Leads S.accesses (meaning S.accesses) result act.new run.new
-        (buffer_made size act.old) run.old }
-    ensures ends { EndsAt result act.new (ends (frames.Buffer outer) act.old) }
+) -> Result<Value>
+    ensures steps { run.new.1 ≡ run.old.1 }
+    ensures made { Does result run.new (buffer_filled size act.old) run.old }
+    ensures behind { OnOk result (act.new ≡ ends (frames.Buffer outer) act.old) }
 {
     let bytes = copied(run.world.alloc, act.rest())?;
     let buffer = run.world.new_buffer(size, bytes)?;
     act.go_to(outer);
-    Ok(Next::Flow(Flow::Value(buffer)))
+    Ok(buffer)
 }
 
 fn copied(alloc: Global, bytes: &[u8]) -> Result<Octets>

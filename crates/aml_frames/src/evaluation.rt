@@ -51,7 +51,7 @@ fn run_method<S: Space>(
 ) -> Result<Flow>
     ensures { Does result run.new (invoked (meaning S.accesses) depth called.0 called.1 arguments.now) run.old }
 {
-    match enter(run, depth, called, arguments) {
+    match enter(run, depth, called, None, arguments) {
         Ok(body) => evaluate(run, body.into_inner()),
         Err(refusal) => Err(refusal),
     }

@@ -57,6 +57,8 @@ pub struct Call {
     pub left: u8,
     /// How many levels of terms are read below the call.
     pub levels: u8,
+    /// The node of what is called, where it is known: the scope of the body is looked for there first.
+    pub node: Option<NodeId>,
     /// The arguments that are evaluated.
     pub done: Vec<Value>,
 }

@@ -46,6 +46,7 @@ mod short_names;
 mod short_opcodes;
 mod short_operations;
 mod short_terms;
+mod short_values;
 mod stack;
 mod statements;
 mod target_uses;

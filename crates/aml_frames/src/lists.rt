@@ -78,6 +78,7 @@ fn follow_item<S: Space>(
 ) -> Result<Control>
     ensures falls { IfOk result (λ c. charged run.new.1 + (stack_weight stack.new.entries.items + control_weight c) ≤
         charged run.old.1 + (stack_weight stack.old.entries.items + 3 + next_weight next)) }
+    ensures ended { IfErr result (λ e. run.new ≡ given_up next run.old) }
     ensures memory { IfErr result (λ e. e ≡ OutOfMemory) }
     ensures means { Goes S.accesses (meaning S.accesses) result stack.new.act stack.new.entries.items run.new
         (then_all S.accesses (meaning S.accesses) (next_run S.accesses (meaning S.accesses) next stack.old.act)
@@ -100,6 +101,7 @@ fn follow_above<S: Space>(
 ) -> Result<Control>
     ensures falls { IfOk result (λ c. charged run.new.1 + (stack_weight stack.new.entries.items + control_weight c) ≤
         charged run.old.1 + (stack_weight stack.old.entries.items + 3 + next_weight next)) }
+    ensures ended { IfErr result (λ e. run.new ≡ given_up next run.old) }
     ensures memory { IfErr result (λ e. e ≡ OutOfMemory) }
     ensures means { Goes S.accesses (meaning S.accesses) result stack.new.act stack.new.entries.items run.new
         (then_all S.accesses (meaning S.accesses) (next_run S.accesses (meaning S.accesses) next stack.old.act)

@@ -1,5 +1,5 @@
 //! Names where values stand (ACPI 6.5, 5.5.2 and 20.2.5: MethodInvocation).
-ghost use Rattle.std.specs.Prelude.{◌≡◌, ◌≤◌, ◌<◌, ◌+◌, ◌*◌, false, IfOk};
+ghost use Rattle.std.specs.Prelude.{◌≡◌, ◌≤◌, ◌<◌, ◌+◌, ◌*◌, false, IfOk, IfSome};
 ghost use Rattle.ar_space.specs.Change.{Does};
 ghost use Rattle.aml_grammar.specs.Shape.{trees_of};
 ghost use Rattle.aml_marked.specs.Marked.{a_name, turns_of};
@@ -7,6 +7,7 @@ ghost use Rattle.aml_meaning.specs.Meaning.{meaning};
 ghost use Rattle.aml_meaning.specs.Invocations.{invocation_found};
 ghost use Rattle.aml_meaning.specs.InvocationTerms.{invocation_rule};
 ghost use Rattle.aml_frames.specs.Places.{at_place, terms};
+ghost use Rattle.aml_frames.specs.ShortNames.{FindsAt};
 ghost use Rattle.aml_frames.specs.Follow.{name_run, behind_name_at, Leads, EndsAt};
 ghost use Rattle.aml_frames.specs.Weights.{most, next_weight};
 
@@ -18,6 +19,7 @@ use crate::short_names::node_at;
 use crate::tracing::told_here;
 use crate::uses::Reading;
 use aml_meaning::{Flow, Invocation, Running, WorldState};
+use aml_objects::NodeId;
 use ar_space::{Result, Space};
 
 /// A name where a value stands: what it is, with as many arguments as stand behind it.
@@ -30,17 +32,24 @@ pub fn begin_name<S: Space>(run: &mut Running<S>, act: &mut Activation, levels: 
     ensures ends { EndsAt result act.new (behind_name_at act.old levels) }
 {
     let count = act.argument_count();
-    let found = name_used(&run.world, act, count);
+    let node = node_at(&run.world, act);
+    let found = name_used(&run.world, act, node, count);
     let invocation = told_here(&mut run.world, act, found)?;
     act.over_name();
-    begin_invocation(run, act, levels, count, invocation)
+    begin_invocation(run, act, levels, count, node, invocation)
 }
 
-/// What the name is that stands next, used with so many arguments.
-fn name_used<S: Space>(world: &WorldState<S>, act: &Activation, count: u8) -> Result<Invocation>
+/// What the name is that stands next, used with so many arguments; `node` is what it finds, where that is known.
+fn name_used<S: Space>(
+    world: &WorldState<S>,
+    act: &Activation,
+    node: Option<NodeId>,
+    count: u8,
+) -> Result<Invocation>
+    requires { IfSome node (λ id. FindsAt world.now act.now.scope act.now.place id.number) }
     ensures { Does result world.now (invocation_found act.now.scope (a_name act.now.place).0 count) world.now }
 {
-    match node_at(world, act) {
+    match node {
         Some(id) => world.use_with(id, usize::from(count)),
         None => long_name_used(world, act, count),
     }
@@ -60,13 +69,15 @@ fn long_name_used<S: Space>(
     }
 }
 
-/// What a name was found to be, with the arguments that stand next.
+/// What a name was found to be, with the arguments that stand next: how many they are, and the node of the name where
+/// it is known.
 #[tactic(auto, using(crate::proofs::Using::using_targets), unfolding(aml_meaning::specs::InvocationTerms::call_rule, aml_meaning::specs::InvocationTerms::osi_rule, aml_meaning::specs::InvocationTerms::field_rule))]
 fn begin_invocation<S: Space>(
     run: &mut Running<S>,
     act: &mut Activation,
     levels: u8,
     count: u8,
+    node: Option<NodeId>,
     invocation: Invocation,
 ) -> Result<Next>
     ensures spent { run.new.1 ≤ run.old.1 }
@@ -91,6 +102,7 @@ fn begin_invocation<S: Space>(
                 callee: Callee::Method(path, body),
                 left: count,
                 levels,
+                node,
                 done: Vec::new(run.world.alloc),
             };
             begin_call(run, act, call)
@@ -100,6 +112,7 @@ fn begin_invocation<S: Space>(
                 callee: Callee::Osi,
                 left: count,
                 levels,
+                node: None,
                 done: Vec::new(run.world.alloc),
             };
             begin_call(run, act, call)

@@ -20,6 +20,7 @@ use crate::frames::{Frame, Next, leave};
 use crate::known::known_integer;
 use crate::references::{begin_conditional, begin_inquiry};
 use crate::short_names::acquire_at_name;
+use crate::short_values::short_value;
 use crate::targets::begin_target;
 use crate::uses::{Dyadic, Inquiry, Monadic, Reading, SecondOperand, Target, TargetUse};
 use aml_meaning::{Flow, Held, OperatorKind, Running, reference_in};
@@ -97,6 +98,28 @@ pub(crate) fn begin_monadic<S: Space>(
 {
     match known_integer(run, act, levels)? {
         Some(number) => finish_monadic(run, act, kind, levels, Value::Integer(number)),
+        None => begin_monadic_value(run, act, kind, levels),
+    }
+}
+
+/// The same, where the operand isn't an integer that is there already.
+#[inline(never)]
+#[tactic(auto, using(crate::proofs::Knowing::taking_known))]
+fn begin_monadic_value<S: Space>(
+    run: &mut Running<S>,
+    act: &mut Activation,
+    kind: Monadic,
+    levels: u8,
+) -> Result<Next>
+    ensures spent { run.new.1 ≤ run.old.1 }
+    ensures falls { IfOk result (λ n. next_weight n < most + 15) }
+    ensures memory { IfErr result (λ e. e ≡ OutOfMemory → run.new.1 < run.old.1) }
+    ensures means { Leads S.accesses (meaning S.accesses) result act.new run.new
+        (next_run S.accesses (meaning S.accesses) (next.Term levels (frames.Operand kind levels)) act.old) run.old }
+    ensures ends { EndsAt result act.new (next_ends (next.Term levels (frames.Operand kind levels)) act.old) }
+{
+    match short_value(run, act, levels)? {
+        Some(value) => finish_monadic(run, act, kind, levels, value),
         None => Ok(Next::Term(levels, Frame::Operand(kind, levels))),
     }
 }
@@ -127,6 +150,36 @@ pub(crate) fn begin_dyadic<S: Space>(
                 first: Value::Integer(first),
             },
         ),
+        None => begin_dyadic_value(run, act, kind, levels),
+    }
+}
+
+/// The same, where the first operand isn't an integer that is there already.
+#[inline(never)]
+#[tactic(auto, using(crate::proofs::Knowing::taking_known))]
+fn begin_dyadic_value<S: Space>(
+    run: &mut Running<S>,
+    act: &mut Activation,
+    kind: Dyadic,
+    levels: u8,
+) -> Result<Next>
+    ensures spent { run.new.1 ≤ run.old.1 }
+    ensures falls { IfOk result (λ n. next_weight n < 2 * most + 25) }
+    ensures memory { IfErr result (λ e. e ≡ OutOfMemory → run.new.1 < run.old.1) }
+    ensures means { Leads S.accesses (meaning S.accesses) result act.new run.new
+        (next_run S.accesses (meaning S.accesses) (next.Term levels (frames.First kind levels)) act.old) run.old }
+    ensures ends { EndsAt result act.new (next_ends (next.Term levels (frames.First kind levels)) act.old) }
+{
+    match short_value(run, act, levels)? {
+        Some(first) => begin_second(
+            run,
+            act,
+            SecondOperand {
+                kind,
+                levels,
+                first,
+            },
+        ),
         None => Ok(Next::Term(levels, Frame::First(kind, levels))),
     }
 }
@@ -149,6 +202,28 @@ fn begin_second<S: Space>(
 {
     match known_integer(run, act, operator.levels)? {
         Some(second) => finish_dyadic(run, act, operator, Value::Integer(second)),
+        None => begin_second_value(run, act, operator),
+    }
+}
+
+/// The same, where the operand isn't an integer that is there already.
+#[inline(never)]
+#[tactic(auto, using(crate::proofs::Knowing::taking_known))]
+fn begin_second_value<S: Space>(
+    run: &mut Running<S>,
+    act: &mut Activation,
+    operator: SecondOperand,
+) -> Result<Next>
+    ensures spent { run.new.1 ≤ run.old.1 }
+    ensures falls { IfOk result (λ n. next_weight n < 2 * most + 25) }
+    ensures memory { IfErr result (λ e. e ≡ OutOfMemory → run.new.1 < run.old.1) }
+    ensures means { Leads S.accesses (meaning S.accesses) result act.new run.new
+        (next_run S.accesses (meaning S.accesses) (next.Term operator.levels (frames.Second operator)) act.old)
+        run.old }
+    ensures ends { EndsAt result act.new (next_ends (next.Term operator.levels (frames.Second operator)) act.old) }
+{
+    match short_value(run, act, operator.levels)? {
+        Some(second) => finish_dyadic(run, act, operator, second),
         None => Ok(Next::Term(operator.levels, Frame::Second(operator))),
     }
 }

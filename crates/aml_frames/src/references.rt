@@ -10,7 +10,7 @@ ghost use Rattle.aml_meaning.specs.StoreTargets.{reference_if_found};
 ghost use Rattle.aml_meaning.specs.declared.term_kind.OperatorKind.TheVariants as operators;
 ghost use Rattle.aml_frames.specs.declared.frames.Frame.TheVariants as frames;
 ghost use Rattle.aml_frames.specs.Follow.{inquiry_kind, operator_run, behind_operator_at, resumed, ends, Leads, EndsAt};
-ghost use Rattle.aml_frames.specs.Uses.{optional, behind_target, found_next};
+ghost use Rattle.aml_frames.specs.Uses.{optional, behind_target, found_next, RefersToNoField};
 ghost use Rattle.aml_frames.specs.Weights.{most, next_weight};
 
 use crate::activation::Activation;
@@ -70,6 +70,7 @@ pub(crate) fn resume_referent<S: Space>(
 ) -> Result<Next>
     ensures spent { run.new.1 ≤ run.old.1 }
     ensures falls { IfOk result (λ n. next_weight n < most + 4) }
+    ensures memory { RefersToNoField flow run.old.0 → NotMemory result }
     ensures means { Leads S.accesses (meaning S.accesses) result act.now run.new
         (resumed S.accesses (meaning S.accesses) (frames.Referent inquiry) act.now flow) run.old }
     ensures ends { EndsAt result act.now act.now }

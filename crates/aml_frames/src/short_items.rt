@@ -1,6 +1,6 @@
 //! Operators that are evaluated at once where they are items of a list (ACPI 6.5, 19.6): Increment and Decrement of a
-//! local or an argument, and Store and operators on two integers, whose operands are short terms and whose target is a
-//! local or an argument.
+//! local or an argument, Store of a short term, and operators on two integers whose operands are short terms or
+//! operators without a target over short terms. The target is a local or an argument.
 //!
 //! `binary_to_slot` and `store_to_slot` may answer none after steps were taken and the place has moved; `try_operator`
 //! restores both. Then `begin_operator` begins the operator, as any other one, behind its opcode.

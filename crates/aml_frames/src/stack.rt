@@ -18,7 +18,7 @@ ghost use Rattle.aml_objects.specs.declared.value.Value.TheVariants as values;
 ghost use Rattle.aml_frames.specs.Follow.{turn_items, body_run, list_run, all_left, next_run, next_ends};
 ghost use Rattle.aml_marked.specs.Marked.{walk_levels};
 ghost use Rattle.aml_frames.specs.Uses.{optional, access_done};
-ghost use Rattle.aml_frames.specs.Stack.{whole, then_all, machine, Goes, Stepped, stack_weight, entry_weight, control_weight};
+ghost use Rattle.aml_frames.specs.Stack.{whole, then_all, machine, given_up, Goes, Stepped, stack_weight, entry_weight, control_weight};
 ghost use Rattle.aml_frames.specs.Weights.{next_weight, target_weight, access_weight, charged};
 
 use crate::activation::Activation;
@@ -278,6 +278,7 @@ pub(crate) fn follow<S: Space>(
 ) -> Result<Control>
     ensures falls { IfOk result (λ c. charged run.new.1 + (stack_weight stack.new.entries.items + control_weight c) ≤
         charged run.old.1 + (stack_weight stack.old.entries.items + next_weight next)) }
+    ensures ended { IfErr result (λ e. run.new ≡ given_up next run.old) }
     ensures memory { IfErr result (λ e. e ≡ OutOfMemory) }
     ensures means { Goes S.accesses (meaning S.accesses) result stack.new.act stack.new.entries.items run.new
         (then_all S.accesses (meaning S.accesses) (next_run S.accesses (meaning S.accesses) next stack.old.act)
@@ -312,6 +313,7 @@ fn run_then<S: Space>(
 ) -> Result<Control>
     ensures falls { IfOk result (λ c. charged run.new.1 + (stack_weight stack.new.entries.items + control_weight c) ≤
         charged run.old.1 + (stack_weight stack.old.entries.items + next_weight (next.BodyThen body asked))) }
+    ensures ended { IfErr result (λ e. run.new ≡ (left body.scope run.old.0, run.old.1)) }
     ensures memory { IfErr result (λ e. e ≡ OutOfMemory) }
     ensures means { Goes S.accesses (meaning S.accesses) result stack.new.act stack.new.entries.items run.new
         (then_all S.accesses (meaning S.accesses) (next_run S.accesses (meaning S.accesses) (next.BodyThen body asked)

@@ -1,6 +1,6 @@
 //! Frames, and the slots in them (ACPI 6.5, 5.5.2.3 and 19.6: ArgX, LocalX).
 ghost use Rattle.std.specs.Prelude.{◌≡◌, ◌≢◌, ◌==◌, ◌<◌, ℕ, Ok, true, false, not, length, position, slice_index_or};
-ghost use Rattle.std.specs.Prelude.{slice_set, IfSome, IfNone};
+ghost use Rattle.std.specs.Prelude.{slice_set, IfSome, IfNone, OnErr};
 ghost use Rattle.ar_space.specs.Change.{Does};
 ghost use Rattle.ar_space.specs.Outcome.{NotMemory};
 ghost use Rattle.aml_meaning.specs.Slots.{slot_in, with_slot, slot_of, opened, closed};
@@ -179,10 +179,11 @@ impl<S> WorldState<S> {
     }
 
     /// Opens a frame with these arguments, and gives its number, which is never given again; refused as `ObjectLimit`
-    /// where no number is left.
+    /// where no number is left. Where it is refused, or memory runs out, nothing changes.
     #[tactic(auto, unfolding(crate::specs::Slots::opened))]
     pub fn open_frame(&mut self, arguments: [Value; 7]) -> Result<u64>
-        ensures { Does result self.new (opened arguments) self.old }
+        ensures change { Does result self.new (opened arguments) self.old }
+        ensures refused { OnErr result (self.new ≡ self.old) }
     {
         if self.started == u64::MAX {
             return Err(Refusal::Evaluation(EvaluationFault::ObjectLimit));

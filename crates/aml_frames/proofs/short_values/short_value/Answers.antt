@@ -1,0 +1,15 @@
+use Rattle.std.proofs.Common.{arith}
+use Rattle.aml_frames.proofs.ShortTerms.{charged_one}
+use Rattle.aml_frames.proofs.ShortValues.{done_begun, handed_on, refused_begun}
+use Rattle.aml_frames.proofs.short_values.short_value.Goals as goal
+
+pub returns-in_err-begun_value-clause-refused : goal.returns-in_err-begun_value-clause-refused
+returns-in_err-begun_value-clause-refused g c =
+    let paid = charged_one c.run.inside.world c.run.inside.steps (omega (arith, c.if-run-eq0.false)) in
+    rw (← c.run.view_is) (handed_on _ c.from_residual.result _ (refused_begun c.args.act.now c.args.levels _ paid c.in_err-begun_value.ensures.refused) c.from_residual.ensures)
+
+pub returns-in-Some-clause-value : goal.returns-in-Some-clause-value
+returns-in-Some-clause-value g c =
+    let paid = charged_one c.run.inside.world c.run.inside.steps (omega (arith, c.if-run-eq0.false)) in
+    let leads = rw c.in-Some.is at c.in_ok-begun_value.ensures.value in
+    rw (← c.run.view_is) (done_begun c.args.act.now c.args.levels c.in-Some.value paid leads)
