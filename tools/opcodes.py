@@ -111,8 +111,9 @@ TAIL = """
 
 A name stands for itself, and targets, stores and accesses of fields are parts of many terms. What an integer is that such a part gives or
 takes at once is in `short_names` and `short_terms`; an operator over such integers is in `short_operations`, where an operand, a
-predicate or a Return asks for its integer, and in `short_items`, where an item of a list stores to a local or an argument. The functions
-of `aml_interp` do the same for a caller that reads a field from outside.
+predicate or a Return asks for its integer, and in `short_items`, where an item of a list stores to a local or an argument. Operands that
+are locals, arguments, strings, or buffers whose size is a short term are in `short_values`. The functions of `aml_interp` do the same for
+a caller that reads a field from outside.
 
 | What | Definition | Code |
 |---|---|---|
