@@ -8,21 +8,17 @@ use Rattle.ar_space.specs.declared.refusal.Refusal.{Refusal}
 use Rattle.aml_marked.specs.Marked.{count_at, a_term, a_text, with_row}
 use Rattle.aml_scan.specs.RowsAt.{row_at}
 use Rattle.aml_scan.specs.declared.row_places.RowPlace.{RowPlace}
-use Rattle.aml_objects.specs.declared.value.Slot.{Slot}
 use Rattle.aml_objects.specs.declared.value.Value.{Value}
 use Rattle.aml_objects.specs.declared.value.Value.TheVariants as value
 use Rattle.aml_meaning.specs.declared.flow.Flow.{Flow}
 use Rattle.aml_meaning.specs.declared.flow.Flow.TheVariants as flow
 use Rattle.aml_meaning.specs.declared.term_kind.DataKind.TheVariants as datas
-use Rattle.aml_meaning.specs.declared.term_kind.OperatorKind.TheVariants as operators
 use Rattle.aml_meaning.specs.declared.term_kind.TermKind.TheVariants as kinds
 use Rattle.aml_meaning.specs.State.{State}
-use Rattle.aml_meaning.specs.Run.{Run, lift, charge}
+use Rattle.aml_meaning.specs.Run.{Run, charge}
 use Rattle.aml_meaning.specs.DataTerms.{string_rule}
 use Rattle.aml_meaning.specs.Evaluation.{rule}
 use Rattle.aml_meaning.specs.Meaning.{meaning}
-use Rattle.aml_meaning.specs.OperatorTerms.{slot_rule}
-use Rattle.aml_meaning.specs.StoreTargets.{slot_read}
 use Rattle.aml_frames.specs.declared.position.Position.{Position}
 use Rattle.aml_frames.specs.declared.frames.Frame.TheVariants as frames
 use Rattle.aml_frames.specs.declared.frames.Next.{Next}
@@ -33,7 +29,7 @@ use Rattle.aml_frames.specs.Places.{Site, at_place, terms, behind_term}
 use Rattle.aml_frames.specs.Follow.{term_run, begun_run, behind_coded, Leads}
 use Rattle.aml_frames.proofs.Forming.{leads_buffer, buffer_known}
 use Rattle.aml_frames.proofs.Knowing.{leads_on, taken_known}
-use Rattle.aml_frames.proofs.RuleShapes.{behind_data_is, behind_operator_is}
+use Rattle.aml_frames.proofs.RuleShapes.{behind_data_is}
 use Rattle.aml_frames.proofs.ShortOperations.{done_leads}
 use Rattle.aml_frames.proofs.Stepping.{leads_give, leads_meaning, leads_ok}
 
@@ -44,11 +40,6 @@ pub each_value : {A : Type 0} (P Q : A → Type 0) (r : Outcome (Option A)) → 
 each_value P Q (Ok None) f h = tt
 each_value P Q (Ok (Some a)) f h = f a h
 each_value P Q (Err e) f h = tt
-
-pub each_some : {A : Type 0} (P : A → Type 0) (r : Outcome (Option A)) → ((a : A) → P a) → IfOk r (λ k. IfSome k P)
-each_some P (Ok None) f = tt
-each_some P (Ok (Some a)) f = f a
-each_some P (Err e) f = tt
 
 -- of its refusal
 pub each_refusal : {A : Type 0} (P Q : Refusal → Type 0) (r : Outcome A) → ((e : Refusal) → P e → Q e) → IfErr r P → IfErr r Q
@@ -97,20 +88,7 @@ module _ {S : Type 0} {ac : Accesses S} where
   unfolding rule
   refused_begun c levels e paid l = stopped_leads e _ (leads_meaning _ (leads_ok charge _ paid l))
 
-  -- ---- locals and arguments
-
-  pub slot_leads : {d : Site} {s : State S × ℕ} (slot : Slot) (v : Value) → Does (Ok v) s.0 (slot_read slot) s.0 → Leads ac (meaning ac) (Ok (next.Flow (flow.Value v))) d s (slot_rule ac (meaning ac) slot) s
-  unfolding slot_rule lift give ◌>>=◌ go_on
-  slot_leads slot v h = record { is = λ _. rw (h.is tt) refl }
-
-  pub slot_refused : {d : Site} {s : State S × ℕ} (slot : Slot) (e : Refusal) → Does {A = Value} (Err e) s.0 (slot_read slot) s.0 → Leads ac (meaning ac) (Err e) d s (slot_rule ac (meaning ac) slot) s
-  unfolding slot_rule lift stop ◌>>=◌ go_on
-  slot_refused slot e h = record { is = λ ne. rw (h.is ne) refl }
-
 -- ---- where terms end
-
-pub slot_ends : (c : Site) (levels : ℕ) (slot : Slot) (o : RowPlace) → row_kind (row_at o) ≡ kinds.Operator (operators.Slot slot) → c ≡ behind_coded o c levels
-slot_ends c levels slot o e = ap (at_place c) (sym (behind_operator_is (terms c levels) (operators.Slot slot) o c.place e))
 
 pub text_ends : (x c : Site) (levels : ℕ) (o : RowPlace) → row_kind (row_at o) ≡ kinds.Data datas.String → x ≡ at_place c (a_text c.place).1 → x ≡ behind_coded o c levels
 text_ends x c levels o e h = h ∙ ap (at_place c) (sym (behind_data_is (terms c levels) datas.String o c.place e))

@@ -44,10 +44,11 @@ one_fewer k = record k { left = k.left - 1; turns = k.turns - 1 }
 abbrev pub text_made : {S : Type 0} → Site → Run S Value
 text_made c = lift (on_objects (make_string (a_text c.place).0))
 
--- a buffer of so many bytes, the first of which stand next
+-- a buffer of so many bytes, the first of which stand next; of as many as stand there, where these are more
 abbrev pub buffer_filled : {S : Type 0} → ℕ → Site → Run S Value
 buffer_filled n c = lift (new_buffer n c.place.rest)
 
+-- the value of a Buffer term is this buffer
 abbrev pub buffer_made : {S : Type 0} → ℕ → Site → Run S Flow
 buffer_made n c = do
   b ← buffer_filled n c

@@ -1,5 +1,5 @@
 -- Short terms: an opcode of one byte, alone or with one number behind it.
-use Rattle.std.specs.Prelude.{◌≡◌, ℕ, Bool, true, false, ⊤, Option, Some, None, ◌==◌, ◌&&◌, not}
+use Rattle.std.specs.Prelude.{◌≡◌, ℕ, Bool, true, false, ⊤, Option, Some, None, ◌==◌, ◌&&◌, ◌||◌, not}
 use Rattle.aml_grammar.specs.declared.kinds.OperandKind.{OperandKind}
 use Rattle.aml_grammar.specs.declared.kinds.OperandKind.TheVariants as kinds
 use Rattle.aml_grammar.specs.declared.kinds.Row.{Row}
@@ -58,6 +58,10 @@ is_number (Some row) = not row.2 && (not (is_if row.0) && (has_width row.3.0 && 
 abbrev pub row_width : Option Row → ℕ
 row_width None = 0
 row_width (Some row) = width_of row.3.0
+
+-- the opcode of a string or of a buffer, which are made in memory
+abbrev pub is_made : ℕ → Bool
+is_made b = (b == 0x0D) || (b == 0x11)
 
 -- what the short form says of a row
 abbrev pub IsShort : Short → Option Row → Type 0

@@ -322,6 +322,6 @@ module _ {S : Type 0} (accesses : Accesses S) (ev : Task → Run S Flow) where
   abbrev pub dyadic_done : SecondOperand → Value → Site → Run S Flow
   dyadic_done o u c = dyadic_by o.kind o.levels o.first u c
 
--- what a term gives refers to no field: its size and its type are told without an access, which takes no memory
+-- what a term gives refers to no field: its size and its type are told without an access, and so without memory
 abbrev pub RefersToNoField : {S : Type 0} → Flow → State S → Type 0
 RefersToNoField f w = (v : Value) (x : Field) → value_in f ≡ Ok v → (value_followed (followed most_references) v w).0 ≢ Ok (referent.Field x)

@@ -21,8 +21,8 @@ use aml_objects::{Body, NodeId, Value};
 use aml_path::Path;
 use ar_space::{Result, Space};
 
-/// Evaluates the arguments that are left of a call, and makes it then. Integers that are there already are taken at
-/// once; for the first other argument the call waits (`Frame::Argument`).
+/// Evaluates the arguments that are left of a call, and then makes it. Arguments that `known_integer` gives need no
+/// frame; for any other one the call waits (`Frame::Argument`).
 #[tactic(auto, using(crate::proofs::Stepping::calls, crate::proofs::Arguments::arguing))]
 pub fn begin_call<S: Space>(run: &mut Running<S>, act: &mut Activation, call: Call) -> Result<Next>
     ensures spent { run.new.1 ≤ run.old.1 }
@@ -72,6 +72,7 @@ pub(crate) fn resume_argument<S: Space>(
 fn begin_callee<S: Space>(run: &mut Running<S>, act: &Activation, call: Call) -> Result<Next>
     ensures spent { run.new.1 ≤ run.old.1 }
     ensures falls { IfOk result (λ n. next_weight n < 6) }
+    ensures closed { IfErr result (λ e. run.new ≡ run.old) }
     ensures means { Leads S.accesses (meaning S.accesses) result act.now run.new
         (called S.accesses (meaning S.accesses) call.callee act.now.depth call.done.items) run.old }
     ensures ends { EndsAt result act.now act.now }
@@ -105,6 +106,7 @@ pub(crate) fn enter_then<S: Space>(
 ) -> Result<Next>
     ensures spent { run.new.1 ≤ run.old.1 }
     ensures falls { IfOk result (λ n. next_weight n ≤ 5 + weight (frames.Address asked)) }
+    ensures closed { IfErr result (λ e. run.new ≡ run.old) }
     ensures means { Leads S.accesses (meaning S.accesses) result act.now run.new
         (entered_then S.accesses (meaning S.accesses) depth called.0 called.1 (frames.Address asked) act.now) run.old }
     ensures ends { EndsAt result act.now (ends (frames.Address asked) act.now) }
@@ -117,7 +119,7 @@ pub(crate) fn enter_then<S: Space>(
 
 /// Enters a control method, whose node this is where it is known: tests the depth of calls, scans the body, and opens a
 /// frame of slots. Gives the activation at the first byte of the body. Where it is refused, or memory runs out, nothing
-/// changes: no frame is open.
+/// changes that a contract sees: no frame is open.
 #[tactic(auto, using(crate::proofs::Entering::entering), unfolding(aml_meaning::specs::Invocations::invoked))]
 pub(crate) fn enter<S: Space>(
     run: &mut Running<S>,

@@ -123,7 +123,7 @@ fn take_text(alloc: Global, act: &mut Activation) -> Result<Octets>
     Ok(text)
 }
 
-/// A Buffer: its size is evaluated, and the bytes behind it are its first ones.
+/// A Buffer: its size is evaluated, and the bytes behind its size are its first ones.
 #[tactic(auto, using(crate::proofs::Forming::buffers, crate::proofs::Knowing::going_on))]
 fn begin_buffer<S: Space>(run: &mut Running<S>, act: &mut Activation, levels: u8) -> Result<Next>
     ensures spent { run.new.1 ≤ run.old.1 }
@@ -179,7 +179,8 @@ pub(crate) fn resume_buffer<S: Space>(
     leave(Flow::Value(buffer))
 }
 
-/// A Buffer of so many bytes, behind its size. Evaluation goes on behind the term.
+/// A Buffer of so many bytes, whose first ones stand next; of as many as stand there, where these are more. Evaluation
+/// goes on at `outer`, behind the term.
 #[tactic(auto, using(aml_meaning::proofs::Runs::running))]
 pub(crate) fn make_buffer<S: Space>(
     run: &mut Running<S>,

@@ -1,5 +1,6 @@
 //! What is there already when a term needs it: operands that are integers, and targets that take or hold one. They
-//! are read and stored to at once. Everything else is left to the machine (`stack`), and then nothing changes.
+//! are read and stored to at once. Where these functions answer none, nothing has changed, and the caller tries
+//! something else or makes a frame.
 ghost use Rattle.std.specs.Prelude.{◌≡◌, ◌≤◌, ◌<◌, None, Ok, Err, true, false, IfOk, IfErr, IfSome};
 ghost use Rattle.ar_space.specs.Change.{Does};
 ghost use Rattle.ar_space.specs.Outcome.{NotMemory};
@@ -20,10 +21,10 @@ use aml_meaning::{Count, Running};
 use aml_objects::Value;
 use ar_space::{Result, Space};
 
-/// The integer of the term that stands next, where no frame is needed: that of a local, an argument, a constant, a name,
-/// a field unit whose bits are read at once, or an operator without a target whose operands are short terms. It takes
-/// the steps of the term. A refusal is that of the term, and comes from the read of a field unit. Where it answers none,
-/// nothing changes.
+/// The integer of the next term, where no frame is needed: that of a local, an argument, a constant, a name, a field
+/// unit whose bits are read at once, or an operator without a target whose operands are short terms. It takes the steps
+/// of the term. A refusal is that of the term, and comes from the read of a field unit. Where it answers none, nothing
+/// changes.
 #[inline(always)]
 pub(crate) fn known_integer<S: Space>(
     run: &mut Running<S>,
@@ -51,9 +52,9 @@ pub(crate) fn known_integer<S: Space>(
     integer_at_name(run, act, levels)
 }
 
-/// What is done with the target that stands next, where it is done at once: an integer is stored to a local, an
-/// argument, or a name that takes one, or what one of these holds is incremented or decremented. It gives the value of
-/// the term, takes no step, and is refused as the term is. Where it answers none, nothing changes.
+/// Uses the next target at once, where it can: stores an integer to a local, an argument, a name that holds an integer,
+/// or a field unit, or increments or decrements the integer that a local, an argument or a name holds. It gives the
+/// value of the term, takes no step, and is refused as the term is. Where it answers none, nothing changes.
 #[inline(always)]
 pub(crate) fn use_known<S: Space>(
     run: &mut Running<S>,
@@ -80,7 +81,7 @@ pub(crate) fn use_known<S: Space>(
     }
 }
 
-/// An integer is stored to the local, the argument or the name that stands next.
+/// Stores an integer to the next local, argument, name that holds an integer, or field unit.
 #[inline(always)]
 fn put_known<S: Space>(
     run: &mut Running<S>,
@@ -110,7 +111,7 @@ fn put_known<S: Space>(
     Ok(None)
 }
 
-/// The integer that the local, the argument or the name holds that stands next is incremented or decremented.
+/// Increments or decrements the integer that the next local, argument or name holds.
 #[inline(always)]
 fn count_known<S: Space>(
     run: &mut Running<S>,

@@ -2,9 +2,13 @@
 //!
 //! Begin with `call_method`, `evaluate_list` and `ask_integer`. A step (`begin_x`, `resume_x`) takes a term up to the
 //! first part that is evaluated, and answers what is left to do (`Next`); what waits for that part is a `Frame`. The
-//! loop is in `stack`. What gives an integer without a frame is asked first: by items of lists (`short_items`), by
-//! operands and targets (`known`, over the other `short_` files). A frame here is one of this stack; the locals and
-//! arguments of a call are in a frame of slots (`aml_meaning`).
+//! loop is in `stack`. What is done without a frame is tried first: an item of a list by `short_items`; an operand by
+//! `known`, where it gives an integer, and an operand of an operator then by `short_values`; a target by `known`. A
+//! frame here is one of this stack; the locals and arguments of a call are in a frame of slots (`aml_meaning`).
+//!
+//! In all functions `run` is the world with the steps that are left, `act` the activation: the bytes and the position of
+//! the next one, and `levels` how deep terms may still nest. docs/ARCHITECTURE.md explains their clauses (`means`,
+//! `ends`, `falls`), docs/WORDS.md the words.
 //!
 //! `#[inline(always)]` is on the way that every term goes, `#[cold]` and `#[inline(never)]` off it: they change nothing
 //! but the time.

@@ -22,7 +22,7 @@ use aml_meaning::{Flow, Invocation, Running, WorldState};
 use aml_objects::NodeId;
 use ar_space::{Result, Space};
 
-/// A name where a value stands: what it is, with as many arguments as stand behind it.
+/// Begins a name that stands for a value: finds what it names, and uses it with the arguments behind it.
 #[tactic(auto, using(crate::proofs::Using::using_targets), unfolding(crate::specs::Follow::name_run, aml_marked::specs::Marked::a_name))]
 pub fn begin_name<S: Space>(run: &mut Running<S>, act: &mut Activation, levels: u8) -> Result<Next>
     ensures spent { run.new.1 ≤ run.old.1 }
@@ -39,7 +39,7 @@ pub fn begin_name<S: Space>(run: &mut Running<S>, act: &mut Activation, levels: 
     begin_invocation(run, act, levels, count, node, invocation)
 }
 
-/// What the name is that stands next, used with so many arguments; `node` is what it finds, where that is known.
+/// What the next name means with so many arguments; `node` is its node, where `node_at` found it.
 fn name_used<S: Space>(
     world: &WorldState<S>,
     act: &Activation,
@@ -55,7 +55,7 @@ fn name_used<S: Space>(
     }
 }
 
-/// The same of a name of several segments, or one with a prefix, or one that finds nothing.
+/// The same of a name that `node_at` doesn't find: it has several segments or a prefix, or it isn't declared.
 fn long_name_used<S: Space>(
     world: &WorldState<S>,
     act: &Activation,
@@ -69,8 +69,8 @@ fn long_name_used<S: Space>(
     }
 }
 
-/// What a name was found to be, with the arguments that stand next: how many they are, and the node of the name where
-/// it is known.
+/// Uses what a name was found to be, with the arguments that stand next: how many they are, and the node of the name
+/// where it is known. Only a control method and `\_OSI` take arguments.
 #[tactic(auto, using(crate::proofs::Using::using_targets), unfolding(aml_meaning::specs::InvocationTerms::call_rule, aml_meaning::specs::InvocationTerms::osi_rule, aml_meaning::specs::InvocationTerms::field_rule))]
 fn begin_invocation<S: Space>(
     run: &mut Running<S>,

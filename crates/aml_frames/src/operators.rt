@@ -27,7 +27,8 @@ use aml_meaning::{Flow, Held, OperatorKind, Running, reference_in};
 use aml_objects::Value;
 use ar_space::{Result, Space};
 
-/// An operator: its first operand is evaluated, or the target is found that it stands for.
+/// Begins an operator. A local or an argument gives its value; any other operator evaluates its first operand, or finds
+/// the target that this operand names (Increment, RefOf, Acquire).
 #[inline(always)]
 #[tactic(auto, using(crate::proofs::Using::operating, crate::proofs::Knowing::going_on), unfolding(aml_meaning::specs::OperatorTerms::slot_rule))]
 pub fn begin_operator<S: Space>(
@@ -102,7 +103,7 @@ pub(crate) fn begin_monadic<S: Space>(
     }
 }
 
-/// The same, where the operand isn't an integer that is there already.
+/// The same, where `known_integer` gives none: the operand's value is used at once, or a frame waits for it.
 #[inline(never)]
 #[tactic(auto, using(crate::proofs::Knowing::taking_known))]
 fn begin_monadic_value<S: Space>(
@@ -154,7 +155,7 @@ pub(crate) fn begin_dyadic<S: Space>(
     }
 }
 
-/// The same, where the first operand isn't an integer that is there already.
+/// The same, where `known_integer` gives none: the first operand's value is used at once, or a frame waits for it.
 #[inline(never)]
 #[tactic(auto, using(crate::proofs::Knowing::taking_known))]
 fn begin_dyadic_value<S: Space>(
@@ -206,7 +207,7 @@ fn begin_second<S: Space>(
     }
 }
 
-/// The same, where the operand isn't an integer that is there already.
+/// The same, where `known_integer` gives none: the operand's value is used at once, or a frame waits for it.
 #[inline(never)]
 #[tactic(auto, using(crate::proofs::Knowing::taking_known))]
 fn begin_second_value<S: Space>(
@@ -289,7 +290,7 @@ fn finish_monadic<S: Space>(
     }
 }
 
-/// The value that a target holds: that of a field is read.
+/// The value of what a reference leads to: a field is read.
 #[tactic(auto, using(crate::proofs::Using::using_targets))]
 fn give_held<S: Space>(run: &mut Running<S>, act: &Activation, held: Held) -> Result<Next>
     ensures spent { run.new.1 ≤ run.old.1 }
@@ -305,7 +306,7 @@ fn give_held<S: Space>(run: &mut Running<S>, act: &Activation, held: Held) -> Re
     }
 }
 
-/// An operator whose first operand was evaluated: the second one is.
+/// An operator whose first operand was evaluated: its second operand is next.
 #[inline(always)]
 #[tactic(auto, using(crate::proofs::Using::using_targets, crate::proofs::Knowing::going_on))]
 pub(crate) fn resume_first<S: Space>(

@@ -2,7 +2,7 @@
 //! and 20.2.3).
 //!
 //! `short_integer`, `put_integer_to_slot` and `count_slot` act at once, or change nothing: then the term is evaluated as
-//! any other is.
+//! any other is. `slot_value` does the same of a local or an argument that holds any value.
 ghost use Rattle.std.specs.Prelude.{◌≡◌, ◌≤◌, ◌<◌, ℕ, Ok, None, true, false, take, IfSome};
 ghost use Rattle.ar_space.specs.Change.{Does};
 ghost use Rattle.aml_grammar.specs.State.{little_endian};
@@ -20,7 +20,7 @@ ghost use Rattle.aml_frames.specs.Uses.{super, behind_target, target_run};
 use crate::activation::Activation;
 use aml_convert::truncate_integer;
 use aml_meaning::{Count, Running};
-use aml_objects::Slot;
+use aml_objects::{Slot, Value};
 use aml_scan::little_endian;
 use ar_space::Space;
 
@@ -113,6 +113,35 @@ pub(crate) fn short_integer<S: Space>(
     };
     run.steps -= 1;
     Some(number)
+}
+
+/// The value of the next local or argument, if it holds one. It takes a step, and evaluation goes behind the term. In
+/// every other case, also where no step or no level is left, nothing changes.
+pub(crate) fn slot_value<S: Space>(
+    run: &mut Running<S>,
+    act: &mut Activation,
+    levels: u8,
+) -> Option<Value>
+    ensures value { IfSome result (λ value. Does (Ok (flows.Value value)) run.new
+        (term_run S.accesses (meaning S.accesses) act.old levels) run.old) }
+    ensures paid { IfSome result (λ value. run.new.1 < run.old.1) }
+    ensures behind { IfSome result (λ value. act.new ≡ behind_term act.old levels) }
+    ensures none { result ≡ None → run.new ≡ run.old }
+    ensures stays { result ≡ None → act.new ≡ act.old }
+{
+    if levels == 0 || run.steps == 0 {
+        return None;
+    }
+    let Short::Slot(slot) = short_at(act.next_byte()) else {
+        return None;
+    };
+    // A slot that holds nothing is refused where its term is evaluated.
+    let Ok(value) = run.world.slot_read(slot) else {
+        return None;
+    };
+    run.steps -= 1;
+    act.advance(1);
+    Some(value)
 }
 
 /// The integer of the next bytes, the lowest first; missing ones are zero. Reads of one, two and four bytes are inlined;

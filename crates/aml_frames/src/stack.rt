@@ -382,7 +382,8 @@ fn run_in<S: Space>(
 }
 
 /// A refusal, which is handed on: what waits is given up, and each call that is being evaluated ends, up to an item
-/// of a list that is passed over. Where there is none, the trace tells the terms that were being evaluated.
+/// of a list that is passed over. Where there is none, the trace tells the terms that were being evaluated. Of a
+/// refusal for want of memory its clauses say only that no step is taken.
 #[cold]
 fn unwind<S: Space>(run: &mut Running<S>, stack: &mut Stack, refusal: Refusal) -> Result<Control>
     ensures steps { run.new.1 ≡ run.old.1 }

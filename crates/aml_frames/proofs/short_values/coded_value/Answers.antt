@@ -2,27 +2,11 @@ use Rattle.std.specs.Prelude.{◌≡◌}
 use Rattle.std.proofs.Common.{◌∙◌, ap, sym}
 use Rattle.aml_scan.specs.RowsAt.{row_at}
 use Rattle.aml_meaning.specs.declared.term_kind.DataKind.TheVariants as datas
-use Rattle.aml_meaning.specs.declared.term_kind.OperatorKind.TheVariants as operators
 use Rattle.aml_meaning.specs.declared.term_kind.TermKind.TheVariants as kinds
 use Rattle.aml_frames.specs.Operands.{row_kind}
-use Rattle.aml_frames.proofs.ShortValues.{buffer_ends, each_refusal, each_some, each_value, handed_on, slot_ends, text_ends, text_leads, text_refused}
-use Rattle.aml_frames.proofs.Stepping.{kind_there, leads_data, leads_operator}
+use Rattle.aml_frames.proofs.ShortValues.{buffer_ends, each_refusal, each_value, handed_on, text_ends, text_leads, text_refused}
+use Rattle.aml_frames.proofs.Stepping.{kind_there, leads_data}
 use Rattle.aml_frames.proofs.short_values.coded_value.Goals as goal
-
-pub returns-in-Operator-Slot-clause-value : goal.returns-in-Operator-Slot-clause-value
-returns-in-Operator-Slot-clause-value g c =
-    let kind : row_kind (row_at c.args.place) ≡ kinds.Operator (operators.Slot c.in-Operator-Slot.slot) = kind_there c.args.place c.row.result.now c.row.ensures ∙ (sym c.kind_of.ensures ∙ (c.in-Operator-Slot.is ∙ ap kinds.Operator c.in-Operator-Slot.field-0-is)) in
-    each_value _ _ c.slot_value.result (λ v l. leads_operator c.args.act.now c.args.levels (operators.Slot c.in-Operator-Slot.slot) c.args.place kind l) c.slot_value.ensures.value
-
-pub returns-in-Operator-Slot-clause-refused : goal.returns-in-Operator-Slot-clause-refused
-returns-in-Operator-Slot-clause-refused g c =
-    let kind : row_kind (row_at c.args.place) ≡ kinds.Operator (operators.Slot c.in-Operator-Slot.slot) = kind_there c.args.place c.row.result.now c.row.ensures ∙ (sym c.kind_of.ensures ∙ (c.in-Operator-Slot.is ∙ ap kinds.Operator c.in-Operator-Slot.field-0-is)) in
-    each_refusal _ _ c.slot_value.result (λ e l. leads_operator c.args.act.now c.args.levels (operators.Slot c.in-Operator-Slot.slot) c.args.place kind l) c.slot_value.ensures.refused
-
-pub returns-in-Operator-Slot-clause-behind : goal.returns-in-Operator-Slot-clause-behind
-returns-in-Operator-Slot-clause-behind g c =
-    let kind : row_kind (row_at c.args.place) ≡ kinds.Operator (operators.Slot c.in-Operator-Slot.slot) = kind_there c.args.place c.row.result.now c.row.ensures ∙ (sym c.kind_of.ensures ∙ (c.in-Operator-Slot.is ∙ ap kinds.Operator c.in-Operator-Slot.field-0-is)) in
-    each_some _ c.slot_value.result (λ v. slot_ends c.args.act.now c.args.levels c.in-Operator-Slot.slot c.args.place kind)
 
 pub returns-in_err-text-in-Data-String-clause-refused : goal.returns-in_err-text-in-Data-String-clause-refused
 returns-in_err-text-in-Data-String-clause-refused g c =

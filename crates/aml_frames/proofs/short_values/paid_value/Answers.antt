@@ -2,7 +2,7 @@ use Rattle.std.proofs.Common.{false}
 use Rattle.aml_marked.specs.Marked.{count_at}
 use Rattle.aml_frames.proofs.ShortValues.{each_refusal, each_value}
 use Rattle.aml_frames.proofs.Stepping.{leads_begun}
-use Rattle.aml_frames.proofs.short_values.begun_value.Goals as goal
+use Rattle.aml_frames.proofs.short_values.paid_value.Goals as goal
 
 pub returns-in-Some-clause-value : goal.returns-in-Some-clause-value
 returns-in-Some-clause-value g c =
