@@ -55,6 +55,10 @@ WAITING = ("Monadic", "Dyadic", "TargetUse", "DeclarationPart")
 # What is evaluated without an opcode of its own: its definitions and its functions, each behind its file. Those without a crate are of
 # aml_frames.
 WITHOUT_OPCODE = [
+    ("How an item of a list begins, and any other term", "Meaning: step_and_rule",
+     "lists: step_items; short_opcodes: take_operator; short_items: try_operator; terms: begin_term begin_coded; operators: begin_operator"),
+    ("An operand of an operator that is a local, an argument, a string or a buffer, where it is done at once", "Tasks: operand_value",
+     "short_values: short_value coded_value; short_terms: slot_value"),
     ("A name where a value stands, and a call of a control method",
      "InvocationTerms: name_value call_rule; Invocations: invoked",
      "names: begin_name; calls: begin_call enter; stack: run_in end_call"),
@@ -111,9 +115,9 @@ TAIL = """
 
 A name stands for itself, and targets, stores and accesses of fields are parts of many terms. What an integer is that such a part gives or
 takes at once is in `short_names` and `short_terms`; an operator over such integers is in `short_operations`, where an operand, a
-predicate or a Return asks for its integer, and in `short_items`, where an item of a list stores to a local or an argument. Operands that
-are locals, arguments, strings, or buffers whose size is a short term are in `short_values`. The functions of `aml_interp` do the same for
-a caller that reads a field from outside.
+predicate or a Return asks for its integer, and in `short_items`, where an item of a list stores to a local or an argument. An operand of an
+operator that is a local, an argument, a string or a buffer goes by `short_values` first, and by the code in its row where that doesn't
+answer. The functions of `aml_interp` do the same for a caller that reads a field from outside.
 
 | What | Definition | Code |
 |---|---|---|

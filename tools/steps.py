@@ -36,6 +36,15 @@ class Sources:
                 self.functions[file, name] = body
                 if STEP.search(f"{head}\n") and file not in (*LOOPS, TYPES):
                     self.steps[file, name] = body
+        self.join_values()
+
+    def join_values(self):
+        """Takes a step `x_value`, which `x` leaves an operand to that is no integer, as a part of `x`: no step of its own."""
+        for file, name in [it for it in self.steps if it[1].endswith("_value")]:
+            whole = file, name.removesuffix("_value")
+            if whole in self.steps:
+                self.steps[whole] += self.steps.pop((file, name))
+                self.functions[whole] = self.steps[whole]
 
     def callee(self, file, name):
         """The function that a name stands for in a file: its own, or the one of another file; None where there is none."""
