@@ -53,8 +53,7 @@ fn machine_answer(
     settings: &Settings,
     question: Question<'_>,
 ) -> Outcome
-    ensures { NotMemory result.0 →
-        Leaves (λ after. machine_answer recorded settings.now question.entry.path.now
+    ensures { NotMemory result.0 → Leaves (λ after. machine_answer recorded settings.now question.entry.path.now
         (map given_of question.entry.arguments.items) machine ≡ (seen given_of result.0, after)) result.1 }
 {
     let mut machine = machine;
@@ -73,8 +72,7 @@ fn answer_over(
     question: Question<'_>,
     space: Recorded,
 ) -> Outcome
-    ensures { NotMemory result.0 →
-        Leaves (λ after. answer_over recorded settings.now question.entry.path.now
+    ensures { NotMemory result.0 → Leaves (λ after. answer_over recorded settings.now question.entry.path.now
         (map given_of question.entry.arguments.items) (description.0, description.1.items) space ≡
         (seen given_of result.0, after)) result.1 }
 {
@@ -100,8 +98,7 @@ fn evaluation(
     question: Question<'_>,
     space: Recorded,
 ) -> Outcome
-    ensures { NotMemory result.0 →
-        Leaves (λ after. evaluation recorded settings.now question.entry.path.now
+    ensures { NotMemory result.0 → Leaves (λ after. evaluation recorded settings.now question.entry.path.now
         (map given_of question.entry.arguments.items) (seen (λ d. (d.0, d.1.items)) described) space ≡
         (seen given_of result.0, after)) result.1 }
 {
