@@ -6,11 +6,11 @@ use Rattle.aml_grammar.specs.Grammar.{reading_within}
 use Rattle.aml_marked.specs.Marked.{trees_by}
 use Rattle.aml_meaning.specs.declared.known_names.ScannedBody.{ScannedBody}
 
--- by its marks the bytes read as the grammar reads them, within the levels of the scan, with the arguments that names take now
-abbrev pub IsScanned : List Arity → ScannedBody → Type 0
-IsScanned arities b = reading_within b.levels b.body b.path true arities ≡ Ok (trees_by b.marks b.body)
+-- by its marks the bytes of the control method at a path read as the grammar reads them, within the levels of the scan, with the arguments that names take now
+abbrev pub IsScanned : List Arity → List Seg → ScannedBody → Type 0
+IsScanned arities path b = reading_within b.levels b.body path true arities ≡ Ok (trees_by b.marks b.body)
 
 -- so it is of each that is kept
 unfoldable pub AreKept : List Arity → List (List Seg × ScannedBody) → Type 0
 AreKept arities [] = ⊤
-AreKept arities (e ∷ es) = IsScanned arities e.1 × AreKept arities es
+AreKept arities (e ∷ es) = IsScanned arities e.0 e.1 × AreKept arities es

@@ -63,7 +63,7 @@ impl Declarations {
         match self.kept.get(path) {
             None => None,
             Some(kept) => {
-                if kept.is_within(levels, path, body) {
+                if kept.is_within(levels, body) {
                     Some(&kept.marks)
                 } else {
                     None
@@ -86,7 +86,7 @@ impl Declarations {
         ensures unchanged { self.new ≡ self.old }
         ensures memory { IsOkUnless result OutOfMemory }
     {
-        let scanned = ScannedBody::shared(alloc, levels, path, body, marks)?;
+        let scanned = ScannedBody::shared(levels, body, marks)?;
         let path = path.copy(alloc)?;
         drop(self.kept.insert(path, scanned)?);
         Ok(())
@@ -94,44 +94,27 @@ impl Declarations {
 }
 
 impl ScannedBody {
-    /// What is kept of a scan: a copy of the path, and shares of the body and of its marks.
-    fn shared(
-        alloc: Global,
-        levels: usize,
-        path: &Path,
-        body: &Body,
-        marks: &Marks,
-    ) -> Result<ScannedBody>
+    /// What is kept of a scan: shares of the body and of its marks. It takes no memory.
+    fn shared(levels: usize, body: &Body, marks: &Marks) -> Result<ScannedBody>
         ensures { Answers result (Ok (record {
-          path = path.now;
           body = body.now;
           levels = levels;
           marks = marks.now;
         })) }
     {
         Ok(ScannedBody {
-            path: path.copy(alloc)?,
             body: body.share()?,
             levels,
             marks: marks.share()?,
         })
     }
 
-    /// Whether this is the body of the control method at a path, scanned within so many levels.
-    fn is_within(&self, levels: usize, path: &Path, body: &Body) -> bool
+    /// Whether this is the body of a control method, scanned within so many levels. The bytes are compared, since
+    /// another table may have told of a method at the same path before.
+    fn is_within(&self, levels: usize, body: &Body) -> bool
         ensures levels { result ≡ true → self.now.levels ≡ levels }
-        ensures path { result ≡ true → self.now.path ≡ path.now }
         ensures body { result ≡ true → self.now.body ≡ body.now }
     {
-        self.levels == levels && self.is_of(path, body)
-    }
-
-    /// Whether this is the body of the control method at a path. The bytes are compared, since another table may have
-    /// told of a method at the same path before.
-    fn is_of(&self, path: &Path, body: &Body) -> bool
-        ensures path { result ≡ true → self.now.path ≡ path.now }
-        ensures body { result ≡ true → self.now.body ≡ body.now }
-    {
-        self.path == *path && self.body.as_slice() == body.as_slice()
+        self.levels == levels && self.body.as_slice() == body.as_slice()
     }
 }

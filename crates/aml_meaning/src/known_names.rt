@@ -21,11 +21,10 @@ use std::collections::BTreeMap;
 use std::marker::Model;
 use std::mem;
 
-/// The body of a control method that was scanned: the path of the method, a share of its bytes, the levels that were
-/// allowed, and the marks that the scan left.
+/// The body of a control method that was scanned: a share of its bytes, the levels that were allowed, and the marks that
+/// the scan left.
 #[derive(Drop)]
 pub(crate) struct ScannedBody {
-    pub(crate) path: Path,
     pub(crate) body: Body,
     pub(crate) levels: usize,
     pub(crate) marks: Marks,

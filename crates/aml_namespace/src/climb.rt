@@ -31,15 +31,13 @@ impl Names {
         ensures parent { (f : List Seg × Entry) → numbered id.number self.now.map ≡ Some f →
             MatchOption result (f.0 ≡ []) (λ above. IsParent self.now.map f.0 above.0.number above.1) }
     {
-        match self.nodes.get(id) {
+        let nodes = &self.nodes;
+        if id.number == 0 {
+            return None;
+        }
+        match nodes.get(id) {
             None => None,
-            Some(node) => {
-                if id.number == 0 {
-                    None
-                } else {
-                    Some((node.parent, node.segment))
-                }
-            }
+            Some(node) => Some((node.parent, node.segment)),
         }
     }
 
