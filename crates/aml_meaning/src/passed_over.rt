@@ -4,7 +4,7 @@ ghost use Rattle.std.specs.Prelude.{◌≡◌, OnOk};
 ghost use Rattle.ar_space.specs.Change.{Does};
 ghost use Rattle.aml_meaning.specs.PassedOver.{nothing_passed, is_passable, is_passable_field, kept_with};
 ghost use Rattle.aml_meaning.specs.PassedOver.{is_passable_evaluation, counted_on};
-ghost use Rattle.aml_meaning.specs.Passing.{noted, passed_noted, passed_over};
+ghost use Rattle.aml_meaning.specs.Passing.{noted, passed_over};
 
 use crate::world_state::WorldState;
 use aml_path::Path;
@@ -159,13 +159,6 @@ impl<S> WorldState<S> {
             return Err(refusal);
         }
         self.forget_trace();
-        self.note_passed(scope, refusal)
-    }
-
-    #[tactic(auto, using(crate::proofs::Lifted::passing))]
-    fn note_passed(&mut self, scope: &Path, refusal: Refusal) -> Result<()>
-        ensures { Does result self.new (passed_noted scope.now refusal) self.old }
-    {
         self.passed.note(self.alloc, scope, refusal)
     }
 }
