@@ -2,7 +2,7 @@
 ghost use Rattle.std.specs.Prelude.{◌≡◌, [], map};
 ghost use Rattle.ar_space.specs.Change.{Does};
 ghost use Rattle.ar_space.specs.Outcome.{Answers, seen};
-ghost use Rattle.aml_objects.specs.Objects.{make_string, make_buffer, make_package};
+ghost use Rattle.aml_objects.specs.Objects.{make_string, make_buffer};
 ghost use Rattle.aml_meaning.specs.State.{on_objects};
 ghost use Rattle.aml_meaning.specs.Given.{given_of, givens};
 ghost use Rattle.aml_meaning.specs.Readings.{absolute};
@@ -83,15 +83,6 @@ impl<S> WorldState<S> {
             Err(refusal) => Err(refusal),
         }
     }
-
-    /// A new package of these elements, in a draft.
-    #[tactic(auto, using(crate::proofs::Imports::importing))]
-    fn draft_package(&self, draft: &mut Draft, elements: Elements) -> Result<Value>
-        ensures { Does result (drafted self.now draft.new) (on_objects (make_package elements))
-            (drafted self.now draft.old) }
-    {
-        draft.make_package(&self.heap, elements)
-    }
 }
 
 /// A path, as a name that stands for it anywhere.
@@ -142,7 +133,7 @@ fn import_package<S>(
 }
 
 #[cycle(importing)]
-#[tactic(auto, using(ar_space::proofs::Changes::changing), unfolding(crate::specs::Importing::elements_imported))]
+#[tactic(auto, using(crate::proofs::Imports::importing), unfolding(crate::specs::Importing::elements_imported))]
 fn import_elements<S>(
     world: &WorldState<S>,
     draft: &mut Draft,
@@ -153,7 +144,7 @@ fn import_elements<S>(
         (givens (map given_of list.now))) (drafted world.now draft.old) }
 {
     let elements = import_each(world, draft, levels, list)?;
-    world.draft_package(draft, elements)
+    draft.make_package(&world.heap, elements)
 }
 
 #[cycle(importing)]
