@@ -141,7 +141,7 @@ impl<S> WorldState<S> {
         ensures memory { NotMemory result }
     {
         let index = self.integer_in(index)?;
-        let count = self.size_held(Value::Package(object))?;
+        let count = self.size_of_value(Value::Package(object))?;
         below(count, index, Reference::Element(object, index as usize))
     }
 
@@ -151,17 +151,8 @@ impl<S> WorldState<S> {
         ensures memory { NotMemory result }
     {
         let index = self.integer_in(index)?;
-        let count = self.size_held(source)?;
+        let count = self.size_of_value(source)?;
         below(count, index, Reference::Byte(object, index as usize))
-    }
-
-    /// How many bytes or elements a value has.
-    #[tactic(auto, unfolding(crate::specs::Operations::size_held))]
-    pub(crate) fn size_held(&self, value: Value) -> Result<u64>
-        ensures answer { Does result self.now (size_held value) self.now }
-        ensures memory { NotMemory result }
-    {
-        self.size_of_value(value)
     }
 
     #[tactic(auto, using(crate::proofs::IntegerOperations::operating), unfolding(crate::specs::Operations::operated))]
@@ -351,8 +342,11 @@ impl<S> WorldState<S> {
         }
     }
 
-    fn size_of_value(&self, value: Value) -> Result<u64>
-        ensures answer { result ≡ size_of_value self.now.objects value }
+    /// How many bytes or elements a value has.
+    #[tactic(auto, unfolding(crate::specs::Operations::size_held))]
+    pub(crate) fn size_of_value(&self, value: Value) -> Result<u64>
+        ensures answer { Does result self.now (size_held value) self.now }
+        ensures value { result ≡ size_of_value self.now.objects value }
         ensures memory { NotMemory result }
     {
         match value {

@@ -64,7 +64,7 @@ impl<S> WorldState<S> {
         let one = test_of(first.0, first.1)?;
         let other = test_of(second.0, second.1)?;
         let index = self.integer_in(start)?;
-        let count = self.size_held(Value::Package(object))?;
+        let count = self.size_of_value(Value::Package(object))?;
         let search = Search {
             source: object,
             count: count as usize,
