@@ -5,7 +5,7 @@ ghost use Rattle.aml_path.specs.Segments.{seg_of};
 ghost use Rattle.aml_objects.specs.Objects.{make_string};
 ghost use Rattle.aml_meaning.specs.State.{on_objects};
 ghost use Rattle.ar_space.specs.Change.{Does};
-ghost use Rattle.aml_meaning.specs.Predefined.{at_root, predefined, predefined_objects, predefined_scopes, takes};
+ghost use Rattle.aml_meaning.specs.Predefined.{at_root, predefined, predefined_objects, predefined_scopes};
 
 use crate::world_state::WorldState;
 use aml_objects::{Method, MethodBody, MethodFlags, NamedObject, Octets, Value};
@@ -53,7 +53,7 @@ impl<S> WorldState<S> {
     }
 
     /// A name at the root, given by its four characters, and how many arguments it takes.
-    #[tactic(auto, using(ar_space::proofs::Changes::changing), unfolding(crate::specs::Predefined::at_root))]
+    #[tactic(auto, using(ar_space::proofs::Changes::changing), unfolding(crate::specs::Predefined::at_root, crate::specs::Predefined::takes))]
     fn at_root(&mut self, name: [u8; 4], object: NamedObject, count: u8) -> Result<()>
         ensures world { Does result self.new (at_root name object count) self.old }
         ensures space { self.new.space ≡ self.old.space }
@@ -62,15 +62,6 @@ impl<S> WorldState<S> {
         let path = below_root(self.alloc, segment)?;
         self.declare(path, object)?;
         let path = below_root(self.alloc, segment)?;
-        self.takes(path, count)
-    }
-
-    /// A path takes so many arguments from now on.
-    #[tactic(auto, unfolding(crate::specs::Predefined::takes))]
-    fn takes(&mut self, path: Path, count: u8) -> Result<()>
-        ensures world { Does result self.new (takes path count) self.old }
-        ensures space { self.new.space ≡ self.old.space }
-    {
         self.declarations.add_arity(path, count)
     }
 
