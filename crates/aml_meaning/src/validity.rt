@@ -2,25 +2,30 @@
 ghost use Rattle.std.specs.Prelude.{◌≡◌, nat_lt, length};
 ghost use Rattle.aml_meaning.specs.Validity.{is_object, is_valid_reference, is_valid_value};
 
+use crate::world::World;
 use crate::world_state::WorldState;
 use aml_objects::{Reference, Value};
 
-impl<S> WorldState<S> {
-    /// Whether each object, declaration and frame that a value names was given its number by this world. It takes no
-    /// memory.
-    pub(crate) fn is_valid(&self, value: &Value) -> bool
+impl<S> World<S> {
+    /// Whether a value is one of this world: each object, declaration and frame that it names was given its number by
+    /// this world, though a declaration or a frame may have ended since. Neither the elements of a package are looked
+    /// at, nor whether an object is of the value's kind. It takes no memory.
+    pub fn is_valid(&self, value: &Value) -> bool
         ensures { result ≡ is_valid_value self.now value.now }
     {
+        let state = &self.running.world;
         match *value {
             Value::Uninitialized => true,
             Value::Integer(_) => true,
-            Value::String(object) => self.has_object(object),
-            Value::Buffer(object) => self.has_object(object),
-            Value::Package(object) => self.has_object(object),
-            Value::Reference(reference) => self.is_valid_reference(reference),
+            Value::String(object) => state.has_object(object),
+            Value::Buffer(object) => state.has_object(object),
+            Value::Package(object) => state.has_object(object),
+            Value::Reference(reference) => state.is_valid_reference(reference),
         }
     }
+}
 
+impl<S> WorldState<S> {
     fn is_valid_reference(&self, reference: Reference) -> bool
         ensures { result ≡ is_valid_reference self.now reference }
     {

@@ -4,7 +4,6 @@ ghost use Rattle.ar_space.specs.declared.refusal.Refusal.TheVariants.{OutOfMemor
 ghost use Rattle.ar_space.specs.Change.{Does};
 ghost use Rattle.aml_meaning.specs.Passing.{passed_over};
 ghost use Rattle.aml_meaning.specs.Predefined.{fresh, fresh_as, predefined};
-ghost use Rattle.aml_meaning.specs.Validity.{is_valid_value};
 
 use crate::passed_over::PassedOver;
 use crate::profile::Profile;
@@ -13,7 +12,7 @@ use crate::settings::{EvaluationSettings, Nesting};
 use crate::trace::Trace;
 use crate::world_state::WorldState;
 use aml_namespace::Names;
-use aml_objects::{Octets, Value};
+use aml_objects::Octets;
 use aml_path::Path;
 use ar_space::{IntegerWidth, Refusal, Result};
 use std::alloc::Global;
@@ -160,14 +159,5 @@ impl<S> World<S> {
         ensures { result.now ≡ self.now.space }
     {
         &self.running.world.space
-    }
-
-    /// Whether a value is one of this world: each object, declaration and frame that it names was given its number by
-    /// this world, though a declaration or a frame may have ended since. Neither the elements of a package are looked
-    /// at, nor whether an object is of the value's kind. It takes no memory.
-    pub fn is_valid(&self, value: &Value) -> bool
-        ensures { result ≡ is_valid_value self.now value.now }
-    {
-        self.running.world.is_valid(value)
     }
 }
