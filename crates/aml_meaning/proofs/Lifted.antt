@@ -1,10 +1,11 @@
 -- A change of a part of the world is a change of the world.
-use Rattle.std.specs.Prelude.{◌≡◌, ℕ, List, Bool, true, false, Err}
-use Rattle.std.proofs.Common.{ap, refl, sym, ◌∙◌}
+use Rattle.std.specs.Prelude.{◌≡◌, ℕ, List, Bool, true, false, Ok, Err, IsErr, IsErrAnd}
+use Rattle.std.proofs.Common.{ap, refl, subst, sym, ◌∙◌}
 use Rattle.ar_space.specs.declared.integer_width.IntegerWidth.{IntegerWidth}
 use Rattle.ar_space.specs.Outcome.{Outcome}
 use Rattle.ar_space.specs.declared.refusal.Refusal.{Refusal}
-use Rattle.ar_space.specs.Change.{Change, Does}
+use Rattle.ar_space.specs.Change.{Change, Does, ◌>>=◌}
+use Rattle.ar_space.proofs.Changes.{does_ok, does_err, changing}
 use Rattle.aml_path.specs.declared.segment.Seg.{Seg}
 use Rattle.aml_grammar.specs.declared.arities.Arity.{Arity}
 use Rattle.aml_objects.specs.Objects.{Objects}
@@ -43,6 +44,24 @@ module _ {S A : Type 0} {r : Outcome A} where
     is = λ ne.
         rw (← e) (ap (λ (x : Outcome A × Known). (x.0, record { names = x.1.names; arities = x.1.arities; objects = o; frames = f; started = s; space = p; osi = i; width = d; profile = g; nesting = z; passed = q })) (h.is ne));
   }
+
+-- what is read of the objects
+pub objects_seen : {S A : Type 0} {r : Outcome A} (o : Objects) (m : Change Objects A) (w : State S) → Does r o m o → o ≡ w.objects → Does r w (on_objects m) w
+unfolding on_objects
+objects_seen {r = r} o m w h is = record {
+  is = λ ne.
+      let here : m w.objects ≡ (r, w.objects) = subst (λ (x : Objects). m x ≡ (r, x)) is (h.is ne) in
+      rw here refl;
+}
+
+pub seen_ok : {S A B : Type 0} {a : A} {r : Outcome B} {w w1 : State S} (o : Objects) (m : Change Objects A) (k : A → Change (State S) B) → Does (Ok a) o m o → o ≡ w.objects → Does r w1 (k a) w → Does r w1 (on_objects m >>= k) w
+seen_ok {w = w} o m k h is i = does_ok (on_objects m) k (objects_seen o m w h is) i
+
+pub seen_err : {S A B : Type 0} {e : Refusal} {r : Outcome B} {w : State S} (o : Objects) (m : Change Objects A) (k : A → Change (State S) B) → Does {A = A} (Err e) o m o → o ≡ w.objects → IsErr r × IsErrAnd r (λ x. x ≡ e) → Does r w (on_objects m >>= k) w
+seen_err {w = w} o m k h is i = does_err (on_objects m) k (objects_seen o m w h is) i
+
+-- these close a chain of `?` that reads objects
+pub ruleset reading = (changing, objects_seen, seen_ok, seen_err)
 
 pub ruleset parts = (objects_changed, objects_read, known_changed, space_changed)
 

@@ -24,7 +24,7 @@ use ar_space::{EvaluationFault, NamespaceFault, Refusal, Result, ValueFault};
 impl<S> WorldState<S> {
     /// Tests that what a reference refers to still stands: the name, the frame, the element or the byte. Refused as
     /// `DeadReference`.
-    #[tactic(auto, using(ar_space::proofs::Changes::changing))]
+    #[tactic(auto, using(crate::proofs::Lifted::reading))]
     pub fn test_reference(&self, reference: Reference) -> Result<()>
         ensures answer { Does result self.now (tested reference) self.now }
         ensures memory { NotMemory result }
@@ -32,7 +32,7 @@ impl<S> WorldState<S> {
         match reference {
             Reference::Name(number) => self.test_name(number),
             Reference::Slot(_, number) => self.test_frame(number),
-            Reference::Element(object, index) => self.element_there(object, index),
+            Reference::Element(object, index) => self.objects().element_there(object, index),
             Reference::Byte(object, index) => self.test_byte(object, index),
         }
     }
@@ -55,12 +55,12 @@ impl<S> WorldState<S> {
         Ok(())
     }
 
-    #[tactic(auto, using(ar_space::proofs::Changes::changing), unfolding(crate::specs::StoreTargets::byte_tested))]
+    #[tactic(auto, using(crate::proofs::Lifted::reading), unfolding(crate::specs::StoreTargets::byte_tested))]
     fn test_byte(&self, object: u32, index: usize) -> Result<()>
         ensures answer { Does result self.now (byte_tested object index) self.now }
         ensures memory { NotMemory result }
     {
-        self.byte(object, index)?;
+        self.objects().byte(object, index)?;
         Ok(())
     }
 
@@ -108,12 +108,12 @@ impl<S> WorldState<S> {
         self.value_once(value)
     }
 
-    #[tactic(auto, using(ar_space::proofs::Changes::changing), unfolding(crate::specs::StoreTargets::held_once))]
+    #[tactic(auto, using(crate::proofs::Lifted::reading), unfolding(crate::specs::StoreTargets::held_once))]
     fn held_once(&self, object: u32, index: usize) -> Result<Held>
         ensures answer { Does result self.now (held_once object index) self.now }
         ensures memory { NotMemory result }
     {
-        let element = self.element(object, index)?;
+        let element = self.objects().element(object, index)?;
         self.element_once(element)
     }
 
@@ -137,12 +137,12 @@ impl<S> WorldState<S> {
         Ok(named_once(entry.number, &entry.object))
     }
 
-    #[tactic(auto, using(ar_space::proofs::Changes::changing), unfolding(crate::specs::StoreTargets::byte_once))]
+    #[tactic(auto, using(crate::proofs::Lifted::reading), unfolding(crate::specs::StoreTargets::byte_once))]
     fn byte_once(&self, object: u32, index: usize) -> Result<Held>
         ensures answer { Does result self.now (byte_once object index) self.now }
         ensures memory { NotMemory result }
     {
-        let byte = self.byte(object, index)?;
+        let byte = self.objects().byte(object, index)?;
         Ok(Held::Value(Value::Integer(u64::from(byte))))
     }
 
@@ -228,12 +228,12 @@ impl<S> WorldState<S> {
         Ok(unless_empty(value, Reference::Slot(slot, number)))
     }
 
-    #[tactic(auto, using(ar_space::proofs::Changes::changing), unfolding(crate::specs::StoreTargets::element_initialized))]
+    #[tactic(auto, using(crate::proofs::Lifted::reading), unfolding(crate::specs::StoreTargets::element_initialized))]
     fn element_initialized(&self, object: u32, index: usize) -> Result<Option<Reference>>
         ensures answer { Does result self.now (element_initialized object index) self.now }
         ensures memory { NotMemory result }
     {
-        let element = self.element(object, index)?;
+        let element = self.objects().element(object, index)?;
         Ok(unless_empty_element(element, Reference::Element(object, index)))
     }
 

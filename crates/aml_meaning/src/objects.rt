@@ -1,19 +1,26 @@
 //! Objects of the world: made, read and copied (ACPI 6.5, 19.3.5).
 ghost use Rattle.std.specs.Prelude.{◌≡◌};
 ghost use Rattle.ar_space.specs.Change.{Does};
-ghost use Rattle.ar_space.specs.Outcome.{NotMemory, seen};
+ghost use Rattle.ar_space.specs.Outcome.{NotMemory};
 ghost use Rattle.aml_objects.specs.Contents.{content_of, content_in};
 ghost use Rattle.aml_objects.specs.Copies.{copied};
 ghost use Rattle.aml_objects.specs.Objects.{make_string, make_buffer, make_package, string_at, buffer_at, elements_at};
-ghost use Rattle.aml_objects.specs.Objects.{element_at, element_there, byte_at, write_buffer, write_string};
+ghost use Rattle.aml_objects.specs.Objects.{write_buffer, write_string};
 ghost use Rattle.aml_objects.specs.Objects.{write_element, write_byte};
 ghost use Rattle.aml_meaning.specs.State.{on_objects};
 
 use crate::world_state::WorldState;
-use aml_objects::{Content, Element, Elements, Octets, Value};
+use aml_objects::{Content, Element, Elements, Heap, Octets, Value};
 use ar_space::Result;
 
 impl<S> WorldState<S> {
+    /// The objects, to be read.
+    pub fn objects(&self) -> &Heap
+        ensures { result.now ≡ self.now.objects }
+    {
+        &self.heap
+    }
+
     /// What a value holds. It takes no memory.
     pub fn content(&self, value: Value) -> Content<'_>
         ensures { content_of result ≡ content_in self.now.objects value }
@@ -95,34 +102,6 @@ impl<S> WorldState<S> {
         ensures memory { NotMemory result }
     {
         self.heap.write_string(object, bytes)
-    }
-
-    /// An element of a package; past its end, and of another kind of object, this is refused as `DeadReference`.
-    #[tactic(auto, using(crate::proofs::Lifted::parts))]
-    pub(crate) fn element(&self, object: u32, index: usize) -> Result<&Element>
-        ensures answer { Does (seen (λ e. e.now) result) self.now (on_objects (element_at object index)) self.now }
-        ensures memory { NotMemory result }
-    {
-        self.heap.element(object, index)
-    }
-
-    /// A byte of a string or a buffer; past its end this is refused as `DeadReference`.
-    #[tactic(auto, using(crate::proofs::Lifted::parts))]
-    pub(crate) fn byte(&self, object: u32, index: usize) -> Result<u8>
-        ensures answer { Does result self.now (on_objects (byte_at object index)) self.now }
-        ensures memory { NotMemory result }
-    {
-        self.heap.byte(object, index)
-    }
-
-    /// Tests that a package has an element there; past its end, and of another kind of object, this is refused as
-    /// `DeadReference`.
-    #[tactic(auto, using(crate::proofs::Lifted::parts))]
-    pub(crate) fn element_there(&self, object: u32, index: usize) -> Result<()>
-        ensures answer { Does result self.now (on_objects (element_there object index)) self.now }
-        ensures memory { NotMemory result }
-    {
-        self.heap.element_there(object, index)
     }
 
     /// Puts an element in place of one of a package.

@@ -187,7 +187,7 @@ fn slot_followed<S>(
 }
 
 #[cycle(following)]
-#[tactic(auto, using(ar_space::proofs::Changes::changing), unfolding(crate::specs::StoreTargets::held_followed))]
+#[tactic(auto, using(crate::proofs::Lifted::reading), unfolding(crate::specs::StoreTargets::held_followed))]
 fn held_followed<S>(
     world: &WorldState<S>,
     levels: usize,
@@ -197,7 +197,7 @@ fn held_followed<S>(
     ensures answer { Does result world.now (held_followed (followed levels) object index) world.now }
     ensures memory { NotMemory result }
 {
-    let element = world.element(object, index)?;
+    let element = world.objects().element(object, index)?;
     element_followed(world, levels, element)
 }
 
@@ -249,11 +249,11 @@ fn element_named<S>(
     }
 }
 
-#[tactic(auto, using(ar_space::proofs::Changes::changing), unfolding(crate::specs::StoreTargets::byte_followed))]
+#[tactic(auto, using(crate::proofs::Lifted::reading), unfolding(crate::specs::StoreTargets::byte_followed))]
 fn byte_followed<S>(world: &WorldState<S>, object: u32, index: usize) -> Result<Referent>
     ensures answer { Does result world.now (byte_followed object index) world.now }
     ensures memory { NotMemory result }
 {
-    world.byte(object, index)?;
+    world.objects().byte(object, index)?;
     Ok(Referent::Object(ObjectType::BufferField))
 }

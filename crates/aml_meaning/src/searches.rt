@@ -76,12 +76,12 @@ impl<S> WorldState<S> {
 
     /// What the element of a package at an index holds: a value, or a field that is read next; nothing where it is
     /// uninitialized, or a name that isn't found.
-    #[tactic(auto, using(ar_space::proofs::Changes::changing), unfolding(crate::specs::MatchTerms::element_held))]
+    #[tactic(auto, using(crate::proofs::Lifted::reading), unfolding(crate::specs::MatchTerms::element_held))]
     pub fn element_held(&self, object: u32, index: usize) -> Result<Option<Held>>
         ensures answer { Does result self.now (element_held object index) self.now }
         ensures memory { NotMemory result }
     {
-        let element = self.element(object, index)?;
+        let element = self.objects().element(object, index)?;
         self.held_by(element)
     }
 
