@@ -4,8 +4,8 @@ use Rattle.std.proofs.Common.{ap, refl, subst, sym, ◌∙◌}
 use Rattle.ar_space.specs.declared.integer_width.IntegerWidth.{IntegerWidth}
 use Rattle.ar_space.specs.Outcome.{Outcome}
 use Rattle.ar_space.specs.declared.refusal.Refusal.{Refusal}
-use Rattle.ar_space.specs.Change.{Change, Does, ◌>>=◌}
-use Rattle.ar_space.proofs.Changes.{does_ok, does_err, changing}
+use Rattle.ar_space.specs.Change.{Change, Does, give, ◌>>=◌}
+use Rattle.ar_space.proofs.Changes.{does_ok, does_err, does_give, changing}
 use Rattle.aml_path.specs.declared.segment.Seg.{Seg}
 use Rattle.aml_grammar.specs.declared.arities.Arity.{Arity}
 use Rattle.aml_objects.specs.Objects.{Objects}
@@ -62,6 +62,22 @@ seen_err {w = w} o m k h is i = does_err (on_objects m) k (objects_seen o m w h 
 
 -- these close a chain of `?` that reads objects
 pub ruleset reading = (changing, objects_seen, seen_ok, seen_err)
+
+-- the same, where objects are written last
+given : {S A : Type 0} {x : A} {s : S} {m : Change S A} → m ≡ give x → Does (Ok x) s m s
+given e = rw e does_give
+
+module _ {S A B : Type 0} (n : Namespace) (a : List Arity) (o o1 : Objects) (f : List Frame) (s : ℕ) (p : S) (i : List (List ℕ)) (d : IntegerWidth) (g : Profile) (z : Nesting) (q : PassedOver) (m : Change Objects A) (k : A → Change (State S) B) (w : State S) where
+  pub written_last : {x : A} {y : B} → Does (Ok x) o1 m o → record { names = n; arities = a; objects = o; frames = f; started = s; space = p; osi = i; width = d; profile = g; nesting = z; passed = q } ≡ w → k x ≡ give y
+      → Does (Ok y) (record { names = n; arities = a; objects = o1; frames = f; started = s; space = p; osi = i; width = d; profile = g; nesting = z; passed = q }) (on_objects m >>= k) w
+  written_last h e t = does_ok (on_objects m) k (objects_changed n a o o1 f s p i d g z q m w e h) (given t)
+
+  pub written_err : {x : Refusal} {r : Outcome B} → Does {A = A} (Err x) o1 m o → record { names = n; arities = a; objects = o; frames = f; started = s; space = p; osi = i; width = d; profile = g; nesting = z; passed = q } ≡ w → IsErr r × IsErrAnd r (λ y. y ≡ x)
+      → Does r (record { names = n; arities = a; objects = o1; frames = f; started = s; space = p; osi = i; width = d; profile = g; nesting = z; passed = q }) (on_objects m >>= k) w
+  written_err h e t = does_err (on_objects m) k (objects_changed n a o o1 f s p i d g z q m w e h) t
+
+-- these close a chain of `?` that writes objects at its end
+pub ruleset writing = (reading, written_last, written_err)
 
 pub ruleset parts = (objects_changed, objects_read, known_changed, space_changed)
 

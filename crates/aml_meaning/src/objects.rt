@@ -6,11 +6,10 @@ ghost use Rattle.aml_objects.specs.Contents.{content_of, content_in};
 ghost use Rattle.aml_objects.specs.Copies.{copied};
 ghost use Rattle.aml_objects.specs.Objects.{make_string, make_buffer, make_package, string_at, buffer_at, elements_at};
 ghost use Rattle.aml_objects.specs.Objects.{write_buffer, write_string};
-ghost use Rattle.aml_objects.specs.Objects.{write_element, write_byte};
 ghost use Rattle.aml_meaning.specs.State.{on_objects};
 
 use crate::world_state::WorldState;
-use aml_objects::{Content, Element, Elements, Heap, Octets, Value};
+use aml_objects::{Content, Elements, Heap, Octets, Value};
 use ar_space::Result;
 
 impl<S> WorldState<S> {
@@ -102,28 +101,5 @@ impl<S> WorldState<S> {
         ensures memory { NotMemory result }
     {
         self.heap.write_string(object, bytes)
-    }
-
-    /// Puts an element in place of one of a package.
-    #[tactic(auto, using(crate::proofs::Lifted::parts))]
-    pub(crate) fn write_element(
-        &mut self,
-        object: u32,
-        index: usize,
-        element: Element,
-    ) -> Result<()>
-        ensures change { Does result self.new (on_objects (write_element object index element)) self.old }
-        ensures memory { NotMemory result }
-    {
-        self.heap.write_element(object, index, element)
-    }
-
-    /// Puts a byte in place of one of a string or a buffer.
-    #[tactic(auto, using(crate::proofs::Lifted::parts))]
-    pub(crate) fn write_byte(&mut self, object: u32, index: usize, byte: u8) -> Result<()>
-        ensures change { Does result self.new (on_objects (write_byte object index byte)) self.old }
-        ensures memory { NotMemory result }
-    {
-        self.heap.write_byte(object, index, byte)
     }
 }

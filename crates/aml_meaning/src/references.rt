@@ -115,24 +115,25 @@ impl<S> WorldState<S> {
         self.copy_over(held, &path, value)
     }
 
-    #[tactic(auto, using(crate::proofs::Lifted::reading), unfolding(crate::specs::Stores::copy_into_element))]
+    #[tactic(auto, using(crate::proofs::Lifted::writing), unfolding(crate::specs::Stores::copy_into_element))]
     fn copy_into_element(&mut self, object: u32, index: usize, value: Value) -> Result<Stored>
         ensures { Does result self.new (copy_into_element object index value) self.old }
     {
         self.objects().element_there(object, index)?;
         let copy = self.copy(value)?;
-        self.write_element(object, index, Element::Value(copy))?;
+        self.heap
+            .write_element(object, index, Element::Value(copy))?;
         Ok(Stored::Done)
     }
 
-    #[tactic(auto, using(crate::proofs::Lifted::reading), unfolding(crate::specs::Stores::store_byte))]
+    #[tactic(auto, using(crate::proofs::Lifted::writing), unfolding(crate::specs::Stores::store_byte))]
     fn store_byte(&mut self, object: u32, index: usize, value: Value) -> Result<Stored>
         ensures change { Does result self.new (store_byte object index value) self.old }
         ensures memory { NotMemory result }
     {
         self.objects().byte(object, index)?;
         let byte = self.byte_in(value)?;
-        self.write_byte(object, index, byte)?;
+        self.heap.write_byte(object, index, byte)?;
         Ok(Stored::Done)
     }
 
