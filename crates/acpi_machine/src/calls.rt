@@ -8,7 +8,6 @@ ghost use Rattle.ar_space.specs.Outcome.{Answers, NotMemory, seen};
 ghost use Rattle.ar_space.specs.Change.{Does};
 ghost use Rattle.aml_meaning.specs.Given.{given_of};
 ghost use Rattle.aml_meaning.specs.declared.datum.Datum.TheVariants as datum;
-ghost use Rattle.aml_path.specs.Segments.{seg_of};
 ghost use Rattle.acpi_machine.specs.FixedPaths.{at_root, below_root};
 ghost use Rattle.acpi_machine.specs.Noticing.{noticed, ran_out};
 ghost use Rattle.acpi_machine.specs.Stops.{Made};
@@ -243,7 +242,7 @@ fn ran_out<A>(outcome: &Result<A>) -> bool
 fn at_root(alloc: Global, name: [u8; 4]) -> Result<Path>
     ensures { Answers result (at_root name) }
 {
-    let segment = segment(name)?;
+    let segment = Seg::new(name)?;
     path_of_one(alloc, segment)
 }
 
@@ -251,15 +250,9 @@ fn at_root(alloc: Global, name: [u8; 4]) -> Result<Path>
 fn below_root(alloc: Global, parent: [u8; 4], name: [u8; 4]) -> Result<Path>
     ensures { Answers result (below_root parent name) }
 {
-    let above = segment(parent)?;
-    let segment = segment(name)?;
+    let above = Seg::new(parent)?;
+    let segment = Seg::new(name)?;
     path_of_two(alloc, above, segment)
-}
-
-fn segment(name: [u8; 4]) -> Result<Seg>
-    ensures { Answers result (seg_of name) }
-{
-    Seg::new(name)
 }
 
 fn path_of_one(alloc: Global, segment: Seg) -> Result<Path>

@@ -3,7 +3,6 @@ ghost use Rattle.std.specs.Prelude.{◌≡◌, [], ◌∷◌, ◌++◌, Ok, opti
 ghost use Rattle.ar_space.specs.Outcome.{Answers};
 ghost use Rattle.ar_space.specs.Change.{Does};
 ghost use Rattle.acpi_machine.specs.Stops.{AllOrNone};
-ghost use Rattle.aml_path.specs.Segments.{seg_of};
 ghost use Rattle.aml_meaning.specs.Given.{given_of};
 ghost use Rattle.acpi_machine.specs.Kinds.{kind_seen};
 ghost use Rattle.acpi_prt.specs.Children.{child_named};
@@ -141,12 +140,6 @@ fn link_id_or_not(id: &Datum) -> Result<()>
 pub fn child_named(alloc: Global, path: &Path, name: [u8; 4]) -> Result<Path>
     ensures { Answers result (child_named path.now name) }
 {
-    let segment = segment(name)?;
+    let segment = Seg::new(name)?;
     path.child(alloc, segment)
-}
-
-fn segment(name: [u8; 4]) -> Result<Seg>
-    ensures { Answers result (seg_of name) }
-{
-    Seg::new(name)
 }

@@ -1,7 +1,6 @@
 //! The names that stand before any table is loaded (ACPI 6.5, 5.3.1 and 5.7).
 ghost use Rattle.std.specs.Prelude.{◌≡◌, ◌∷◌, [], Ok, codes};
 ghost use Rattle.ar_space.specs.Outcome.{Answers};
-ghost use Rattle.aml_path.specs.Segments.{seg_of};
 ghost use Rattle.aml_objects.specs.Objects.{make_string};
 ghost use Rattle.aml_meaning.specs.State.{on_objects};
 ghost use Rattle.ar_space.specs.Change.{Does};
@@ -58,7 +57,7 @@ impl<S> WorldState<S> {
         ensures world { Does result self.new (at_root name object count) self.old }
         ensures space { self.new.space ≡ self.old.space }
     {
-        let segment = segment(name)?;
+        let segment = Seg::new(name)?;
         let path = below_root(self.alloc, segment)?;
         self.declare(path, object)?;
         let path = below_root(self.alloc, segment)?;
@@ -73,12 +72,6 @@ impl<S> WorldState<S> {
         let name = Octets::from_vec(Vec::from_slice(self.alloc, b"Microsoft Windows NT")?);
         self.make_string(name)
     }
-}
-
-fn segment(name: [u8; 4]) -> Result<Seg>
-    ensures { Answers result (seg_of name) }
-{
-    Seg::new(name)
 }
 
 fn below_root(alloc: Global, segment: Seg) -> Result<Path>
