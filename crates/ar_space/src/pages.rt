@@ -1,6 +1,6 @@
 //! Pages by number.
 ghost use Rattle.std.specs.Prelude.{◌≡◌, ◌+◌, ◌*◌, ◌<◌, ◌≤◌, ℕ, [], length, Some, None, OnOk, OnErr, IfOk, IsOkUnless};
-ghost use Rattle.std.specs.Prelude.{is_some, true, if◌then◌else◌};
+ghost use Rattle.std.specs.Prelude.{is_some, true, min, if◌then◌else◌};
 ghost use Rattle.std.specs.Option.{option_copied};
 ghost use Rattle.std.specs.FinMap as map;
 ghost use Rattle.std.specs.Ordering.{nat_cmp};
@@ -10,7 +10,7 @@ ghost use Rattle.ar_space.specs.declared.refusal.Refusal.TheVariants.{OutOfMemor
 ghost use Rattle.ar_space.specs.PagePlaces.{place_of};
 ghost use Rattle.ar_space.specs.Runs.{with_bytes, number_from};
 
-use crate::page::Page;
+use crate::page::{PLACES, Page};
 use crate::refusal::{Refusal, Result};
 use std::alloc::Global;
 use std::collections::BTreeMap;
@@ -47,11 +47,11 @@ impl Pages {
         }
     }
 
-    /// How many pages there are.
-    pub(crate) fn len(&self) -> usize
-        ensures { result ≡ length (all_pages self.now) }
+    /// The most bytes that the pages have, or `usize::MAX` where that is less.
+    pub(crate) fn most_bytes(&self) -> usize
+        ensures { result ≡ min (length (all_pages self.now) * 64) usize.MAX }
     {
-        self.made.len()
+        self.made.len().saturating_mul(PLACES)
     }
 
     /// Whether a number is that of the page that was sought last. Only while there is no page does none stand there.
