@@ -62,16 +62,11 @@ fn bytes_and_bits(asked: &mut Exchange) {
     asked.say("bits");
 }
 
-/// `path lent TEXT` and `path taken TEXT`: the text of a path, as its two calls give it.
+/// `path TEXT`: the text of a path.
 fn path(asked: &mut Exchange) {
-    let call = asked.word();
     let text = asked.rest();
     if let Some(path) = path_text(asked, text) {
-        if call == "lent" {
-            asked.say(path.as_str());
-        } else {
-            asked.say(path.into_string().as_str());
-        }
+        asked.say(path.as_str());
     }
 }
 
