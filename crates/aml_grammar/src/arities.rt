@@ -82,13 +82,6 @@ impl Arities {
         }
     }
 
-    /// How many entries there are.
-    pub fn len(&self) -> usize
-        ensures { result ≡ length self.now }
-    {
-        self.entries.len()
-    }
-
     /// Whether there is no entry.
     pub fn is_empty(&self) -> bool
         ensures { result ≡ (length self.now == 0) }

@@ -87,13 +87,12 @@ impl Lists {
         }
     }
 
-    /// How many entries there are of names that take arguments, taken out and put behind none.
-    fn entries(&mut self, asked: &mut Exchange) {
+    /// Takes all notes out of how many arguments names take, and puts them behind none.
+    fn put_behind_none(&mut self, asked: &mut Exchange) {
         let arities = mem::replace(&mut self.arities, Arities::new(asked.alloc()));
         if self.arities.append(arities).is_err() {
             asked.run_out();
         }
-        asked.say_number(self.arities.len() as u64);
     }
 
     /// Answers a question about lists of terms, and says whether it is one.
@@ -106,7 +105,7 @@ impl Lists {
             "count" => self.count(asked),
             "load" => self.load(asked),
             "arity" => self.arity(asked),
-            "arities" => self.entries(asked),
+            "put-behind-none" => self.put_behind_none(asked),
             _ => return parts::answer(asked, self.terms.as_slice(), word),
         }
         true
