@@ -46,10 +46,9 @@ pub fn load_tables<S: Space>(
     load_tables_as(alloc, settings, tables, space, steps, osi)
 }
 
-/// As `load_tables`, with the AML evaluated by these settings, which `Machine::profile` and `Machine::nesting` show and
-/// nothing changes: in a profile, which also decides about exclusive offers and about a `_HID` that is a control
-/// method, and within a depth of calls and of terms. `EvaluationSettings::of(Profile::Wide)` are those of the wide
-/// profile.
+/// As `load_tables`, with the AML evaluated by these settings, which nothing changes: in a profile, which
+/// `Machine::profile` shows and which also decides about exclusive offers and about a `_HID` that is a control method,
+/// and within a depth of calls and of terms. `EvaluationSettings::of(Profile::Wide)` are those of the wide profile.
 pub fn load_tables_as<S: Space>(
     alloc: Global,
     settings: EvaluationSettings,

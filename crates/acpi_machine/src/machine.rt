@@ -3,7 +3,7 @@ ghost use Rattle.std.specs.Prelude.{◌≡◌, option_map};
 ghost use Rattle.acpi_machine.specs.MachineStates.{sci_of};
 
 use crate::mode::is_apic;
-use aml_meaning::{Nesting, PassedOver, Profile, Trace, World};
+use aml_meaning::{PassedOver, Profile, Trace, World};
 use ar_space::Space;
 use ar_tables::{Fadt, Madt, Mode, Tables, sci_source};
 use std::marker::Model;
@@ -46,13 +46,6 @@ impl<S: Space> Machine<S> {
         ensures { result ≡ self.now.world.profile }
     {
         self.world.profile()
-    }
-
-    /// How deep calls and terms may be one inside another, which nothing changes.
-    pub fn nesting(&self) -> Nesting
-        ensures { result ≡ self.now.world.nesting }
-    {
-        self.world.nesting()
     }
 
     /// The MADT, where there is one (ACPI 6.5, 5.2.12).
