@@ -73,7 +73,7 @@ pub(crate) fn declare<C: ArgumentCounts, B: Before>(
         return Ok(());
     }
     let path = path.copy(reader.alloc)?;
-    reader.add(path, count, external)?;
+    reader.arities.add(path, count, external)?;
     Ok(())
 }
 
@@ -110,6 +110,6 @@ pub(crate) fn declare_field<C: ArgumentCounts, B: Before>(
         return Ok(());
     }
     let path = scope.child(reader.alloc, segment)?;
-    reader.add(path, 0, false)?;
+    reader.arities.add(path, 0, false)?;
     Ok(())
 }

@@ -8,7 +8,7 @@ ghost use Rattle.aml_scan.specs.Scanned.{scanned};
 use crate::before::Before;
 use crate::positions::{TermStart, at_else};
 use crate::reader::Reader;
-use crate::terms::{list_operand, row_operands};
+use crate::terms::{items, row_operands};
 use aml_grammar::{ArgumentCounts, Context, Position, Row};
 use aml_path::Path;
 use ar_space::Result;
@@ -88,7 +88,7 @@ fn packed_list<C: ArgumentCounts, B: Before>(
     ensures kept { OnOk result (length reader.new.rest ≤ length reader.old.rest) }
 {
     let outer = reader.enter()?;
-    list_operand(reader, levels, Position::ListItem, scope, context)?;
+    items(reader, levels, Position::ListItem, scope, context)?;
     reader.leave(outer);
     Ok(())
 }

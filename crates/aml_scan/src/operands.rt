@@ -2,8 +2,8 @@
 ghost use Rattle.std.specs.Prelude.{◌≡◌, ◌≤◌, false, length, OnOk};
 ghost use Rattle.ar_space.specs.Outcome.{NotMemory, seen};
 ghost use Rattle.ar_space.specs.Change.{Does};
-ghost use Rattle.aml_grammar.specs.Operands.{name_operand, scope_name, alias_source, external_name, declared_name};
-ghost use Rattle.aml_grammar.specs.Operands.{integer_operand, method_flags, object_type, argument_count, text_operand};
+ghost use Rattle.aml_grammar.specs.Operands.{scope_name, alias_source, external_name, declared_name};
+ghost use Rattle.aml_grammar.specs.Operands.{integer_operand, method_flags, object_type, argument_count};
 ghost use Rattle.aml_grammar.specs.Operands.{bytes_operand, holds_terms};
 ghost use Rattle.aml_grammar.specs.Grammar.{Inner, operand};
 ghost use Rattle.aml_scan.specs.Scanned.{kept, scanned};
@@ -20,18 +20,6 @@ use ar_space::Result;
 
 // ---- names
 
-/// A name of which no path is asked here.
-#[tactic(auto, using(crate::proofs::Scans::scanning), unfolding(aml_grammar::specs::Operands::name_operand))]
-pub(crate) fn name_operand<C: ArgumentCounts, B: Before>(
-    reader: &mut Reader<'_, C, B>,
-) -> Result<()>
-    ensures reads { Does result reader.new (scanned name_operand) reader.old }
-    ensures kept { OnOk result (length reader.new.rest ≤ length reader.old.rest) }
-    ensures memory { NotMemory result }
-{
-    skip_name(reader)
-}
-
 /// The name of a Scope: its list stands where the name is found, or else at the path that it stands for.
 #[tactic(auto, using(crate::proofs::Scans::scanning), unfolding(aml_grammar::specs::Operands::scope_name))]
 fn scope_name<C: ArgumentCounts, B: Before>(
@@ -45,7 +33,7 @@ fn scope_name<C: ArgumentCounts, B: Before>(
 {
     let name = name_string(reader)?;
     let path = name.resolve_in(reader.alloc, scope)?;
-    let place = reader.found_or(&name, scope, path)?;
+    let place = reader.arities.found_or(reader.alloc, &name, scope, path)?;
     earlier.path = Some(place);
     Ok(())
 }
@@ -62,7 +50,7 @@ fn alias_source<C: ArgumentCounts, B: Before>(
 {
     let name = name_string(reader)?;
     let path = name.resolve_in(reader.alloc, scope)?;
-    let count = reader.arity_of(&name, scope, &path)?;
+    let count = reader.arities.arity_of(reader.alloc, &name, scope, &path)?;
     earlier.count = count;
     Ok(())
 }
@@ -175,16 +163,6 @@ fn argument_count<C: ArgumentCounts, B: Before>(
     Ok(())
 }
 
-/// The text of a String.
-#[tactic(auto, using(crate::proofs::Scans::scanning), unfolding(aml_grammar::specs::Operands::text_operand))]
-fn text_operand<C: ArgumentCounts, B: Before>(reader: &mut Reader<'_, C, B>) -> Result<()>
-    ensures reads { Does result reader.new (scanned text_operand) reader.old }
-    ensures kept { OnOk result (length reader.new.rest ≤ length reader.old.rest) }
-    ensures memory { NotMemory result }
-{
-    reader.skip_text()
-}
-
 /// The rest of a package as bytes.
 #[tactic(auto, using(crate::proofs::Scans::scanning), unfolding(aml_grammar::specs::Operands::bytes_operand))]
 fn bytes_operand<C: ArgumentCounts, B: Before>(reader: &mut Reader<'_, C, B>) -> Result<()>
@@ -217,7 +195,7 @@ pub(crate) fn operand<C: ArgumentCounts, B: Before>(
     ensures kept { OnOk result (length reader.new.rest ≤ length reader.old.rest) }
 {
     match kind {
-        OperandKind::NameString => name_operand(reader),
+        OperandKind::NameString => skip_name(reader),
         OperandKind::ScopeName => scope_name(reader, start.scope, earlier),
         OperandKind::AliasSource => alias_source(reader, start.scope, earlier),
         OperandKind::AliasName => {
@@ -233,7 +211,7 @@ pub(crate) fn operand<C: ArgumentCounts, B: Before>(
         OperandKind::WordData => integer_operand(reader, 2),
         OperandKind::DWordData => integer_operand(reader, 4),
         OperandKind::QWordData => integer_operand(reader, 8),
-        OperandKind::AsciiCharList => text_operand(reader),
+        OperandKind::AsciiCharList => reader.skip_text(),
         OperandKind::ByteList => bytes_operand(reader),
         _ => Ok(()),
     }

@@ -2,14 +2,14 @@
 ghost use Rattle.std.specs.Prelude.{◌≡◌, ◌<◌, ◌≤◌, length, OnOk};
 ghost use Rattle.ar_space.specs.Change.{Does};
 ghost use Rattle.aml_grammar.specs.Grammar.{is_slot, super_name, target, simple_name, connection, connect_field, field};
-ghost use Rattle.aml_grammar.specs.Grammar.{fields, fields_operand, by_arities, term_at};
+ghost use Rattle.aml_grammar.specs.Grammar.{fields, by_arities, term_at};
 ghost use Rattle.aml_scan.specs.Scanned.{scanned};
 
 use crate::before::Before;
 use crate::fields::{access_field, extended_access_field, named_field, reserved_field};
 use crate::names::starts_name;
-use crate::operands::name_operand;
 use crate::reader::Reader;
+use crate::skip_names::skip_name;
 use crate::terms::term;
 use aml_grammar::{ArgumentCounts, Context, Position};
 use aml_path::Path;
@@ -28,7 +28,7 @@ fn is_slot(byte: u8) -> bool
 
 /// A place that is read or written: a name, a local, an argument, Debug, or a term that gives a reference.
 #[cycle(scan)]
-#[tactic(auto, using(crate::proofs::Scans::scanning), unfolding(aml_grammar::specs::Grammar::super_name))]
+#[tactic(auto, using(crate::proofs::Scans::scanning), unfolding(aml_grammar::specs::Grammar::super_name, aml_grammar::specs::Operands::name_operand))]
 pub(crate) fn super_name<C: ArgumentCounts, B: Before>(
     reader: &mut Reader<'_, C, B>,
     levels: usize,
@@ -43,7 +43,7 @@ pub(crate) fn super_name<C: ArgumentCounts, B: Before>(
     if next == 0 {
         Err(Refusal::Name(NameFault::BadName))
     } else if starts_name(next) {
-        name_operand(reader)
+        skip_name(reader)
     } else {
         term(reader, levels, Position::SuperName, scope, context)
     }
@@ -94,7 +94,7 @@ pub(crate) fn simple_name<C: ArgumentCounts, B: Before>(
 
 /// What the elements after it are connected to: a name or a Buffer.
 #[cycle(scan)]
-#[tactic(auto, using(crate::proofs::Scans::scanning), unfolding(aml_grammar::specs::Grammar::connection))]
+#[tactic(auto, using(crate::proofs::Scans::scanning), unfolding(aml_grammar::specs::Grammar::connection, aml_grammar::specs::Operands::name_operand))]
 fn connection<C: ArgumentCounts, B: Before>(
     reader: &mut Reader<'_, C, B>,
     levels: usize,
@@ -107,7 +107,7 @@ fn connection<C: ArgumentCounts, B: Before>(
 {
     let next = reader.peek()?;
     if starts_name(next) {
-        name_operand(reader)
+        skip_name(reader)
     } else if next == BUFFER {
         term(reader, levels, Position::DataObject, scope, context)
     } else {
@@ -158,7 +158,7 @@ fn field<C: ArgumentCounts, B: Before>(
 
 /// Field elements until nothing is left.
 #[cycle(scan)]
-fn fields<C: ArgumentCounts, B: Before>(
+pub(crate) fn fields<C: ArgumentCounts, B: Before>(
     reader: &mut Reader<'_, C, B>,
     levels: usize,
     scope: &Path,
@@ -171,20 +171,4 @@ fn fields<C: ArgumentCounts, B: Before>(
         field(reader, levels, scope, context)?;
     }
     Ok(())
-}
-
-/// The rest of a package as field elements.
-#[cycle(scan)]
-#[tactic(auto, using(crate::proofs::Scans::scanning), unfolding(aml_grammar::specs::Grammar::fields_operand))]
-pub(crate) fn fields_operand<C: ArgumentCounts, B: Before>(
-    reader: &mut Reader<'_, C, B>,
-    levels: usize,
-    scope: &Path,
-    context: Context,
-) -> Result<()>
-    ensures reads { Does result reader.new
-        (scanned (fields_operand (term_at by_arities levels) scope.now context)) reader.old }
-    ensures kept { OnOk result (length reader.new.rest ≤ length reader.old.rest) }
-{
-    fields(reader, levels, scope, context)
 }

@@ -3,7 +3,7 @@ ghost use Rattle.std.specs.Prelude.{◌≡◌, ◌<◌, ◌≤◌, ◌∷◌, �
 ghost use Rattle.ar_space.specs.Outcome.{Answers, NotMemory, seen};
 ghost use Rattle.ar_space.specs.Change.{Does};
 ghost use Rattle.aml_grammar.specs.Grammar.{stands, takes_name, costs_no_level, is_module_level, is_if, is_nothing};
-ghost use Rattle.aml_grammar.specs.Grammar.{item_of, at_item, item_of_else, at_else, in_loop, opcode, admitted_row};
+ghost use Rattle.aml_grammar.specs.Grammar.{at_item, item_of_else, at_else, in_loop, opcode, admitted_row};
 ghost use Rattle.aml_grammar.specs.Grammar.{admitted, row_at, argument_number, by_arities};
 
 use crate::before::Before;
@@ -87,13 +87,6 @@ pub fn is_nothing(kind: OperandKind) -> bool
     matches!(kind, OperandKind::Nothing)
 }
 
-/// Where the item of the handed-in list begins that holds a term which begins here.
-pub(crate) fn item_of(item: Option<usize>, here: usize) -> usize
-    ensures { result ≡ item_of item here }
-{
-    item.unwrap_or(here)
-}
-
 /// What holds inside a term that begins here.
 pub(crate) fn at_item(context: Context, here: usize) -> Context
     ensures { result ≡ at_item context here }
@@ -101,7 +94,7 @@ pub(crate) fn at_item(context: Context, here: usize) -> Context
     Context {
         body: context.body,
         in_loop: context.in_loop,
-        item: Some(item_of(context.item, here)),
+        item: Some(context.item.unwrap_or(here)),
     }
 }
 
@@ -109,7 +102,7 @@ pub(crate) fn at_item(context: Context, here: usize) -> Context
 pub(crate) fn at_else(context: Context, start: usize, here: usize) -> Context
     ensures { result ≡ at_else context start here }
 {
-    let item = item_of(context.item, start);
+    let item = context.item.unwrap_or(start);
     Context {
         body: context.body,
         in_loop: context.in_loop,
@@ -185,7 +178,7 @@ pub(crate) fn argument_number<C: ArgumentCounts, B: Before>(
     ensures reads { Does result reader.new (argument_number by_arities start scope.now name.now path.now) reader.old }
     ensures kept { OnOk result (length reader.new.rest ≤ length reader.old.rest) }
 {
-    let count = reader.arity_of(name, scope, path)?;
+    let count = reader.arities.arity_of(reader.alloc, name, scope, path)?;
     reader.mark(start, count)?;
     Ok(count)
 }

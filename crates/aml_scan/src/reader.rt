@@ -1,19 +1,17 @@
 //! A reader over the bytes that are left of a list of terms.
 ghost use Rattle.std.specs.Prelude.{◌≡◌, ◌+◌, ◌*◌, ◌^◌, ◌-◌, ◌/◌, ◌<◌, ◌≤◌, ◌==◌, ◌++◌, ◌∷◌, ℕ, List, [], length, take};
 ghost use Rattle.std.specs.Prelude.{drop, IfOk, OnOk, Ok, if◌then◌else◌};
-ghost use Rattle.ar_space.specs.Outcome.{Answers, NotMemory, seen};
+ghost use Rattle.ar_space.specs.Outcome.{NotMemory, seen};
 ghost use Rattle.ar_space.specs.Change.{Does};
 ghost use Rattle.aml_grammar.specs.State.{State, look, byte, peek, is_next, next_bytes, all_bytes, text, text_length};
 ghost use Rattle.aml_grammar.specs.State.{integer, little_endian, bit_count, size_after, package_size, length_of};
-ghost use Rattle.aml_grammar.specs.State.{enter, past, adding, marking};
+ghost use Rattle.aml_grammar.specs.State.{enter, past, marking};
 ghost use Rattle.aml_grammar.specs.Names.{carets, parents};
-ghost use Rattle.aml_grammar.specs.Arities.{found, or_path, arity_of};
 ghost use Rattle.aml_scan.specs.Scanned.{scanned};
 
 use crate::before::Before;
 use crate::declarations::Declarations;
 use aml_grammar::{ArgumentCounts, Arities, Mark};
-use aml_path::{NameString, Path};
 use ar_space::{Refusal, Result, TermFault};
 use std::alloc::{AllocError, Global};
 use std::marker::Model;
@@ -25,7 +23,8 @@ pub(crate) struct Reader<'a, C: ArgumentCounts, B: Before> {
     pub(crate) alloc: Global,
     at: usize,
     rest: &'a [u8],
-    arities: Declarations<'a, C, B>,
+    /// The arities so far.
+    pub(crate) arities: Declarations<'a, C, B>,
     marks: Vec<Mark>,
 }
 
@@ -266,13 +265,6 @@ impl<'a, C: ArgumentCounts, B: Before> Reader<'a, C, B> {
         count
     }
 
-    /// Adds a path with its argument count.
-    pub(crate) fn add(&mut self, path: Path, count: u8, external: bool) -> Result<(), AllocError>
-        ensures { OnOk result (self.new ≡ adding path count external self.old) }
-    {
-        self.arities.add(path, count, external)
-    }
-
     /// The marks of the calls so far, and what the list has declared itself. It takes no memory.
     pub(crate) fn into_noted(self) -> (Vec<Mark>, Arities)
         ensures marks { result.0.items ≡ self.entry.marks }
@@ -289,22 +281,6 @@ impl<'a, C: ArgumentCounts, B: Before> Reader<'a, C, B> {
             self.marks.push(Mark { offset, count })?;
         }
         Ok(())
-    }
-
-    /// How many arguments a name takes that stands, without a search, for a path.
-    #[tactic(auto, using(crate::proofs::Steps::reading))]
-    pub(crate) fn arity_of(&self, name: &NameString, scope: &Path, path: &Path) -> Result<u8>
-        ensures { Answers result (Ok (arity_of self.now.arities scope.now name.now path.now)) }
-    {
-        self.arities.arity_of(self.alloc, name, scope, path)
-    }
-
-    /// The path where a name is found, or else the one that it stands for.
-    #[tactic(auto, using(crate::proofs::Steps::reading))]
-    pub(crate) fn found_or(&self, name: &NameString, scope: &Path, path: Path) -> Result<Path>
-        ensures { Answers result (Ok (or_path path (found self.now.arities scope.now name.now path))) }
-    {
-        self.arities.found_or(self.alloc, name, scope, path)
     }
 }
 

@@ -1,9 +1,9 @@
 //! Terms, one inside another, gone over without a tree (TermObj of ACPI 6.5, 20.2.5).
 ghost use Rattle.std.specs.Prelude.{◌≡◌, ◌<◌, ◌≤◌, length, OnOk, true};
-ghost use Rattle.ar_space.specs.Outcome.{NotMemory, seen};
+ghost use Rattle.ar_space.specs.Outcome.{seen};
 ghost use Rattle.ar_space.specs.Change.{Does};
 ghost use Rattle.aml_grammar.specs.State.{times};
-ghost use Rattle.aml_grammar.specs.Grammar.{named, named_term, element_name, invocation, coded_term, row_term};
+ghost use Rattle.aml_grammar.specs.Grammar.{named, named_term, invocation, coded_term, row_term};
 ghost use Rattle.aml_grammar.specs.Grammar.{row_operands, packed, operands, operand, list_operand, items, by_arities};
 ghost use Rattle.aml_grammar.specs.Grammar.{term_at, below, nothing_earlier, scope_of};
 ghost use Rattle.aml_grammar.specs.declared.context.Position.TheVariants as positions;
@@ -13,10 +13,10 @@ use crate::before::Before;
 use crate::if_else::if_term;
 use crate::names::{name_string, starts_name};
 use crate::operands as leaf;
-use crate::places::{fields_operand, simple_name, super_name, target};
+use crate::places::{fields, simple_name, super_name, target};
 use crate::positions::{
-    TermStart, argument_number, at_item, costs_no_level, in_loop, is_if, is_nothing, item_of,
-    row_at, takes_name,
+    TermStart, argument_number, at_item, costs_no_level, in_loop, is_if, is_nothing, row_at,
+    takes_name,
 };
 use crate::reader::Reader;
 use crate::skip_names::skip_name;
@@ -68,13 +68,14 @@ fn named<C: ArgumentCounts, B: Before>(
         return Err(Refusal::Term(TermFault::BadOpcode, start.at));
     }
     if levels == 0 {
-        return Err(Refusal::Term(TermFault::TooDeep, item_of(start.context.item, start.at)));
+        return Err(Refusal::Term(TermFault::TooDeep, start.context.item.unwrap_or(start.at)));
     }
     named_term(reader, levels - 1, position, start)
 }
 
+/// A name, which is one alone as an element of a package.
 #[cycle(scan)]
-#[tactic(auto, using(crate::proofs::Scans::scanning))]
+#[tactic(auto, using(crate::proofs::Scans::scanning), unfolding(aml_grammar::specs::Grammar::element_name))]
 fn named_term<C: ArgumentCounts, B: Before>(
     reader: &mut Reader<'_, C, B>,
     levels: usize,
@@ -86,19 +87,9 @@ fn named_term<C: ArgumentCounts, B: Before>(
     ensures shorter { OnOk result (length reader.new.rest < length reader.old.rest) }
 {
     match position {
-        Position::PackageElement => element_name(reader),
+        Position::PackageElement => skip_name(reader),
         _ => invocation(reader, levels, start),
     }
-}
-
-/// An element of a package that is a name.
-#[tactic(auto, using(crate::proofs::Scans::scanning), unfolding(aml_grammar::specs::Grammar::element_name))]
-fn element_name<C: ArgumentCounts, B: Before>(reader: &mut Reader<'_, C, B>) -> Result<()>
-    ensures reads { Does result reader.new (scanned element_name) reader.old }
-    ensures shorter { OnOk result (length reader.new.rest < length reader.old.rest) }
-    ensures memory { NotMemory result }
-{
-    skip_name(reader)
 }
 
 /// A name and as many terms as it takes arguments. It isn't inlined, so that terms with an opcode take no stack for the
@@ -157,7 +148,7 @@ fn coded_term<C: ArgumentCounts, B: Before>(
         return Ok(());
     }
     if levels == 0 {
-        return Err(Refusal::Term(TermFault::TooDeep, item_of(start.context.item, start.at)));
+        return Err(Refusal::Term(TermFault::TooDeep, start.context.item.unwrap_or(start.at)));
     }
     row_term(reader, levels - 1, start, row)
 }
@@ -283,14 +274,14 @@ fn operand<C: ArgumentCounts, B: Before>(
         OperandKind::TermList => term_list(reader, levels, scope, earlier, context),
         OperandKind::LoopTermList => { term_list(reader, levels, scope, earlier, in_loop(context)) }
         OperandKind::PackageElementList => { element_list(reader, levels, scope, earlier, context) }
-        OperandKind::FieldList => fields_operand(reader, levels, scope, context),
+        OperandKind::FieldList => fields(reader, levels, scope, context),
         _ => leaf::operand(reader, start, kind, earlier),
     }
 }
 
 /// The terms of a term, under the path of its name where it has one.
 #[cycle(scan)]
-#[tactic(auto, using(crate::proofs::Scans::scanning))]
+#[tactic(auto, using(crate::proofs::Scans::scanning), unfolding(aml_grammar::specs::Grammar::list_operand))]
 fn term_list<C: ArgumentCounts, B: Before>(
     reader: &mut Reader<'_, C, B>,
     levels: usize,
@@ -304,14 +295,14 @@ fn term_list<C: ArgumentCounts, B: Before>(
     ensures kept { OnOk result (length reader.new.rest ≤ length reader.old.rest) }
 {
     match &earlier.path {
-        None => list_operand(reader, levels, Position::ListItem, scope, context),
-        Some(path) => list_operand(reader, levels, Position::ListItem, path, context),
+        None => items(reader, levels, Position::ListItem, scope, context),
+        Some(path) => items(reader, levels, Position::ListItem, path, context),
     }
 }
 
 /// The elements of a package.
 #[cycle(scan)]
-#[tactic(auto, using(crate::proofs::Scans::scanning))]
+#[tactic(auto, using(crate::proofs::Scans::scanning), unfolding(aml_grammar::specs::Grammar::list_operand))]
 fn element_list<C: ArgumentCounts, B: Before>(
     reader: &mut Reader<'_, C, B>,
     levels: usize,
@@ -325,25 +316,9 @@ fn element_list<C: ArgumentCounts, B: Before>(
     ensures kept { OnOk result (length reader.new.rest ≤ length reader.old.rest) }
 {
     match &earlier.path {
-        None => list_operand(reader, levels, Position::PackageElement, scope, context),
-        Some(path) => list_operand(reader, levels, Position::PackageElement, path, context),
+        None => items(reader, levels, Position::PackageElement, scope, context),
+        Some(path) => items(reader, levels, Position::PackageElement, path, context),
     }
-}
-
-#[cycle(scan)]
-#[tactic(auto, using(crate::proofs::Scans::scanning), unfolding(aml_grammar::specs::Grammar::list_operand))]
-pub(crate) fn list_operand<C: ArgumentCounts, B: Before>(
-    reader: &mut Reader<'_, C, B>,
-    levels: usize,
-    position: Position,
-    scope: &Path,
-    context: Context,
-) -> Result<()>
-    ensures reads { Does result reader.new
-        (scanned (list_operand (term_at by_arities levels) position scope.now context)) reader.old }
-    ensures kept { OnOk result (length reader.new.rest ≤ length reader.old.rest) }
-{
-    items(reader, levels, position, scope, context)
 }
 
 /// Terms until nothing is left.

@@ -1,8 +1,12 @@
-use Rattle.std.proofs.Common.{◌-◌, ◌<◌, length, sym, ◌∙◌, arith}
+use Rattle.std.proofs.Common.{◌-◌, ◌<◌, length, refl, sym, ◌∙◌, arith}
+use Rattle.ar_space.specs.Change.{◌>>=◌}
 use Rattle.aml_grammar.specs.declared.context.Position.TheVariants as positions
-use Rattle.aml_grammar.specs.Grammar.{by_arities, term_at, term_operand, operand, items, field, fields}
+use Rattle.aml_grammar.specs.State.{enter, leave}
+use Rattle.aml_grammar.specs.Tree.{list}
+use Rattle.aml_grammar.specs.Shape.{trees_of}
+use Rattle.aml_grammar.specs.Grammar.{by_arities, term_at, term_operand, list_operand, fields_operand, operand, items, field, fields}
 use Rattle.aml_scan.specs.Scanned.{kept}
-use Rattle.aml_scan.proofs.Scans.{kept_keeping, scanned_term}
+use Rattle.aml_scan.proofs.Scans.{kept_keeping, kept_ok, kept_kept_ok, kept_kept_err, kept_leave, scanned_wrapped, scanned_term}
 use Rattle.aml_scan.proofs.ScanLoops.{times_turn, times_err, times_done, until_turn, until_err, until_done, operands_turn, operands_err, operands_end, operands_done}
 use Rattle.aml_scan.proofs.+scan.Goals as goal
 
@@ -90,3 +94,29 @@ terms::operand-returns-in-TermArg-clause-reads g t c = rw c.in-TermArg.is (kept_
 pub terms::operand-returns-in-DataObject-clause-reads : goal.terms::operand-returns-in-DataObject-clause-reads
 unfolding operand
 terms::operand-returns-in-DataObject-clause-reads g t c = rw c.in-DataObject.is (kept_keeping _ _ (term_operand (term_at by_arities c.args.levels) positions.DataObject c.args.start.scope.now c.args.start.context) (scanned_term _ _ _ _ c.term-in-DataObject.ensures.reads))
+
+-- ---- an operand that is a list of fields
+
+pub terms::operand-returns-in-FieldList-clause-reads : goal.terms::operand-returns-in-FieldList-clause-reads
+unfolding operand fields_operand
+terms::operand-returns-in-FieldList-clause-reads g t c = rw c.in-FieldList.is (kept_keeping _ _ (fields_operand (term_at by_arities c.args.levels) c.args.start.scope.now c.args.start.context) (scanned_wrapped (λ ts. list (trees_of ts)) (fields (term_at by_arities c.args.levels) c.args.start.scope.now c.args.start.context) c.fields.ensures.reads))
+
+-- ---- a list in a package
+
+pub if_else::packed_list-returns-in_err-items-clause-reads : goal.if_else::packed_list-returns-in_err-items-clause-reads
+unfolding list_operand
+if_else::packed_list-returns-in_err-items-clause-reads g t c =
+    let listed = list_operand (term_at by_arities c.args.levels) positions.ListItem c.args.scope.now c.args.context in
+    kept_ok (λ _. tt) enter (λ outer. listed >>= (λ p. leave outer p)) c.in_ok-outer.ensures.reads
+    (kept_kept_err (λ _. tt) (λ _. tt) listed (λ p. leave (c.in_ok-outer.outer.at, c.in_ok-outer.outer.rest.now) p)
+    (scanned_wrapped (λ ts. list (trees_of ts)) (items (term_at by_arities c.args.levels) positions.ListItem c.args.scope.now c.args.context) c.in_err-items.ensures.reads)
+    c.from_residual-in_err-items.ensures)
+
+pub if_else::packed_list-returns-clause-reads : goal.if_else::packed_list-returns-clause-reads
+unfolding list_operand
+if_else::packed_list-returns-clause-reads g t c =
+    let listed = list_operand (term_at by_arities c.args.levels) positions.ListItem c.args.scope.now c.args.context in
+    kept_ok (λ _. tt) enter (λ outer. listed >>= (λ p. leave outer p)) c.in_ok-outer.ensures.reads
+    (kept_kept_ok (λ _. tt) (λ _. tt) listed (λ p. leave (c.in_ok-outer.outer.at, c.in_ok-outer.outer.rest.now) p)
+    (scanned_wrapped (λ ts. list (trees_of ts)) (items (term_at by_arities c.args.levels) positions.ListItem c.args.scope.now c.args.context) c.in_ok-items.ensures.reads)
+    (λ p _. kept_leave (λ _. tt) (c.in_ok-outer.outer.at, c.in_ok-outer.outer.rest.now) p refl (sym c.leave.ensures)))

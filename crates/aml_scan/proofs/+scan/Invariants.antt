@@ -32,9 +32,6 @@ decreases-places::super_name g l = 16 * l.levels + 3
 abbrev pub decreases-terms::invocation : goal.decreases-terms::invocation
 decreases-terms::invocation g l = 16 * l.levels + 3
 
-abbrev pub decreases-terms::list_operand : goal.decreases-terms::list_operand
-decreases-terms::list_operand g l = 16 * l.levels + 3
-
 abbrev pub decreases-places::connect_field : goal.decreases-places::connect_field
 decreases-places::connect_field g l = 16 * l.levels + 4
 
@@ -67,9 +64,6 @@ decreases-if_else::else_part g l = 16 * l.levels + 6
 
 abbrev pub decreases-places::fields : goal.decreases-places::fields
 decreases-places::fields g l = 16 * l.levels + 6
-
-abbrev pub decreases-places::fields_operand : goal.decreases-places::fields_operand
-decreases-places::fields_operand g l = 16 * l.levels + 7
 
 abbrev pub decreases-terms::operand : goal.decreases-terms::operand
 decreases-terms::operand g l = 16 * l.levels + 8
