@@ -154,10 +154,11 @@ pub(crate) fn has(names: &Names, scope: NodeId, segment: Seg) -> bool
     names.child_of(scope, segment).is_some()
 }
 
+#[tactic(auto, using(aml_namespace::proofs::Numbering::numbered_stands))]
 fn is_device(names: &Names, scope: NodeId) -> bool
     ensures { (f : Found) → numbered scope.number names.now.map ≡ Some f → result ≡ is_device (get names.now.map f.0) }
 {
-    match names.standing_at(scope) {
+    match names.node(scope) {
         None => false,
         Some(entry) => is_device_object(&entry.object),
     }

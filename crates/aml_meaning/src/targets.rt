@@ -143,7 +143,7 @@ impl<S> WorldState<S> {
     pub(crate) fn placed_declaration(&self, number: u64) -> Result<(Located, &Entry)>
         ensures { Does (seen (λ d. (d.0, d.1.now)) result) self.now (declaration number) self.now }
     {
-        let node = self.names().id_of(number);
+        let node = NodeId::numbered(number);
         let Some(entry) = self.names().node(node) else {
             return Err(Refusal::Evaluation(EvaluationFault::DeadReference));
         };

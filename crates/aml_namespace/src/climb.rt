@@ -1,7 +1,6 @@
 //! Ways through the tree by ids: up to the nodes above, and down to those below.
 ghost use Rattle.std.specs.Prelude.{◌≡◌, ◌<◌, ◌++◌, List, [], ◌∷◌, None, Some, Ok, IfSome, MatchOption, length};
 ghost use Rattle.std.specs.Prelude.{option_map};
-ghost use Rattle.std.specs.FinMap.{get};
 ghost use Rattle.ar_space.specs.Outcome.{Answers};
 ghost use Rattle.aml_path.specs.declared.segment.Seg.{Seg};
 ghost use Rattle.aml_objects.specs.declared.entry.Entry.{Entry};
@@ -10,7 +9,7 @@ ghost use Rattle.aml_namespace.specs.Search.{at_path, IsParent, IsAncestor};
 
 use crate::names::{Names, root_id};
 use crate::tree::{child, descend};
-use aml_objects::{Entry, NodeId};
+use aml_objects::NodeId;
 use aml_path::{Path, Seg};
 use ar_space::Result;
 use std::alloc::Global;
@@ -54,14 +53,6 @@ impl Names {
             }
         }
         Some(current)
-    }
-
-    /// What stands at the path of a node that stands. It takes no memory.
-    pub fn standing_at(&self, id: NodeId) -> Option<&Entry>
-        ensures { (f : List Seg × Entry) → numbered id.number self.now.map ≡ Some f →
-            option_map (λ entry. entry.now) result ≡ get self.now.map f.0 }
-    {
-        self.node(id)
     }
 
     /// The node that some segments lead to, from one that stands.

@@ -61,13 +61,6 @@ impl Located {
 }
 
 impl Names {
-    /// The id of the declaration with a number, with the key of its node while it stands. It takes no memory.
-    pub fn id_of(&self, number: u64) -> NodeId
-        ensures { result.number ≡ number }
-    {
-        self.nodes.id_of(number)
-    }
-
     /// The path of the node with an id, and that node; none where its declaration doesn't stand.
     pub fn locate_node(&self, alloc: Global, node: NodeId) -> Result<Option<Located>>
         ensures { Answers result (Ok (option_map (λ f. f.0) (numbered node.number self.now.map))) }
