@@ -5,7 +5,7 @@ ghost use Rattle.aml_objects.specs.Contents.{content_of};
 ghost use Rattle.aml_convert.specs.Conversions.{compared};
 
 use crate::buffers::to_buffer;
-use crate::integers::integer;
+use crate::integers::to_integer;
 use crate::texts::to_text;
 use aml_objects::Content;
 use ar_space::{IntegerWidth, Refusal, Result, ValueFault};
@@ -27,7 +27,7 @@ pub fn compare(
     ensures { Answers result (compared width (content_of first.entry) (content_of second.entry)) }
 {
     match first {
-        Content::Integer(n) => Ok(n.cmp(&integer(width, second)?)),
+        Content::Integer(n) => Ok(n.cmp(&to_integer(width, second)?)),
         Content::String(text) => Ok(text.cmp(to_text(alloc, width, second)?.as_slice())),
         Content::Buffer(buffer) => Ok(buffer.cmp(to_buffer(alloc, width, second)?.as_slice())),
         Content::Other => Err(Refusal::Value(ValueFault::WrongType)),

@@ -7,7 +7,7 @@ ghost use Rattle.aml_convert.specs.Formed.{formed_content};
 
 use crate::buffers::{integer_bytes, to_buffer};
 use crate::formed::Formed;
-use crate::integers::integer;
+use crate::integers::to_integer;
 use crate::texts::to_text;
 use acpi_resources::length_before_end_tag;
 use aml_objects::{Content, Octets};
@@ -48,7 +48,7 @@ fn concat_integers(
 ) -> Result<Formed>
     ensures { Answers (seen formed_content result) (concatenated width (Integer first) (content_of second.entry)) }
 {
-    let second = integer(width, second)?;
+    let second = to_integer(width, second)?;
     let front = integer_bytes(alloc, width, first)?;
     let back = integer_bytes(alloc, width, second)?;
     Ok(Formed::Buffer(appended(alloc, &front, &back)?))

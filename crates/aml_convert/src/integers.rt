@@ -20,6 +20,7 @@ use byteorder::{ByteOrder, LittleEndian};
 /// are 0. An empty string or buffer is refused as `EmptyValue`, every other value as `WrongType`.
 pub fn to_integer(width: IntegerWidth, content: Content<'_>) -> Result<u64>
     ensures answer { result ≡ to_integer_of width (content_of content.entry) }
+    ensures step { Answers result (to_integer_of width (content_of content.entry)) }
     ensures memory { NotMemory result }
 {
     match content {
@@ -28,14 +29,6 @@ pub fn to_integer(width: IntegerWidth, content: Content<'_>) -> Result<u64>
         Content::Buffer(buffer) => integer_in_buffer(width, buffer),
         Content::Other => Err(Refusal::Value(ValueFault::WrongType)),
     }
-}
-
-/// `to_integer`, as a step among others that may take memory.
-pub(crate) fn integer(width: IntegerWidth, content: Content<'_>) -> Result<u64>
-    ensures answer { Answers result (to_integer_of width (content_of content.entry)) }
-    ensures memory { NotMemory result }
-{
-    to_integer(width, content)
 }
 
 /// A value as an integer, as ToInteger gives it (ACPI 6.5, 19.6.141).

@@ -9,7 +9,7 @@ ghost use Rattle.aml_convert.specs.Strings.{string_of, part, part_of, middle_of}
 
 use crate::buffers::{integer_bytes, to_buffer};
 use crate::formed::Formed;
-use crate::integers::integer;
+use crate::integers::to_integer;
 use crate::texts::{integer_text, push_digits};
 use aml_objects::{Content, Octets};
 use ar_space::{IntegerWidth, Refusal, Result, ValueFault};
@@ -64,7 +64,7 @@ pub fn to_string(
     ensures { Answers result (string_of width (content_of source.entry) (content_of count.entry)) }
 {
     let bytes = to_buffer(alloc, width, source)?;
-    let count = integer(width, count)?;
+    let count = to_integer(width, count)?;
     octets(alloc, before_zero(bytes.as_slice(), count))
 }
 
@@ -105,8 +105,8 @@ fn part_of(
 ) -> Result<Octets>
     ensures { Answers result (part_of width bytes.now (content_of start.entry) (content_of count.entry)) }
 {
-    let start = integer(width, start)?;
-    let count = integer(width, count)?;
+    let start = to_integer(width, start)?;
+    let count = to_integer(width, count)?;
     octets(alloc, part(bytes, start, count))
 }
 
