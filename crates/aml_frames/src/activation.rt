@@ -437,7 +437,7 @@ impl Activation {
     pub fn is_empty(&self) -> bool
         ensures { result ≡ (length self.now.place.rest == 0) }
     {
-        self.cursor().is_empty()
+        self.cursor().rest().is_empty()
     }
 
     /// What stands behind the Else that may follow at a position.

@@ -1,7 +1,7 @@
 //! A reader of terms that stands in lent bytes.
 ghost use Rattle.std.specs.Prelude.{◌≡◌, ◌-◌, ℕ, option_map, Some};
-ghost use Rattle.aml_grammar.specs.Apart.{code_of, first_of, operand_of};
-ghost use Rattle.aml_marked.specs.Marked.{Below, Place, count_at, a_term, a_field, with_row, lent_of};
+ghost use Rattle.aml_grammar.specs.Apart.{code_of, operand_of};
+ghost use Rattle.aml_marked.specs.Marked.{Below, count_at, a_term, a_field, lent_of};
 ghost use Rattle.aml_terms.specs.AtTree.{at_tree, at_list, behind_of, list_of, place_at};
 
 use crate::at::{At, Kind};
@@ -10,7 +10,7 @@ use crate::lent::{lent_here, name_here, view};
 use crate::operands::to_part;
 use crate::places::{behind, cursor_of, standing, term_at};
 use crate::skip::opcode;
-use aml_grammar::{Item, Opcode, OperandView, Row, TermCode, TermReader};
+use aml_grammar::{Item, Opcode, OperandView, TermCode, TermReader};
 use aml_path::NameString;
 use aml_scan::{row_of, starts_name};
 use ar_space::{NameFault, Refusal, Result};
@@ -36,14 +36,6 @@ fn code_at(cursor: &mut Cursor<'_>, levels: u8, element: bool) -> TermCode
             Some(row) => TermCode::Opcode(row.0),
         }
     }
-}
-
-/// The code of a term whose opcode was read.
-#[tactic(auto, unfolding(aml_marked::specs::Marked::with_row, aml_marked::specs::Marked::after, aml_marked::specs::Marked::gives))]
-fn row_code(row: &Row) -> TermCode
-    ensures { (below : Below) → (p : Place) → result ≡ code_of (with_row below (Some row.now) p).0 }
-{
-    TermCode::Opcode(row.0)
 }
 
 /// The code of a field element.
@@ -100,21 +92,6 @@ fn parted<'a>(part: &At<'a>, first: At<'a>) -> Item<At<'a>>
     Item { first, rest }
 }
 
-/// The first item of what stands there, and the others.
-#[tactic(auto, using(aml_marked::proofs::Walking::walking))]
-fn next_of<'a>(part: At<'a>) -> Option<Item<At<'a>>>
-    ensures { at_list part.entry ≡ first_of at_tree at_list result }
-{
-    let is_over = part.turns == 0 || part.rest.is_empty();
-    match part.kind {
-        Kind::Items if !is_over => Some(parted(&part, term_of(&part, false))),
-        Kind::Elements if !is_over => Some(parted(&part, term_of(&part, true))),
-        Kind::Fields if !is_over => Some(parted(&part, field_of(&part))),
-        Kind::Arguments if part.turns > 0 => Some(parted(&part, term_of(&part, false))),
-        _ => None,
-    }
-}
-
 impl<'a> TermReader for At<'a> {
     ghost use Rattle.aml_terms.specs.AtTree.{at_tree, at_list};
 
@@ -122,11 +99,11 @@ impl<'a> TermReader for At<'a> {
 
     ghost list = { at_list };
 
-    #[tactic(auto, unfolding(aml_marked::specs::Marked::an_else, aml_marked::specs::Marked::after, aml_marked::specs::Marked::gives))]
+    #[tactic(auto, unfolding(aml_marked::specs::Marked::with_row, aml_marked::specs::Marked::an_else, aml_marked::specs::Marked::after, aml_marked::specs::Marked::gives))]
     fn code(self) -> TermCode {
         let mut cursor = cursor_of(&self);
         match self.kind {
-            Kind::Coded(place) => row_code(place.row()),
+            Kind::Coded(place) => TermCode::Opcode(place.row().0),
             Kind::Term => code_at(&mut cursor, self.levels, false),
             Kind::Element => code_at(&mut cursor, self.levels, true),
             Kind::Else => TermCode::Opcode(Opcode::Else),
@@ -158,8 +135,16 @@ impl<'a> TermReader for At<'a> {
         }
     }
 
+    #[tactic(auto, using(aml_marked::proofs::Walking::walking))]
     fn next(self) -> Option<Item<At<'a>>> {
-        next_of(self)
+        let is_over = self.turns == 0 || self.rest.is_empty();
+        match self.kind {
+            Kind::Items if !is_over => Some(parted(&self, term_of(&self, false))),
+            Kind::Elements if !is_over => Some(parted(&self, term_of(&self, true))),
+            Kind::Fields if !is_over => Some(parted(&self, field_of(&self))),
+            Kind::Arguments if self.turns > 0 => Some(parted(&self, term_of(&self, false))),
+            _ => None,
+        }
     }
 }
 

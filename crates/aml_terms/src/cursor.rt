@@ -53,13 +53,6 @@ impl<'a> Cursor<'a> {
         self.rest
     }
 
-    /// Whether nothing is left.
-    pub fn is_empty(&self) -> bool
-        ensures { result ≡ (length self.now.rest == 0) }
-    {
-        self.rest.is_empty()
-    }
-
     /// The next byte, which stays, or zero.
     pub fn first(&self) -> u8
         ensures { result ≡ first self.now.rest }

@@ -17,13 +17,12 @@ ghost use Rattle.aml_terms.specs.declared.cursor_terms.Coded.{Coded};
 
 use crate::at::{At, Kind};
 use crate::cursor::Cursor;
-use crate::lent::name_at;
 use crate::places::{cursor_of, standing, term_at};
 use crate::skip::{opcode, skip_arguments, skip_else, skip_row_term, skip_target, skip_term};
 use aml_marks::Marks;
-use aml_path::NameString;
-use aml_scan::{ELSE, RowPlace, row_place, starts_name};
-use ar_space::Result;
+use aml_path::{NameString, Prefix};
+use aml_scan::{ELSE, RowPlace, read_name, row_place, starts_name};
+use ar_space::{Refusal, Result};
 use std::alloc::Global;
 
 /// A term whose opcode was read: its operands begin at the cursor.
@@ -122,10 +121,15 @@ impl<'a> Cursor<'a> {
     }
 
     /// The name that begins here; the root where none does. Refused: `OutOfMemory`.
+    #[tactic(auto, using(crate::proofs::Named::naming), unfolding(aml_marked::specs::Marked::a_name))]
     pub fn name(&self, alloc: Global) -> Result<NameString>
         ensures { Answers result (Ok (a_name self.now).0) }
     {
-        name_at(alloc, self)
+        match read_name(alloc, self.at(), self.rest()) {
+            Ok(name) => Ok(name),
+            Err(Refusal::OutOfMemory) => Err(Refusal::OutOfMemory),
+            Err(_) => Ok(NameString::new(Prefix::Root, Vec::new(alloc))),
+        }
     }
 
     /// A reader of the term that stands next, with at most this many levels.

@@ -2,7 +2,7 @@
 ghost use Rattle.std.specs.Prelude.{◌≡◌, ℕ, length, Some, Ok, option_map};
 ghost use Rattle.ar_space.specs.Outcome.{Answers};
 ghost use Rattle.aml_grammar.specs.Apart.{Shows, name_of};
-ghost use Rattle.aml_marked.specs.Marked.{count_at, a_term, an_operand, a_name, name_or_term, target_of, a_bit_count};
+ghost use Rattle.aml_marked.specs.Marked.{count_at, a_term, an_operand, name_or_term, target_of, a_bit_count};
 ghost use Rattle.aml_marked.specs.Marked.{first, lent_of};
 ghost use Rattle.aml_terms.specs.AtTree.{at_tree, at_list, list_of};
 ghost use Rattle.aml_grammar.specs.Tree.{list};
@@ -14,8 +14,8 @@ use crate::places::{standing, term_at};
 use crate::spot::Spot;
 use aml_grammar::{OperandKind, OperandView};
 use aml_marks::Marks;
-use aml_path::{NameString, Prefix};
-use aml_scan::{ELSE, read_name, starts_name, text_length};
+use aml_path::NameString;
+use aml_scan::{ELSE, starts_name, text_length};
 use ar_space::{NameFault, Refusal, Result};
 use std::alloc::Global;
 
@@ -133,18 +133,6 @@ fn view_target<'a>(cursor: &Cursor<'a>, marks: &'a Marks, levels: u8) -> Operand
 
 // ---- names and bytes
 
-/// The name that begins there; the root where none does.
-#[tactic(auto, using(crate::proofs::Named::naming), unfolding(aml_marked::specs::Marked::a_name))]
-pub(crate) fn name_at(alloc: Global, cursor: &Cursor<'_>) -> Result<NameString>
-    ensures { Answers result (Ok (a_name cursor.now).0) }
-{
-    match read_name(alloc, cursor.at(), cursor.rest()) {
-        Ok(name) => Ok(name),
-        Err(Refusal::OutOfMemory) => Err(Refusal::OutOfMemory),
-        Err(_) => Ok(NameString::new(Prefix::Root, Vec::new(alloc))),
-    }
-}
-
 /// The name at a spot.
 #[tactic(auto, using(crate::proofs::Named::naming), unfolding(aml_marked::specs::Marked::an_operand, aml_marked::specs::Marked::a_target, aml_marked::specs::Marked::a_super_name, aml_marked::specs::Marked::gives, aml_marked::specs::Marked::maybe_else))]
 pub(crate) fn name_here(alloc: Global, cursor: &Cursor<'_>, spot: Spot) -> Result<NameString>
@@ -159,10 +147,10 @@ pub(crate) fn name_here(alloc: Global, cursor: &Cursor<'_>, spot: Spot) -> Resul
             | OperandKind::DeclaredName
             | OperandKind::ExternalName,
             _,
-        ) => name_at(alloc, cursor),
+        ) => cursor.name(alloc),
         Spot::Operand(OperandKind::SuperName | OperandKind::SimpleName, _) => {
             if starts_name(cursor.first()) {
-                name_at(alloc, cursor)
+                cursor.name(alloc)
             } else {
                 Err(Refusal::Name(NameFault::BadName))
             }
@@ -170,7 +158,7 @@ pub(crate) fn name_here(alloc: Global, cursor: &Cursor<'_>, spot: Spot) -> Resul
         Spot::Operand(OperandKind::Target, _) => {
             let next = cursor.first();
             if next > 0 && starts_name(next) {
-                name_at(alloc, cursor)
+                cursor.name(alloc)
             } else {
                 Err(Refusal::Name(NameFault::BadName))
             }

@@ -218,7 +218,7 @@ fn skip_items(cursor: &mut Cursor<'_>, marks: &Marks, levels: u8, element: bool)
     ensures { cursor.new ≡ (all_items (a_term (count_at marks.now) levels) element cursor.old).1 }
 {
     let mut left = cursor.rest().len();
-    'items: while left > 0 && !cursor.is_empty() {
+    'items: while left > 0 && !cursor.rest().is_empty() {
         skip_term(cursor, marks, levels, element);
         left -= 1;
     }
@@ -231,7 +231,7 @@ fn skip_fields(cursor: &mut Cursor<'_>, marks: &Marks, levels: u8)
     ensures { cursor.new ≡ (fields_left (a_term (count_at marks.now) levels) cursor.old).1 }
 {
     let mut left = cursor.rest().len();
-    'fields: while left > 0 && !cursor.is_empty() {
+    'fields: while left > 0 && !cursor.rest().is_empty() {
         skip_field(cursor, marks, levels);
         left -= 1;
     }
