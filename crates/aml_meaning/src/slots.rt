@@ -36,16 +36,14 @@ impl Frame {
         }
     }
 
-    /// The frame with another value in a slot.
-    pub(crate) fn with_slot(self, slot: Slot, value: Value) -> Frame
-        ensures { result ≡ with_slot self slot value }
+    /// Puts a value into a slot.
+    pub(crate) fn put_slot(&mut self, slot: Slot, value: Value)
+        ensures { self.new ≡ with_slot self.old slot value }
     {
-        let mut frame = self;
         match slot {
-            Slot::Local(index) => put(&mut frame.locals, index, value),
-            Slot::Argument(index) => put(&mut frame.arguments, index, value),
+            Slot::Local(index) => put(&mut self.locals, index, value),
+            Slot::Argument(index) => put(&mut self.arguments, index, value),
         }
-        frame
     }
 }
 

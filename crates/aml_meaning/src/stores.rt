@@ -213,8 +213,7 @@ impl<S> WorldState<S> {
         ensures memory { NotMemory result }
     {
         if frame < self.frames.len() {
-            let before = self.frames[frame];
-            self.frames[frame] = before.with_slot(slot, value);
+            self.frames[frame].put_slot(slot, value);
         }
         Ok(())
     }
