@@ -53,7 +53,7 @@ OPERATIONS = ("operations", "wide_operations", "events")
 # What waits for the value of a part of a term, or for its target: an arm of each goes on with it.
 WAITING = ("Monadic", "Dyadic", "TargetUse", "DeclarationPart")
 # What is evaluated without an opcode of its own: its definitions and its functions, each behind its file. Those without a crate are of
-# aml_frames.
+# the crates of evaluation.
 WITHOUT_OPCODE = [
     ("How an item of a list begins, and any other term", "Meaning: step_and_rule",
      "lists: step_items; short_opcodes: take_operator; short_items: try_operator; terms: begin_term begin_coded; operators: begin_operator"),
@@ -95,17 +95,20 @@ One row for each opcode of AML.
 - **Kind** is the rule that evaluates the term (`crates/aml_meaning/specs/Terms.antt`; as code `crates/aml_meaning/src/kinds.rt`).
   *left out* means that the term is read, and refused by number 73 with its opcode where it is evaluated. A kind `wide` is that of a term
   which the wide profile alone evaluates.
-- **Definition** is a function in `crates/aml_meaning/specs`. **Code** has functions of `crates/aml_frames/src`, or of the crate that is
-  named, each behind its file: the one that begins the term, those that this one calls to go on, and those that go on once a part is
+- **Definition** is a function in `crates/aml_meaning/specs`. **Code** has functions of the crates of evaluation, or of the crate that is
+  named, each behind its file (the list below says in which crate that is): the one that begins the term, those that this one calls to go on, and those that go on once a part is
   evaluated (`resume_..`). What all terms share isn't named: lists, targets, stores and accesses of fields (the second table). What an
   operator makes *of values* is defined in `specs/Operations.antt`, and its code is in `crates/aml_meaning/src/operations.rt`; of the wide
   profile in `specs/WideOperations.antt` and `wide_operations.rt`. What gives
   or takes an integer that is there already is done at once (`known`).
 - **Field**, **IndexField**, **BankField** and the `Create` terms only declare fields. How a field of an operation region is read and
-  written is in `specs/Fields.antt`, with its code in `crates/aml_frames/src/field_access.rt`, `index_access.rt` and `bank_access.rt`; for a
+  written is in `specs/Fields.antt`, with its code in `crates/aml_accesses/src/field_access.rt`, `index_access.rt` and `bank_access.rt`; for a
   buffer field in `crates/aml_fields/specs/BufferFields.antt`, with its code in `crates/aml_fields/src/buffer_fields.rt`.
 - **Tests** are files of rows: in `crates/name_rows/data` the one with the row `the opcode NAME, read and refused`, and in
   `crates/evaluation_rows/data` the one that names the term most often.
+
+The files of the crates of evaluation:
+{files}
 
 | Opcode | Name | Section | Meaning | Operands | Count | Targets | Kind | Definition | Code | Tests |
 |---|---|---|---|---|---|---|---|---|---|---|
@@ -328,7 +331,14 @@ def head(rows):
     """What stands above the rows."""
     titles = [f"{number} {title}" for number, title in opcode_table.SECTIONS.items()]
     sections = ",\n  ".join(", ".join(titles[it:it + 3]) for it in range(0, len(titles), 3))
-    return HEAD.format(sections=sections, older=" and ".join(it.name for it in rows if it.section == "20.3"))
+    older = " and ".join(it.name for it in rows if it.section == "20.3")
+    return HEAD.format(sections=sections, older=older, files="\n".join(crate_line(it) for it in steps.CRATES))
+
+
+def crate_line(crate):
+    """The files of a crate of evaluation."""
+    files = (os.path.basename(it)[:-3] for it in files_in(f"crates/{crate}/src/*.rt"))
+    return f"- `{crate}`: " + ", ".join(f"`{it}`" for it in files if it != "lib")
 
 
 def page(rows):

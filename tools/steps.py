@@ -1,4 +1,4 @@
-"""Which functions of crates/aml_frames evaluate a term, followed through the sources: from the arm of a match that begins it, by the calls
+"""Which functions of the crates of evaluation evaluate a term, followed through the sources: from the arm of a match that begins it, by the calls
 of other steps, by the frames that are left to wait, and by what is done with a target. A step is a function that answers what is left to
 do (`Next`), or a flow."""
 import os
@@ -6,7 +6,8 @@ import re
 
 from pages import Wrong, files_in, text_of
 
-CODE = "crates/aml_frames/src"
+# The crates of evaluation, lowest first. No two of their files have one name.
+CRATES = ("aml_frames", "aml_accesses", "aml_declarations", "aml_operators", "aml_evaluation")
 # The files that have no steps: those of the loop, which puts on the stack what a step leaves and begins it; and the types.
 LOOPS, TYPES = ("stack", "waiting"), "frames"
 # What all terms share isn't followed: other terms, lists, targets, stores and accesses of fields, and going over what was read.
@@ -26,11 +27,11 @@ OWN_WORK = re.compile(r"\brun\.|\bNext::|\bFrame::")
 
 
 class Sources:
-    """The files of crates/aml_frames: their functions, each by its file and its name, and which of them are steps."""
+    """The files of the crates of evaluation: their functions, each by its file and its name, and which of them are steps."""
 
     def __init__(self):
         self.functions, self.steps = {}, {}
-        for path in files_in(f"{CODE}/*.rt"):
+        for path in (it for crate in CRATES for it in files_in(f"crates/{crate}/src/*.rt")):
             file = os.path.basename(path)[:-3]
             for _, name, head, body in FUNCTION.findall(text_of(path)):
                 self.functions[file, name] = body

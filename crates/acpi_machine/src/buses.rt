@@ -11,7 +11,7 @@ ghost use Rattle.acpi_machine.specs.Buses.{address_part, bus_of_table, bus_answe
 
 use crate::calls::SPENT;
 use crate::machine::Machine;
-use aml_frames::ask_integer;
+use aml_evaluation::ask_integer;
 use aml_meaning::{Running, Sought, World, WorldState, adr, base_bus, segment_group};
 use aml_path::{Path, Seg};
 use ar_space::{FieldFault, Refusal, Result, Space};

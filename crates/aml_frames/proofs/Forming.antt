@@ -30,6 +30,7 @@ use Rattle.aml_frames.specs.declared.frames.Frame.TheVariants as frames
 use Rattle.aml_frames.specs.declared.frames.Next.{Next}
 use Rattle.aml_frames.specs.declared.frames.Next.TheVariants as next
 use Rattle.aml_frames.specs.declared.frames.Package.{Package}
+use Rattle.aml_frames.specs.Matching.{next_byte}
 use Rattle.aml_frames.specs.Places.{Site, at_place, terms, next_term, behind_term}
 use Rattle.aml_frames.specs.Operands.{inside_at, outside_at, elements_at}
 use Rattle.aml_frames.specs.Data.{buffer_run, buffer_made, package_term_run, var_package_run, package_of_all, package_left, package_run, package_made, named_left, elements_left, unfilled, one_fewer}
@@ -179,3 +180,9 @@ pub ruleset counting = (stepping, leads_unfilled, leads_more)
 pub ruleset naming = (stepping, leads_more, charged_paid)
 
 pub ruleset elements = (leads_element, leads_name, leads_filled, leads_over, leads_no_bytes, charged_less)
+
+-- the byte that stands next, as the byte of an operator
+pub byte_next : (n : ℕ) (c : Site) → n ≡ first c.place.rest → n ≡ next_byte c
+byte_next n c e = e ∙ sym (count_is c.place)
+
+pub ruleset bytes = (byte_next)

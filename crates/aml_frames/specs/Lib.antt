@@ -8,9 +8,9 @@ pub mod Indexed
 pub mod Matching
 pub mod Operands
 pub mod Places
-pub mod ShortNames
-pub mod ShortTerms
 pub mod RegionTerms
 pub mod Stack
 pub mod Uses
 pub mod Weights
+pub mod ShortNames
+pub mod ShortTerms

@@ -108,7 +108,7 @@ impl Activation {
     /// Another share of the same list, at the same byte. It takes no memory, and is refused as `OutOfMemory` where no
     /// more shares can be counted.
     #[tactic(auto, using(ar_space::proofs::Outcomes::answering))]
-    pub(crate) fn share(&self) -> Result<Activation>
+    pub fn share(&self) -> Result<Activation>
         ensures { Answers result (Ok self.now) }
     {
         let bytes = self.bytes.share()?;
@@ -127,7 +127,7 @@ impl Activation {
 
     /// The item of a list that begins here is told where evaluation is refused.
     #[inline(always)]
-    pub(crate) fn tell_from_here(&mut self)
+    pub fn tell_from_here(&mut self)
         ensures { self.new ≡ self.old }
     {
         self.start = self.position.at;
@@ -146,7 +146,7 @@ impl Activation {
     }
 
     /// All bytes of the table or of the body.
-    pub(crate) fn bytes(&self) -> &[u8] {
+    pub fn bytes(&self) -> &[u8] {
         self.bytes.as_slice()
     }
 

@@ -8,7 +8,7 @@ use std::mem;
 /// A `Box` that contracts see as what it holds.
 #[derive(Drop)]
 pub struct Boxed<T> {
-    pub(crate) inside: Box<T>,
+    pub inside: Box<T>,
 }
 
 impl<T> Model for Boxed<T> {

@@ -277,7 +277,7 @@ const _: () = prove!(size_of::<Control>() == 40);
 
 /// Nothing is left to do: this is what the term leaves.
 #[inline(always)]
-pub(crate) fn leave(flow: Flow) -> Result<Next>
+pub fn leave(flow: Flow) -> Result<Next>
     ensures { result ≡ Ok (nexts.Flow flow) }
 {
     Ok(Next::Flow(flow))

@@ -26,7 +26,7 @@ use ar_space::{Result, Space};
 /// of the term. A refusal is that of the term, and comes from the read of a field unit. Where it answers none, nothing
 /// changes.
 #[inline(always)]
-pub(crate) fn known_integer<S: Space>(
+pub fn known_integer<S: Space>(
     run: &mut Running<S>,
     act: &mut Activation,
     levels: u8,
@@ -56,7 +56,7 @@ pub(crate) fn known_integer<S: Space>(
 /// or a field unit, or increments or decrements the integer that a local, an argument or a name holds. It gives the
 /// value of the term, takes no step, and is refused as the term is. Where it answers none, nothing changes.
 #[inline(always)]
-pub(crate) fn use_known<S: Space>(
+pub fn use_known<S: Space>(
     run: &mut Running<S>,
     act: &mut Activation,
     levels: u8,

@@ -28,7 +28,7 @@ use ar_space::Space;
 /// Does Store, Increment, Decrement or an operator on two integers, whose operands stand next, with its store, and gives
 /// its integer. It takes the steps of its operands. In every other case it answers none, and nothing changes.
 #[tactic(auto, using(crate::proofs::ShortItems::items))]
-pub(crate) fn try_operator<S: Space>(
+pub fn try_operator<S: Space>(
     run: &mut Running<S>,
     act: &mut Activation,
     levels: u8,

@@ -48,7 +48,7 @@ fn segment_of(bytes: [u8; 4]) -> Option<Seg>
 }
 
 /// The node that the name finds that begins here, where it is one segment without a prefix.
-pub(crate) fn node_at<S>(world: &WorldState<S>, act: &Activation) -> Option<NodeId>
+pub fn node_at<S>(world: &WorldState<S>, act: &Activation) -> Option<NodeId>
     ensures { IfSome result (λ id. FindsAt world.now act.now.scope act.now.place id.number) }
 {
     match one_segment(act) {
@@ -210,11 +210,7 @@ pub(crate) fn count_at_name<S: Space>(
 /// Acquires the mutex that the name of one segment names which stands next, and goes over the timeout behind it. Where
 /// it names none, or one that is acquired as often as can be counted, it answers no, and nothing changes.
 #[tactic(auto, using(crate::proofs::ShortNames::short_mutexes))]
-pub(crate) fn acquire_at_name<S: Space>(
-    run: &mut Running<S>,
-    act: &mut Activation,
-    levels: u8,
-) -> bool
+pub fn acquire_at_name<S: Space>(run: &mut Running<S>, act: &mut Activation, levels: u8) -> bool
     ensures done { result ≡ true → Does (Ok (flows.Value (values.Integer 0))) run.new
         (target_run S.accesses (meaning S.accesses) (super levels) uses.Acquire act.old) run.old }
     ensures spent { run.new.1 ≤ run.old.1 }
@@ -236,11 +232,7 @@ pub(crate) fn acquire_at_name<S: Space>(
 /// Releases the mutex that the name of one segment names which stands next. Where it names none, or one that nobody
 /// has acquired, it answers no, and nothing changes.
 #[tactic(auto, using(crate::proofs::ShortNames::short_mutexes))]
-pub(crate) fn release_at_name<S: Space>(
-    run: &mut Running<S>,
-    act: &mut Activation,
-    levels: u8,
-) -> bool
+pub fn release_at_name<S: Space>(run: &mut Running<S>, act: &mut Activation, levels: u8) -> bool
     ensures done { result ≡ true → Does (Ok flows.Next) run.new
         (target_run S.accesses (meaning S.accesses) (super levels) uses.Release act.old) run.old }
     ensures spent { run.new.1 ≤ run.old.1 }

@@ -49,7 +49,7 @@ fn operator_at(byte: u8) -> Option<OperatorKind>
 /// knows it. In every other case nothing changes, also where no step or no level is left.
 #[inline(always)]
 #[tactic(auto, unfolding(aml_meaning::specs::Run::charge))]
-pub(crate) fn take_operator<S>(
+pub fn take_operator<S>(
     run: &mut Running<S>,
     act: &mut Activation,
     levels: u8,

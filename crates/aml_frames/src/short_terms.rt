@@ -75,7 +75,7 @@ fn short_at(byte: u8) -> Short
 /// integer behind its opcode. It takes a step, and evaluation goes behind the term. In every other case, also where no
 /// step or no level is left, nothing changes.
 #[inline(always)]
-pub(crate) fn short_integer<S: Space>(
+pub fn short_integer<S: Space>(
     run: &mut Running<S>,
     act: &mut Activation,
     levels: u8,
@@ -117,11 +117,7 @@ pub(crate) fn short_integer<S: Space>(
 
 /// The value of the next local or argument, if it holds one. It takes a step, and evaluation goes behind the term. In
 /// every other case, also where no step or no level is left, nothing changes.
-pub(crate) fn slot_value<S: Space>(
-    run: &mut Running<S>,
-    act: &mut Activation,
-    levels: u8,
-) -> Option<Value>
+pub fn slot_value<S: Space>(run: &mut Running<S>, act: &mut Activation, levels: u8) -> Option<Value>
     ensures value { IfSome result (λ value. Does (Ok (flows.Value value)) run.new
         (term_run S.accesses (meaning S.accesses) act.old levels) run.old) }
     ensures paid { IfSome result (λ value. run.new.1 < run.old.1) }
@@ -147,7 +143,7 @@ pub(crate) fn slot_value<S: Space>(
 /// The integer of the next bytes, the lowest first; missing ones are zero. Reads of one, two and four bytes are inlined;
 /// `number_of`, for eight bytes or missing ones, isn't.
 #[inline(always)]
-#[tactic(auto, using(crate::proofs::Matching::bytes))]
+#[tactic(auto, using(crate::proofs::Forming::bytes))]
 fn number_at(act: &Activation, count: usize) -> u64
     requires { count ≤ 8 }
     ensures { result ≡ (an_integer count act.now.place).0 }

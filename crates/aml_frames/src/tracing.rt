@@ -18,7 +18,7 @@ const EXTENDED: u8 = 0x5B;
 
 /// A frame that waits is given up. The predicate of a While is no item of a list: the While is told in its place.
 /// Where names stand in a scope of their own in the body of a control method, the scope around it is kept.
-pub(crate) fn give_up(act: &mut Activation, outer: &mut Option<MethodPath>, frame: Frame)
+pub fn give_up(act: &mut Activation, outer: &mut Option<MethodPath>, frame: Frame)
     ensures { act.new ≡ act.old }
 {
     match frame {
@@ -29,7 +29,7 @@ pub(crate) fn give_up(act: &mut Activation, outer: &mut Option<MethodPath>, fram
 }
 
 /// The last list that is given up, which is the outermost one: the trace is told whole.
-pub(crate) fn tell_last<S>(run: &mut Running<S>, act: &Activation, outer: &Option<MethodPath>)
+pub fn tell_last<S>(run: &mut Running<S>, act: &Activation, outer: &Option<MethodPath>)
     ensures { run.new ≡ run.old }
 {
     tell_place(run, act, outer);
@@ -38,7 +38,7 @@ pub(crate) fn tell_last<S>(run: &mut Running<S>, act: &Activation, outer: &Optio
 
 /// The list that is given up, with the scope that was around those in the body of a control method. One without bytes
 /// is none: no term stands in it.
-pub(crate) fn tell_place<S>(run: &mut Running<S>, act: &Activation, outer: &Option<MethodPath>)
+pub fn tell_place<S>(run: &mut Running<S>, act: &Activation, outer: &Option<MethodPath>)
     ensures { run.new ≡ run.old }
 {
     if act.bytes().is_empty() {
@@ -92,7 +92,7 @@ fn code_of(first: u8) -> Option<u16> {
 
 /// What came of a name, which the trace tells where it is refused.
 #[inline(always)]
-pub(crate) fn told<S, A>(
+pub fn told<S, A>(
     world: &mut WorldState<S>,
     act: &Activation,
     name: &NameString,
@@ -112,11 +112,7 @@ pub(crate) fn told<S, A>(
 
 /// What came of the name that stands next, which the trace tells where it is refused.
 #[inline(always)]
-pub(crate) fn told_here<S, A>(
-    world: &mut WorldState<S>,
-    act: &Activation,
-    outcome: Result<A>,
-) -> Result<A>
+pub fn told_here<S, A>(world: &mut WorldState<S>, act: &Activation, outcome: Result<A>) -> Result<A>
     ensures same { result ≡ outcome }
     ensures world { world.new ≡ world.old }
 {
@@ -141,11 +137,7 @@ fn tell_name<S>(world: &mut WorldState<S>, act: &Activation)
 }
 
 /// What came of the object at a path, which the trace tells where it is refused.
-pub(crate) fn told_path<S, A>(
-    world: &mut WorldState<S>,
-    path: &Path,
-    outcome: Result<A>,
-) -> Result<A>
+pub fn told_path<S, A>(world: &mut WorldState<S>, path: &Path, outcome: Result<A>) -> Result<A>
     ensures same { result ≡ outcome }
     ensures world { world.new ≡ world.old }
 {
@@ -160,7 +152,7 @@ pub(crate) fn told_path<S, A>(
 
 /// The predicate of a While is refused: the While is told.
 #[cold]
-pub(crate) fn told_loop(act: &mut Activation, turn: Loop, refusal: Refusal) -> Refusal
+pub fn told_loop(act: &mut Activation, turn: Loop, refusal: Refusal) -> Refusal
     ensures same { result ≡ refusal }
     ensures act { act.new ≡ act.old }
 {
@@ -170,7 +162,7 @@ pub(crate) fn told_loop(act: &mut Activation, turn: Loop, refusal: Refusal) -> R
 
 /// What came of the predicate of a While at a further turn: where it is refused, the While is told.
 #[inline(always)]
-pub(crate) fn told_turn(act: &mut Activation, turn: Loop, outcome: Result<Next>) -> Result<Next>
+pub fn told_turn(act: &mut Activation, turn: Loop, outcome: Result<Next>) -> Result<Next>
     ensures same { result ≡ outcome }
     ensures act { act.new ≡ act.old }
 {

@@ -4,15 +4,17 @@ ghost use Rattle.ar_space.specs.Change.{Does};
 ghost use Rattle.ar_space.specs.Outcome.{NotMemory};
 ghost use Rattle.aml_meaning.specs.Invocations.{value_of_call};
 ghost use Rattle.aml_meaning.specs.Readings.{integer_in};
+ghost use Rattle.aml_frames.specs.Uses.{told};
 
-use aml_meaning::{Flow, WorldState};
+use crate::uses::Inquiry;
+use aml_meaning::{Flow, Referent, WorldState};
 use aml_objects::Value;
 use ar_space::Result;
 
 /// The integer that a value is converted to: an integer is it already.
 #[inline(always)]
 #[tactic(auto, unfolding(aml_meaning::specs::Readings::integer_in))]
-pub(crate) fn integer_of<S>(world: &WorldState<S>, value: Value) -> Result<u64>
+pub fn integer_of<S>(world: &WorldState<S>, value: Value) -> Result<u64>
     ensures answer { Does result world.now (integer_in value) world.now }
     ensures memory { NotMemory result }
 {
@@ -23,7 +25,7 @@ pub(crate) fn integer_of<S>(world: &WorldState<S>, value: Value) -> Result<u64>
 }
 
 /// The value of a call.
-pub(crate) fn value_of_call(flow: Flow) -> Value
+pub fn value_of_call(flow: Flow) -> Value
     ensures { result ≡ value_of_call flow }
 {
     match flow {
@@ -32,5 +34,17 @@ pub(crate) fn value_of_call(flow: Flow) -> Value
         Flow::Break => Value::Uninitialized,
         Flow::Continue => Value::Uninitialized,
         Flow::Return(_) => Value::Uninitialized,
+    }
+}
+
+/// What SizeOf and ObjectType tell of a referent that is no field.
+#[tactic(auto, using(aml_meaning::proofs::Runs::running))]
+pub fn tell<S>(world: &WorldState<S>, inquiry: Inquiry, referent: Referent) -> Result<Value>
+    ensures answer { Does result world.now (told inquiry referent) world.now }
+    ensures memory { NotMemory result }
+{
+    match inquiry {
+        Inquiry::SizeOf => world.size(referent),
+        Inquiry::ObjectType => Ok(Value::Integer(referent.object_type().number())),
     }
 }

@@ -10,7 +10,7 @@ ghost use Rattle.aml_meaning.specs.Calling.{answered, invocation_exported, value
 
 use crate::export::{MAX_NESTING, value_exported};
 use crate::fields::{field_given, field_value};
-use aml_frames::call_method;
+use aml_evaluation::call_method;
 use aml_meaning::{Datum, Invocation, Running, World, WorldState};
 use aml_objects::Value;
 use aml_path::{NameString, Path, Prefix};

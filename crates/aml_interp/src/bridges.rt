@@ -6,7 +6,7 @@ ghost use Rattle.aml_meaning.specs.Meaning.{meaning};
 ghost use Rattle.aml_meaning.specs.Fields.{bus_behind, bus_behind_all};
 ghost use Rattle.aml_frames.specs.Uses.{asking};
 
-use aml_frames::ask_integer;
+use aml_evaluation::ask_integer;
 use aml_meaning::{Running, adr};
 use aml_path::Path;
 use ar_space::{Result, Space};

@@ -11,8 +11,8 @@ ghost use Rattle.aml_frames.specs.Uses.{asking};
 use crate::bank_fields::bank_bits;
 use crate::bridges::bus_behind_all;
 use crate::index_fields::index_bits;
+use aml_evaluation::ask_integer;
 use aml_fields::{AddressSpace, Region};
-use aml_frames::ask_integer;
 use aml_meaning::{
     Datum, RegionField, RegionSpace, Running, Sought, adr, base_bus, pci_space, segment_group,
     space_numbered,

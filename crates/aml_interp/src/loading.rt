@@ -7,7 +7,8 @@ ghost use Rattle.aml_objects.specs.declared.value.Value.TheVariants.{Uninitializ
 ghost use Rattle.aml_meaning.specs.Calling.{loaded, table_run, in_frame, framed, with_steps, at_root};
 
 use crate::readings::read_table;
-use aml_frames::{Activation, MethodPath, evaluate_list};
+use aml_evaluation::evaluate_list;
+use aml_frames::{Activation, MethodPath};
 use aml_meaning::{Running, World};
 use aml_objects::{Body, Octets, Value};
 use aml_path::Path;

@@ -1,0 +1,107 @@
+//! What an object answers that is a part of an address (ACPI 6.5, 5.5.2.4): one more call is made, of those that may
+//! be made one inside another.
+ghost use Rattle.std.specs.Prelude.{◌≡◌, ◌≤◌, ◌<◌, ◌-◌, [], IfOk, Ok};
+ghost use Rattle.ar_space.specs.Change.{Does, settle};
+ghost use Rattle.ar_space.specs.Outcome.{Answers, NotMemory};
+ghost use Rattle.aml_meaning.specs.Meaning.{meaning};
+ghost use Rattle.aml_meaning.specs.Readings.{absolute};
+ghost use Rattle.aml_meaning.specs.Invocations.{invocation_found};
+ghost use Rattle.aml_meaning.specs.FieldCalls.{answer_within, answer_over, asked};
+ghost use Rattle.aml_meaning.specs.Regions.{integer_only};
+ghost use Rattle.aml_frames.specs.Addresses.{Asks};
+ghost use Rattle.aml_frames.specs.Uses.{asking};
+ghost use Rattle.aml_frames.specs.Weights.{part_weight, asked_weight};
+
+use crate::accesses::calls_left;
+use aml_frames::{Asked, Waited, told_path};
+use aml_meaning::{Invocation, Running, WorldState, integer_only};
+use aml_objects::Value;
+use aml_path::{NameString, Path, Prefix};
+use ar_space::{EvaluationFault, Refusal, Result, Space, ValueFault};
+use std::alloc::Global;
+
+/// The integer that the object at a path answers, where so many calls may still be made, or what gives it.
+#[tactic(auto, using(crate::proofs::Addressing::answering), unfolding(aml_meaning::specs::FieldCalls::asked))]
+pub fn ask<S: Space>(run: &mut Running<S>, calls: usize, path: &Path) -> Result<Asked>
+    ensures spent { run.new.1 ≤ run.old.1 }
+    ensures few { IfOk result (λ a. asked_weight a ≤ part_weight calls) }
+    ensures means { Asks S.accesses (meaning S.accesses) result run.new
+        (asking S.accesses (meaning S.accesses) calls path.now) run.old }
+{
+    let answered = invocation(&run.world, path);
+    let found = told_path(&mut run.world, path, answered)?;
+    answer(run, calls, found)
+}
+
+/// What was found answers, where so many calls may still be made, this one among them.
+#[tactic(auto, using(crate::proofs::Addressing::answering))]
+fn answer<S: Space>(run: &Running<S>, calls: usize, found: Invocation) -> Result<Asked>
+    ensures memory { NotMemory result }
+    ensures few { IfOk result (λ a. asked_weight a ≤ part_weight calls) }
+    ensures means { Asks S.accesses (meaning S.accesses) result run.now
+        (answer_within S.accesses (meaning S.accesses) calls found) run.now }
+{
+    if calls == 0 {
+        return Err(Refusal::Evaluation(EvaluationFault::CallDepth));
+    }
+    run.world.call_allowed(calls_left(calls))?;
+    answer_allowed(run, calls, found)
+}
+
+/// What was found answers, where one more call may be made: so many may with it.
+#[tactic(auto, using(crate::proofs::Addressing::answering))]
+fn answer_allowed<S: Space>(run: &Running<S>, calls: usize, found: Invocation) -> Result<Asked>
+    requires { 0 < calls }
+    ensures memory { NotMemory result }
+    ensures few { IfOk result (λ a. asked_weight a ≤ part_weight calls) }
+    ensures means { Asks S.accesses (meaning S.accesses) result run.now
+        (answer_over S.accesses (meaning S.accesses) (calls - 1)
+        (asked (answer_within S.accesses (meaning S.accesses) (calls - 1))) found) run.now }
+{
+    match found {
+        Invocation::Value(value) => known(run, value),
+        Invocation::Field(field) => Ok(Asked::Waits(Waited::Field(calls - 1, field))),
+        Invocation::Method(path, body) => {
+            Ok(Asked::Waits(Waited::Method(calls_left(calls), path, body)))
+        }
+        Invocation::Osi => Err(Refusal::Value(ValueFault::WrongType)),
+    }
+}
+
+/// A value answers where it is an integer.
+#[tactic(auto, using(crate::proofs::Addressing::answering))]
+fn known<S: Space>(run: &Running<S>, value: Value) -> Result<Asked>
+    ensures memory { NotMemory result }
+    ensures few { IfOk result (λ a. asked_weight a ≤ 0) }
+    ensures means { Asks S.accesses (meaning S.accesses) result run.now (settle (integer_only value)) run.now }
+{
+    match integer_only(value) {
+        Ok(number) => Ok(Asked::Known(number)),
+        Err(refusal) => Err(refusal),
+    }
+}
+
+/// What the object at a path is that is asked for without arguments.
+fn invocation<S: Space>(world: &WorldState<S>, path: &Path) -> Result<Invocation>
+    ensures { Does result world.now (invocation_found [] (absolute path.now) 0) world.now }
+{
+    match absolute(world.alloc, path) {
+        Ok(name) => from_root(world, &name),
+        Err(refusal) => Err(refusal),
+    }
+}
+
+/// What the object is that a name finds from the root and that is asked for without arguments.
+fn from_root<S: Space>(world: &WorldState<S>, name: &NameString) -> Result<Invocation>
+    ensures { Does result world.now (invocation_found [] name.now 0) world.now }
+{
+    let root = Path::root(world.alloc);
+    world.invocation(world.scope(&root), name, 0)
+}
+
+/// A path, as a name that stands for it anywhere.
+fn absolute(alloc: Global, path: &Path) -> Result<NameString>
+    ensures { Answers result (Ok (absolute path.now)) }
+{
+    Ok(NameString::new(Prefix::Root, path.copy(alloc)?.into_vec()))
+}

@@ -1,0 +1,308 @@
+//! Accesses of fields of operation regions (ACPI 6.5, 5.5.2.4 and 19.6: OperationRegion, Field, BankField).
+ghost use Rattle.std.specs.Prelude.{◌≡◌, ◌≤◌, ◌<◌, ◌+◌, ◌*◌, IfOk, Ok};
+ghost use Rattle.ar_space.specs.Change.{Does};
+ghost use Rattle.ar_space.specs.Outcome.{NotMemory};
+ghost use Rattle.aml_meaning.specs.declared.regions.RegionSpace.TheVariants as kinds;
+ghost use Rattle.aml_meaning.specs.Fields.{unit_of};
+ghost use Rattle.aml_meaning.specs.Regions.{region_declared};
+ghost use Rattle.aml_meaning.specs.Run.{lift};
+ghost use Rattle.ar_space.specs.Accesses.{bit_count};
+ghost use Rattle.aml_meaning.specs.Meaning.{meaning};
+ghost use Rattle.aml_objects.specs.declared.entry.Field.TheVariants as fields;
+ghost use Rattle.aml_frames.specs.declared.uses.Accessed.TheVariants as object;
+ghost use Rattle.aml_frames.specs.Addresses.{done_in, space_known, space_run};
+ghost use Rattle.aml_frames.specs.Follow.{Leads, EndsAt};
+ghost use Rattle.aml_frames.specs.Uses.{access_run, access_done, read_as};
+ghost use Rattle.aml_frames.specs.Weights.{region_weight, behind_weight, field_weight, access_weight, next_weight};
+
+use crate::bank_access::{begin_banked, begin_units};
+use crate::index_access::begin_indexed;
+use crate::pci::begin_pci;
+use aml_fields::{AddressSpace, Region, merge};
+use aml_frames::{
+    Access, Accessed, Activation, BankedField, Doing, Next, Reading, RegionAccess, tell,
+};
+use aml_meaning::{Flow, RegionField, RegionSpace, Running, space_numbered};
+use aml_objects::{
+    BufferField, Field, FieldSource, FieldUnit, Octets, OperationRegion, UpdateRule, Value,
+};
+use aml_path::Path;
+use ar_space::{EvaluationFault, Refusal, Result, Space, Width};
+
+/// An access of a field: of a buffer, of a region, or behind an index field and a data field.
+#[tactic(auto, using(crate::proofs::Addressing::fields))]
+pub fn begin_access<S: Space>(
+    run: &mut Running<S>,
+    act: &Activation,
+    access: Access,
+) -> Result<Next>
+    ensures spent { run.new.1 ≤ run.old.1 }
+    ensures falls { IfOk result (λ n. next_weight n < access_weight access) }
+    ensures means { Leads S.accesses (meaning S.accesses) result act.now run.new
+        (access_run S.accesses (meaning S.accesses) access) run.old }
+    ensures ends { EndsAt result act.now act.now }
+{
+    match access.object {
+        Accessed::Unit(field) => begin_region(run, act, access.calls, field, access.doing),
+        Accessed::Field(Field::Buffer(field)) => {
+            access_buffer(run, act, access.calls, field, access.doing)
+        }
+        Accessed::Field(Field::Unit(unit)) => {
+            begin_unit(run, act, access.calls, unit, access.doing)
+        }
+    }
+}
+
+/// An access of a field unit.
+#[tactic(auto, using(crate::proofs::Addressing::fields, crate::proofs::UnitSteps::indexed, crate::proofs::BankSteps::banks))]
+fn begin_unit<S: Space>(
+    run: &mut Running<S>,
+    act: &Activation,
+    calls: usize,
+    unit: FieldUnit,
+    doing: Doing,
+) -> Result<Next>
+    ensures spent { run.new.1 ≤ run.old.1 }
+    ensures falls { IfOk result (λ n. next_weight n < field_weight calls) }
+    ensures means { Leads S.accesses (meaning S.accesses) result act.now run.new
+        (access_done S.accesses (meaning S.accesses) calls (object.Field (fields.Unit unit)) doing) run.old }
+    ensures ends { EndsAt result act.now act.now }
+{
+    match unit.source {
+        FieldSource::Region(region) => {
+            begin_region(run, act, calls, RegionField { region, unit }, doing)
+        }
+        FieldSource::Index(index, behind) => {
+            begin_indexed(run, act, calls, (index, behind), (unit, doing))
+        }
+        FieldSource::Bank(region, bank) => {
+            begin_banked(run, act, calls, (region, bank), (unit, doing))
+        }
+    }
+}
+
+/// An access of a buffer field: bits of its buffer.
+#[tactic(auto, using(crate::proofs::Addressing::fields))]
+fn access_buffer<S: Space>(
+    run: &mut Running<S>,
+    act: &Activation,
+    calls: usize,
+    field: BufferField,
+    doing: Doing,
+) -> Result<Next>
+    ensures spent { run.new.1 ≤ run.old.1 }
+    ensures falls { IfOk result (λ n. next_weight n < 4) }
+    ensures means { Leads S.accesses (meaning S.accesses) result act.now run.new
+        (access_done S.accesses (meaning S.accesses) calls (object.Field (fields.Buffer field)) doing) run.old }
+    ensures ends { EndsAt result act.now act.now }
+{
+    match doing {
+        Doing::Read(reading) => {
+            let bytes = run.world.read_buffer_field(field)?;
+            finish_read(run, act, reading, field.bits, bytes)
+        }
+        Doing::Write(bytes) => {
+            run.world.write_buffer_field(field, bytes.as_slice())?;
+            Ok(Next::Flow(Flow::Next))
+        }
+    }
+}
+
+/// An access of a field of a region: the region is looked up, and its address is asked for where it is in PCI_Config.
+#[tactic(auto, using(crate::proofs::Addressing::regions), unfolding(aml_frames::specs::Weights::behind_weight))]
+pub fn begin_region<S: Space>(
+    run: &mut Running<S>,
+    act: &Activation,
+    calls: usize,
+    field: RegionField,
+    doing: Doing,
+) -> Result<Next>
+    ensures spent { run.new.1 ≤ run.old.1 }
+    ensures falls { IfOk result (λ n. next_weight n < region_weight calls) }
+    ensures means { Leads S.accesses (meaning S.accesses) result act.now run.new
+        (access_done S.accesses (meaning S.accesses) calls (object.Unit field) doing) run.old }
+    ensures ends { EndsAt result act.now act.now }
+{
+    let declared = region_of(run, field.region)?;
+    let access = RegionAccess {
+        calls,
+        field,
+        bank: None,
+        offset: declared.1.offset,
+        length: declared.1.length,
+        doing,
+    };
+    begin_declared(
+        run,
+        act,
+        access,
+        space_numbered(declared.1.space),
+        &declared.0,
+    )
+}
+
+/// The region with the number of a declaration, and the scope that it was declared in.
+#[tactic(auto, using(aml_meaning::proofs::Runs::running))]
+pub(crate) fn region_of<S: Space>(run: &Running<S>, number: u64) -> Result<(Path, OperationRegion)>
+    ensures { Does result run.now (lift (region_declared number)) run.now }
+{
+    run.world.region_declared(number)
+}
+
+/// An access of a field of a region of this kind, which was declared in a scope.
+#[tactic(auto, using(crate::proofs::Addressing::spaces_known))]
+pub(crate) fn begin_declared<S: Space>(
+    run: &mut Running<S>,
+    act: &Activation,
+    access: RegionAccess,
+    kind: RegionSpace,
+    scope: &Path,
+) -> Result<Next>
+    ensures spent { run.new.1 ≤ run.old.1 }
+    ensures falls { IfOk result (λ n. next_weight n < region_weight access.calls + behind_weight access) }
+    ensures means { Leads S.accesses (meaning S.accesses) result act.now run.new
+        (space_run S.accesses (meaning S.accesses) access kind scope.now) run.old }
+    ensures ends { EndsAt result act.now act.now }
+    ensures memory { kind ≡ kinds.Other → NotMemory result }
+{
+    match kind {
+        RegionSpace::SystemMemory => access_space(run, act, access, AddressSpace::Memory),
+        RegionSpace::SystemIo => access_space(run, act, access, AddressSpace::Io),
+        RegionSpace::PciConfig => begin_pci(run, act, access, scope),
+        RegionSpace::Other => Err(Refusal::Evaluation(EvaluationFault::SpaceKind)),
+    }
+}
+
+/// An access of a field of a region whose address space is known.
+#[tactic(auto, using(crate::proofs::BankSteps::spaces))]
+pub(crate) fn access_space<S: Space>(
+    run: &mut Running<S>,
+    act: &Activation,
+    access: RegionAccess,
+    space: AddressSpace,
+) -> Result<Next>
+    ensures spent { run.new.1 ≤ run.old.1 }
+    ensures falls { IfOk result (λ n. next_weight n < 4 + behind_weight access) }
+    ensures means { Leads S.accesses (meaning S.accesses) result act.now run.new
+        (space_known S.accesses (meaning S.accesses) access space) run.old }
+    ensures ends { EndsAt result act.now act.now }
+{
+    let RegionAccess {
+        calls,
+        field,
+        bank,
+        offset,
+        length,
+        doing,
+    } = access;
+    let region = Region {
+        space,
+        offset,
+        length,
+    };
+    match bank {
+        None => access_located(run, act, field, region, doing),
+        Some(bank) => {
+            let banked = BankedField {
+                calls,
+                bank: bank.into_inner(),
+                region,
+                field: field.unit,
+            };
+            begin_units(run, act, banked, doing)
+        }
+    }
+}
+
+/// An access of a field of a region that is located.
+#[tactic(auto, using(crate::proofs::Addressing::reading_as))]
+fn access_located<S: Space>(
+    run: &mut Running<S>,
+    act: &Activation,
+    field: RegionField,
+    region: Region,
+    doing: Doing,
+) -> Result<Next>
+    ensures spent { run.new.1 ≤ run.old.1 }
+    ensures falls { IfOk result (λ n. next_weight n < 4) }
+    ensures means { Leads S.accesses (meaning S.accesses) result act.now run.new
+        (done_in S.accesses doing field region) run.old }
+    ensures ends { EndsAt result act.now act.now }
+{
+    let unit = field.unit;
+    match doing {
+        Doing::Read(reading) => {
+            let bytes = run.world.read_field(region, unit)?;
+            finish_read(run, act, reading, unit.bits, bytes)
+        }
+        Doing::Write(bytes) => {
+            run.world.write_field(region, unit, bytes.as_slice())?;
+            Ok(Next::Flow(Flow::Next))
+        }
+    }
+}
+
+/// What the bits of a field are read as: so many bits.
+#[tactic(auto, using(crate::proofs::Addressing::reading_as), unfolding(aml_frames::specs::Uses::read_as))]
+pub(crate) fn finish_read<S: Space>(
+    run: &mut Running<S>,
+    act: &Activation,
+    reading: Reading,
+    count: u32,
+    bytes: Vec<u8>,
+) -> Result<Next>
+    ensures spent { run.new.1 ≤ run.old.1 }
+    ensures falls { IfOk result (λ n. next_weight n < 4) }
+    ensures means { Leads S.accesses (meaning S.accesses) result act.now run.new
+        (read_as reading count bytes.items) run.old }
+    ensures ends { EndsAt result act.now act.now }
+{
+    match reading {
+        Reading::Value => {
+            let value = run.world.value_of_bits(count, Octets::from_vec(bytes))?;
+            Ok(Next::Flow(Flow::Value(value)))
+        }
+        Reading::Integer => {
+            let number = run.world.integer_of_bits(&bytes)?;
+            Ok(Next::Flow(Flow::Value(Value::Integer(number))))
+        }
+        Reading::Part => {
+            let number = run.world.integer_alone(count, &bytes)?;
+            Ok(Next::Flow(Flow::Value(Value::Integer(number))))
+        }
+        Reading::Unit(width) => Ok(Next::Flow(Flow::Value(Value::Integer(unit_of(width, &bytes))))),
+        Reading::Inquire(inquiry) => {
+            let referent = run.world.referent_of_bits(count, &bytes)?;
+            let value = tell(&run.world, inquiry, referent)?;
+            Ok(Next::Flow(Flow::Value(value)))
+        }
+    }
+}
+
+/// The unit that the bits of a data field make, cut or with zeros behind them.
+fn unit_of(width: Width, bytes: &[u8]) -> u64
+    ensures { result ≡ unit_of width bytes.now }
+{
+    merge(
+        UpdateRule::WriteAsZeros,
+        width,
+        0,
+        0,
+        bytes,
+        0,
+        bit_count(width),
+    )
+}
+
+/// How many bits an access of a width has.
+fn bit_count(width: Width) -> usize
+    ensures count { result ≡ bit_count width }
+    ensures few { result ≤ 64 }
+{
+    match width {
+        Width::W8 => 8,
+        Width::W16 => 16,
+        Width::W32 => 32,
+        Width::W64 => 64,
+    }
+}

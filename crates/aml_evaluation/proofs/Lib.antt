@@ -1,0 +1,4 @@
+pub mod Machine
+pub mod Unwinding
+pub mod Answering
+pub mod LoopTurns

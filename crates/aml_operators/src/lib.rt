@@ -1,0 +1,27 @@
+//! Steps of operators with their targets, of statements, and of names where values stand.
+//!
+//! Begin with `operators` and `statements`. A target is found by `targets` and used by `target_uses`; references are in
+//! `references`, Match in `searching`, terms of the wide profile alone in `wide`. An operand that is a string or a buffer
+//! needs no frame where `short_values` makes it at once.
+//!
+//! The parameters `run`, `act` and `levels` are as in `aml_frames`.
+#![tactic(auto)]
+
+mod names;
+mod operators;
+mod references;
+mod searching;
+mod short_values;
+mod statements;
+mod target_uses;
+mod targets;
+mod wide;
+
+pub use names::begin_name;
+pub use operators::{begin_operator, resume_first, resume_operand, resume_quotient, resume_second};
+pub use references::{resume_found, resume_referent};
+pub use searching::{resume_match, resume_matched};
+pub use statements::{begin_predicate, begin_statement, next_branch, next_turn};
+pub use target_uses::resume_counted;
+pub use targets::{begin_target, resume_dereferenced, resume_index_target};
+pub use wide::{begin_wide, resume_third, resume_wait};
