@@ -94,7 +94,8 @@ impl Declarations {
 }
 
 impl ScannedBody {
-    /// What is kept of a scan: shares of the body and of its marks. It takes no memory.
+    /// What is kept of a scan: shares of the body and of its marks. It is refused as `OutOfMemory` where no more shares
+    /// can be counted.
     fn shared(levels: usize, body: &Body, marks: &Marks) -> Result<ScannedBody>
         ensures { Answers result (Ok (record {
           body = body.now;

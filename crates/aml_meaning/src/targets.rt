@@ -143,11 +143,10 @@ impl<S> WorldState<S> {
     pub(crate) fn placed_declaration(&self, number: u64) -> Result<(Located, &Entry)>
         ensures { Does (seen (λ d. (d.0, d.1.now)) result) self.now (declaration number) self.now }
     {
-        let node = NodeId::numbered(number);
-        let Some(entry) = self.names().node(node) else {
+        let Some(entry) = self.names().node(NodeId::numbered(number)) else {
             return Err(Refusal::Evaluation(EvaluationFault::DeadReference));
         };
-        match self.names().locate_node(self.alloc, node)? {
+        match self.names().locate_numbered(self.alloc, number)? {
             None => Err(Refusal::Evaluation(EvaluationFault::DeadReference)),
             Some(located) => Ok((located, entry)),
         }

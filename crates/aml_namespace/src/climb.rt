@@ -30,6 +30,7 @@ impl Names {
         ensures parent { (f : List Seg × Entry) → numbered id.number self.now.map ≡ Some f →
             MatchOption result (f.0 ≡ []) (λ above. IsParent self.now.map f.0 above.0.number above.1) }
     {
+        // The nodes are read for the invariant of the names.
         let nodes = &self.nodes;
         if id.number == 0 {
             return None;

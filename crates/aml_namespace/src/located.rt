@@ -71,6 +71,14 @@ impl Names {
         }
     }
 
+    /// The path of the declaration with a number, and its node; none where it doesn't stand.
+    pub fn locate_numbered(&self, alloc: Global, number: u64) -> Result<Option<Located>>
+        ensures { Answers result (Ok (option_map (λ f. f.0) (numbered number self.now.map))) }
+    {
+        let node = self.nodes.id_of(number);
+        self.locate_node(alloc, node)
+    }
+
     /// The node that stands at the path of a name that was found. It takes no memory.
     fn node_at(&self, located: &Located) -> Option<NodeId>
         ensures { option_map (λ id. numbered id.number self.now.map) result ≡

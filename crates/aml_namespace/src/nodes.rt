@@ -98,6 +98,16 @@ impl Nodes {
         }
     }
 
+    /// The id of the node with a number, with its key while it stands.
+    pub(crate) fn id_of(&self, number: u64) -> NodeId
+        ensures { result.number ≡ number }
+    {
+        match self.keys.get(&number) {
+            None => NodeId::numbered(number),
+            Some(key) => NodeId { key: *key, number },
+        }
+    }
+
     /// A node below a parent by a segment, if a hint leads to one; where none does, there may be one all the same. It
     /// takes no memory.
     pub(crate) fn hinted(&self, parent: u64, segment: Seg) -> Option<NodeId>
