@@ -20,7 +20,7 @@ use crate::index_access::begin_indexed;
 use crate::pci::begin_pci;
 use aml_fields::{AddressSpace, Region, merge};
 use aml_frames::{
-    Access, Accessed, Activation, BankedField, Doing, Next, Reading, RegionAccess, tell,
+    Access, Accessed, Activation, BankedField, Doing, Next, Reading, RegionAccess, size_or_type,
 };
 use aml_meaning::{Flow, RegionField, RegionSpace, Running, space_numbered};
 use aml_objects::{
@@ -273,7 +273,7 @@ pub(crate) fn finish_read<S: Space>(
         Reading::Unit(width) => Ok(Next::Flow(Flow::Value(Value::Integer(unit_of(width, &bytes))))),
         Reading::Inquire(inquiry) => {
             let referent = run.world.referent_of_bits(count, &bytes)?;
-            let value = tell(&run.world, inquiry, referent)?;
+            let value = size_or_type(&run.world, inquiry, referent)?;
             Ok(Next::Flow(Flow::Value(value)))
         }
     }

@@ -190,7 +190,7 @@ pub(crate) fn ask_address<S: Space>(
 
 /// What gives a part of the address is waited for.
 #[tactic(auto, using(crate::proofs::Addressing::waiting))]
-pub fn wait<S: Space>(
+pub(crate) fn wait<S: Space>(
     run: &mut Running<S>,
     act: &Activation,
     pci: PciAccess,

@@ -1,3 +1,3 @@
 pub mod BankTerms
 pub mod DeclaringFields
-pub mod ShortValues
+pub mod MadeValues

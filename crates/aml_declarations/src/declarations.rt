@@ -19,7 +19,9 @@ ghost use Rattle.aml_frames.specs.Declarations.{scope_object};
 ghost use Rattle.aml_frames.specs.Follow.{place_of, at_position, behind_coded, resumed, ends, next_ends, Leads, EndsAt};
 ghost use Rattle.aml_frames.specs.Weights.{next_weight};
 
-use aml_frames::{Activation, Frame, MethodPath, Next, Position, bytes, leave, number, told};
+use aml_frames::{
+    Activation, Frame, MethodPath, Next, Position, bytes_operand, leave, number_operand, told,
+};
 use aml_grammar::TermReader;
 use aml_meaning::{DeclarationKind, Flow, Running, WorldState};
 use aml_objects::{MethodFlags, NamedObject, NodeId};
@@ -162,8 +164,8 @@ fn declare_method<S: Space>(
     let term = act.coded_term(levels, place);
     let name = term.name(run.world.alloc, 0)?;
     let path = resolve(&mut run.world, act, &name)?;
-    let flags = number(&term, 1)?;
-    let body = bytes(run.world.alloc, &term, 2)?;
+    let flags = number_operand(&term, 1)?;
+    let body = bytes_operand(run.world.alloc, &term, 2)?;
     let flags = MethodFlags {
         byte: (flags % 256) as u8,
     };

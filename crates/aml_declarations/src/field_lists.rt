@@ -12,7 +12,7 @@ ghost use Rattle.aml_meaning.specs.FieldTerms.{named_connection, connection_if, 
 ghost use Rattle.aml_meaning.specs.FieldTerms.{has_connection, connections_asked};
 ghost use Rattle.aml_frames.specs.Declarations.{coded_tree};
 
-use aml_frames::{Activation, is_named, list, number, told};
+use aml_frames::{Activation, is_named, list_operand, number_operand, told};
 use aml_grammar::{Opcode, TermCode, TermReader};
 use aml_meaning::{FieldGroup, FieldLayout, Flow, Running, WorldState, access_width, update_rule};
 use aml_objects::FieldSource;
@@ -33,12 +33,12 @@ pub(crate) fn declare_fields<S: Space>(
 {
     let alloc = run.world.alloc;
     let term = act.coded_term(levels, place);
-    let elements = list(&term, 2)?;
+    let elements = list_operand(&term, 2)?;
     ask_for_connections(&run.world, Opcode::Field, elements)?;
     let name = term.name(alloc, 0)?;
     let found = run.world.region_found(act.scope(), &name);
     let region = told(&mut run.world, act, &name, found)?;
-    let flags = number(&term, 1)?;
+    let flags = number_operand(&term, 1)?;
     lay_fields(run, act, FieldSource::Region(region), flags, elements)
 }
 
@@ -56,7 +56,7 @@ pub(crate) fn declare_index_fields<S: Space>(
 {
     let alloc = run.world.alloc;
     let term = act.coded_term(levels, place);
-    let elements = list(&term, 3)?;
+    let elements = list_operand(&term, 3)?;
     ask_for_connections(&run.world, Opcode::IndexField, elements)?;
     let name = term.name(alloc, 0)?;
     let found = run.world.field_found(act.scope(), &name);
@@ -64,7 +64,7 @@ pub(crate) fn declare_index_fields<S: Space>(
     let name = term.name(alloc, 1)?;
     let found = run.world.field_found(act.scope(), &name);
     let behind = told(&mut run.world, act, &name, found)?;
-    let flags = number(&term, 2)?;
+    let flags = number_operand(&term, 2)?;
     lay_fields(run, act, FieldSource::Index(index, behind), flags, elements)
 }
 
@@ -156,7 +156,7 @@ fn lay_named<S: Space>(
     let name = element.name(world.alloc, 0)?;
     let resolved = name.resolve_in(world.alloc, act.scope().path);
     let path = told(world, act, &name, resolved)?;
-    let count = number(element, 1)?;
+    let count = number_operand(element, 1)?;
     let laid = world.new_field(group, act.depth() == 0, path, at, count);
     told(world, act, &name, laid)
 }
@@ -173,7 +173,7 @@ fn lay_reserved<S: Space>(
     ensures { Does result world.now (reserved_field group act.now.scope act.now.depth at
         (at_tree element.now)) world.now }
 {
-    let count = number(element, 0)?;
+    let count = number_operand(element, 0)?;
     at.further(count)
 }
 
@@ -189,7 +189,7 @@ fn lay_access<S: Space>(
     ensures { Does result world.now (access_field group act.now.scope act.now.depth at
         (at_tree element.now)) world.now }
 {
-    let flags = number(element, 0)?;
+    let flags = number_operand(element, 0)?;
     Ok(at.with_access(flags))
 }
 

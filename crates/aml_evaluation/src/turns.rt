@@ -8,11 +8,11 @@ ghost use Rattle.aml_frames.specs.declared.frames.Control.TheVariants as control
 ghost use Rattle.aml_frames.specs.Stack.{machine, Goes, TurnWaits, stack_weight, control_weight};
 ghost use Rattle.aml_frames.specs.Weights.{charged};
 
-use crate::resuming::resume_turn;
 use crate::stack::follow;
 use crate::waiting::{Stack, go_to_flow, go_to_items};
 use aml_frames::{Control, Entry, Frame, Loop, Next};
 use aml_meaning::{Flow, Running};
+use aml_operators::resume_turn;
 use ar_space::{Result, Space};
 
 /// The While that waits on the top of the stack, if one does.

@@ -28,7 +28,7 @@ pub(crate) struct Stack {
 
 impl Stack {
     /// A stack on which nothing waits.
-    pub fn new(alloc: Global, act: Activation) -> Stack
+    pub(crate) fn new(alloc: Global, act: Activation) -> Stack
         ensures act { result.act ≡ act }
         ensures empty { result.entries.items ≡ [] }
     {

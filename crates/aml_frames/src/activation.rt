@@ -146,7 +146,7 @@ impl Activation {
     }
 
     /// All bytes of the table or of the body.
-    pub fn bytes(&self) -> &[u8] {
+    pub(crate) fn bytes(&self) -> &[u8] {
         self.bytes.as_slice()
     }
 

@@ -48,7 +48,7 @@ pub use indexed::{
     IndexedField, UnitReads, UnitWrites, UnitsLeft, is_kept, merge_unit, put_unit, zeros,
 };
 pub use known::{known_integer, use_known};
-pub use operands::{bytes, is_named, list, number};
+pub use operands::{bytes_operand, is_named, list_operand, number_operand};
 pub use position::{MethodPath, Position};
 pub use short_items::try_operator;
 pub use short_names::{acquire_at_name, node_at, release_at_name};
@@ -61,4 +61,4 @@ pub use uses::{
     Access, Accessed, Doing, Dyadic, Inquiry, Monadic, Reading, SecondOperand, Target, TargetForm,
     TargetUse,
 };
-pub use values::{integer_of, tell, value_of_call};
+pub use values::{integer_of, size_or_type, value_of_call};

@@ -12,7 +12,7 @@ use ar_space::{NameFault, Refusal, Result};
 use std::alloc::Global;
 
 /// An operand that is a number.
-pub fn number(term: &At<'_>, index: usize) -> Result<u64>
+pub fn number_operand(term: &At<'_>, index: usize) -> Result<u64>
     ensures answer { Answers result (number_of (operand_of (at_tree term.now) index)) }
     ensures memory { NotMemory result }
 {
@@ -33,7 +33,7 @@ pub fn is_named(term: &At<'_>, index: usize) -> bool
 }
 
 /// An operand that is bytes.
-pub fn bytes(alloc: Global, term: &At<'_>, index: usize) -> Result<Octets>
+pub fn bytes_operand(alloc: Global, term: &At<'_>, index: usize) -> Result<Octets>
     ensures { Answers result (bytes_of (operand_of (at_tree term.now) index)) }
 {
     match term.bytes(alloc, index) {
@@ -43,7 +43,7 @@ pub fn bytes(alloc: Global, term: &At<'_>, index: usize) -> Result<Octets>
 }
 
 /// An operand that is a list of terms.
-pub fn list<'t>(term: &At<'t>, index: usize) -> Result<At<'t>>
+pub fn list_operand<'t>(term: &At<'t>, index: usize) -> Result<At<'t>>
     ensures answer { Answers (seen at_list result) (list_of (operand_of (at_tree term.now) index)) }
     ensures memory { NotMemory result }
 {

@@ -39,7 +39,7 @@ pub fn value_of_call(flow: Flow) -> Value
 
 /// What SizeOf and ObjectType tell of a referent that is no field.
 #[tactic(auto, using(aml_meaning::proofs::Runs::running))]
-pub fn tell<S>(world: &WorldState<S>, inquiry: Inquiry, referent: Referent) -> Result<Value>
+pub fn size_or_type<S>(world: &WorldState<S>, inquiry: Inquiry, referent: Referent) -> Result<Value>
     ensures answer { Does result world.now (told inquiry referent) world.now }
     ensures memory { NotMemory result }
 {

@@ -7,6 +7,7 @@
 //! The parameters `run`, `act` and `levels` are as in `aml_frames`.
 #![tactic(auto)]
 
+mod loops;
 mod names;
 mod operators;
 mod references;
@@ -17,11 +18,12 @@ mod target_uses;
 mod targets;
 mod wide;
 
+pub use loops::{resume_predicate, resume_turn};
 pub use names::begin_name;
 pub use operators::{begin_operator, resume_first, resume_operand, resume_quotient, resume_second};
 pub use references::{resume_found, resume_referent};
 pub use searching::{resume_match, resume_matched};
-pub use statements::{begin_predicate, begin_statement, next_branch, next_turn};
+pub use statements::{begin_statement, resume_fatal, resume_if, resume_pause, resume_return};
 pub use target_uses::resume_counted;
 pub use targets::{begin_target, resume_dereferenced, resume_index_target};
 pub use wide::{begin_wide, resume_third, resume_wait};

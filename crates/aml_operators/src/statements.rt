@@ -8,25 +8,25 @@ ghost use Rattle.aml_meaning.specs.StatementTerms.{otherwise};
 ghost use Rattle.aml_meaning.specs.Terms.{else_of};
 ghost use Rattle.aml_meaning.specs.declared.term_kind.StatementKind.TheVariants as statements;
 ghost use Rattle.aml_frames.specs.declared.frames.Frame.TheVariants as frames;
-ghost use Rattle.aml_frames.specs.declared.frames.Loop.{Loop};
 ghost use Rattle.aml_frames.specs.declared.frames.Next.TheVariants as next;
 ghost use Rattle.aml_frames.specs.Places.{at_place, terms};
-ghost use Rattle.aml_frames.specs.Follow.{behind_else, statement_run, branch_at, behind_statement_at, next_run, turn_left};
+ghost use Rattle.aml_frames.specs.Follow.{behind_else, statement_run, branch_at, behind_statement_at, next_run, resumed, ends};
 ghost use Rattle.aml_frames.specs.Follow.{next_ends, Leads, EndsAt};
 ghost use Rattle.aml_frames.specs.declared.uses.TargetUse.TheVariants as uses;
 ghost use Rattle.aml_frames.specs.Uses.{super, target_ends, target_run};
-ghost use Rattle.aml_frames.specs.Weights.{most, next_weight, target_weight, charged};
+ghost use Rattle.aml_frames.specs.Weights.{most, next_weight, target_weight};
 
+use crate::loops::begin_while;
 use crate::targets::begin_target;
 use aml_convert::is_true;
 use aml_frames::{
-    Activation, Frame, Loop, Next, Position, Target, TargetUse, known_integer, leave,
+    Activation, Frame, Next, Position, Target, TargetUse, integer_of, known_integer, leave,
     release_at_name,
 };
 use aml_meaning::{Flow, Running, StatementKind};
 use aml_objects::Value;
 use aml_terms::ELSE;
-use ar_space::{Result, Space};
+use ar_space::{EvaluationFault, Refusal, Result, Space};
 
 /// A statement: its first part is evaluated, or it is done.
 #[inline(always)]
@@ -162,7 +162,7 @@ fn choose_branch<S: Space>(
 
 /// The list of an If, or the Else behind it.
 #[tactic(auto, using(aml_frames::proofs::Stepping::branching))]
-pub fn next_branch<S: Space>(
+fn next_branch<S: Space>(
     run: &mut Running<S>,
     act: &mut Activation,
     levels: u8,
@@ -218,63 +218,77 @@ fn begin_else<S: Space>(run: &Running<S>, act: &mut Activation, levels: u8) -> R
     Ok(Next::Items(act.items(levels, outer)))
 }
 
-/// While: its predicate is evaluated.
-#[tactic(auto, using(aml_frames::proofs::Stepping::looping, aml_frames::proofs::Knowing::going_on))]
-fn begin_while<S: Space>(run: &mut Running<S>, act: &mut Activation, levels: u8) -> Result<Next>
+/// An If whose predicate was evaluated.
+#[tactic(auto, using(aml_frames::proofs::Stepping::stepping))]
+pub fn resume_if<S: Space>(
+    run: &mut Running<S>,
+    act: &mut Activation,
+    levels: u8,
+    outer: Position,
+    flow: Flow,
+) -> Result<Next>
     ensures spent { run.new.1 ≤ run.old.1 }
     ensures falls { IfOk result (λ n. next_weight n < 6) }
     ensures memory { NotMemory result }
     ensures means { Leads S.accesses (meaning S.accesses) result act.new run.new
-        (statement_run S.accesses (meaning S.accesses) statements.While act.old levels) run.old }
-    ensures ends { EndsAt result act.new (behind_statement_at statements.While act.old levels) }
+        (resumed S.accesses (meaning S.accesses) (frames.If levels outer) act.old flow) run.old }
+    ensures ends { EndsAt result act.new (ends (frames.If levels outer) act.old) }
 {
-    let outer = act.open();
-    let predicate = act.position();
-    let turn = Loop {
-        levels,
-        predicate,
-        outer,
-    };
-    begin_predicate(run, act, turn)
+    let value = flow.value()?;
+    let number = integer_of(&run.world, value)?;
+    next_branch(run, act, levels, outer, is_true(number))
 }
 
-/// The predicate of a While stands next: an integer that is there already decides at once, and for any other term the
-/// While waits (`Frame::Predicate`).
-#[inline(always)]
-#[tactic(auto, using(aml_frames::proofs::Knowing::taking_known))]
-pub fn begin_predicate<S: Space>(
+/// A Return whose argument was evaluated.
+#[tactic(auto, using(aml_frames::proofs::Stepping::stepping))]
+pub fn resume_return<S: Space>(
     run: &mut Running<S>,
     act: &mut Activation,
-    turn: Loop,
+    flow: Flow,
 ) -> Result<Next>
     ensures spent { run.new.1 ≤ run.old.1 }
-    ensures few { IfOk result (λ n. next_weight n < 6) }
-    ensures falls { IfOk result (λ n. charged run.new.1 + next_weight n < charged run.old.1 + 4) }
-    ensures same { IfOk result (λ n. (again : Loop) → n ≡ next.Turn again → again ≡ turn) }
+    ensures falls { IfOk result (λ n. next_weight n < 6) }
     ensures memory { NotMemory result }
     ensures means { Leads S.accesses (meaning S.accesses) result act.new run.new
-        (next_run S.accesses (meaning S.accesses) (next.Term turn.levels (frames.Predicate turn)) act.old) run.old }
-    ensures ends { EndsAt result act.new (next_ends (next.Term turn.levels (frames.Predicate turn)) act.old) }
+        (resumed S.accesses (meaning S.accesses) frames.Return act.old flow) run.old }
+    ensures ends { EndsAt result act.new act.old }
 {
-    match known_integer(run, act, turn.levels)? {
-        Some(number) => Ok(next_turn(run, act, turn, is_true(number))),
-        None => Ok(Next::Term(turn.levels, Frame::Predicate(turn))),
-    }
+    let value = flow.value()?;
+    Ok(Next::Flow(Flow::Return(value)))
 }
 
-/// Where the predicate of a While holds, its list is next; else the While ends.
-#[tactic(auto, using(aml_frames::proofs::Stepping::looping))]
-pub fn next_turn<S: Space>(run: &Running<S>, act: &mut Activation, turn: Loop, holds: bool) -> Next
-    ensures falls { next_weight result < 6 }
-    ensures same { (again : Loop) → result ≡ next.Turn again → again ≡ turn }
-    ensures means { Leads S.accesses (meaning S.accesses) (Ok result) act.new run.now
-        (turn_left S.accesses (meaning S.accesses) turn act.old holds) run.now }
-    ensures ends { next_ends result act.new ≡ at_position act.old turn.outer }
+/// A Stall, a Sleep or a Notify, whose last operand was evaluated: no time passes, and nobody is notified.
+#[tactic(auto, using(aml_frames::proofs::Stepping::stepping))]
+pub fn resume_pause<S: Space>(
+    run: &mut Running<S>,
+    act: &mut Activation,
+    flow: Flow,
+) -> Result<Next>
+    ensures spent { run.new.1 ≤ run.old.1 }
+    ensures falls { IfOk result (λ n. next_weight n < 6) }
+    ensures memory { NotMemory result }
+    ensures means { Leads S.accesses (meaning S.accesses) result act.new run.new
+        (resumed S.accesses (meaning S.accesses) frames.Pause act.old flow) run.old }
+    ensures ends { EndsAt result act.new act.old }
 {
-    if holds {
-        Next::Turn(turn)
-    } else {
-        act.go_to(turn.outer);
-        Next::Flow(Flow::Next)
-    }
+    let _time = flow.value()?;
+    Ok(Next::Flow(Flow::Next))
+}
+
+/// Fatal ends the evaluation.
+#[tactic(auto, using(aml_frames::proofs::Stepping::stepping))]
+pub fn resume_fatal<S: Space>(
+    run: &mut Running<S>,
+    act: &mut Activation,
+    flow: Flow,
+) -> Result<Next>
+    ensures spent { run.new.1 ≤ run.old.1 }
+    ensures falls { IfOk result (λ n. next_weight n < 6) }
+    ensures memory { NotMemory result }
+    ensures means { Leads S.accesses (meaning S.accesses) result act.new run.new
+        (resumed S.accesses (meaning S.accesses) frames.Fatal act.old flow) run.old }
+    ensures ends { EndsAt result act.new act.old }
+{
+    let _argument = flow.value()?;
+    Err(Refusal::Evaluation(EvaluationFault::Fatal))
 }

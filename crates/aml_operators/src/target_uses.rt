@@ -13,7 +13,9 @@ ghost use Rattle.aml_frames.specs.Weights.{most, use_weight, next_weight};
 
 use crate::references::begin_found;
 use aml_accesses::{begin_read, begin_write, read_access};
-use aml_frames::{Activation, Boxed, Frame, Inquiry, Next, Reading, TargetUse, integer_of, tell};
+use aml_frames::{
+    Activation, Boxed, Frame, Inquiry, Next, Reading, TargetUse, integer_of, size_or_type,
+};
 use aml_meaning::{
     Count, EventChange, Flow, Held, Referent, Running, StoreTarget, Stored, WorldState,
 };
@@ -244,7 +246,7 @@ pub(crate) fn inquire<S: Space>(
     match referent {
         Referent::Field(field) => begin_read(run, act, field, Reading::Inquire(inquiry)),
         Referent::Value(_) | Referent::Object(_) | Referent::Bytes(_) => {
-            let value = tell(&run.world, inquiry, referent)?;
+            let value = size_or_type(&run.world, inquiry, referent)?;
             Ok(Next::Flow(Flow::Value(value)))
         }
     }

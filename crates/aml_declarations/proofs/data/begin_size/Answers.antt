@@ -2,7 +2,7 @@ use Rattle.aml_frames.specs.declared.frames.Frame.TheVariants as frames
 use Rattle.aml_frames.specs.Data.{buffer_filled}
 use Rattle.aml_frames.proofs.Forming.{buffer_known}
 use Rattle.aml_frames.proofs.Knowing.{taken_known}
-use Rattle.aml_declarations.proofs.ShortValues.{filled_leads}
+use Rattle.aml_declarations.proofs.MadeValues.{filled_leads}
 use Rattle.aml_frames.proofs.Stepping.{leads_err}
 use Rattle.aml_declarations.proofs.data.begin_size.Goals as goal
 

@@ -4,7 +4,7 @@ use Rattle.aml_scan.specs.RowsAt.{row_at}
 use Rattle.aml_meaning.specs.declared.term_kind.DataKind.TheVariants as datas
 use Rattle.aml_meaning.specs.declared.term_kind.TermKind.TheVariants as kinds
 use Rattle.aml_frames.specs.Operands.{row_kind}
-use Rattle.aml_declarations.proofs.ShortValues.{buffer_ends, each_refusal, each_value, handed_on, text_ends, text_leads, text_refused}
+use Rattle.aml_declarations.proofs.MadeValues.{buffer_ends, each_refusal, each_value, handed_on, text_ends, text_leads, text_refused}
 use Rattle.aml_frames.proofs.Stepping.{kind_there, leads_data}
 use Rattle.aml_operators.proofs.short_values.coded_value.Goals as goal
 

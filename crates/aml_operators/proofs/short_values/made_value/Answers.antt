@@ -1,7 +1,7 @@
 use Rattle.std.proofs.Common.{◌∙◌, ap, arith, sym}
 use Rattle.aml_frames.specs.ShortTerms.{is_made}
 use Rattle.aml_frames.proofs.ShortTerms.{charged_one}
-use Rattle.aml_declarations.proofs.ShortValues.{done_begun, handed_on, refused_begun}
+use Rattle.aml_declarations.proofs.MadeValues.{done_begun, handed_on, refused_begun}
 use Rattle.aml_operators.proofs.short_values.made_value.Goals as goal
 
 pub returns-in_err-paid_value-clause-refused : goal.returns-in_err-paid_value-clause-refused

@@ -1,6 +1,6 @@
 use Rattle.std.proofs.Common.{false}
 use Rattle.aml_marked.specs.Marked.{count_at}
-use Rattle.aml_declarations.proofs.ShortValues.{each_refusal, each_value}
+use Rattle.aml_declarations.proofs.MadeValues.{each_refusal, each_value}
 use Rattle.aml_frames.proofs.Stepping.{leads_begun}
 use Rattle.aml_operators.proofs.short_values.paid_value.Goals as goal
 

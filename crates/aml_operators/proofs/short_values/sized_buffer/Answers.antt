@@ -1,4 +1,4 @@
-use Rattle.aml_declarations.proofs.ShortValues.{filled_leads, filled_refused, handed_on, sized_leads}
+use Rattle.aml_declarations.proofs.MadeValues.{filled_leads, filled_refused, handed_on, sized_leads}
 use Rattle.aml_operators.proofs.short_values.sized_buffer.Goals as goal
 
 pub returns-clause-value : goal.returns-clause-value

@@ -2,7 +2,7 @@ use Rattle.std.proofs.Common.{arith}
 use Rattle.aml_frames.specs.declared.frames.Frame.TheVariants as frames
 use Rattle.aml_frames.proofs.Knowing.{taken_known, predicate_known}
 use Rattle.aml_frames.proofs.Weighing.{charged_paid}
-use Rattle.aml_operators.proofs.statements.begin_predicate.Goals as goal
+use Rattle.aml_operators.proofs.loops.begin_predicate.Goals as goal
 
 pub returns-in-Some-clause-falls : goal.returns-in-Some-clause-falls
 returns-in-Some-clause-falls g c =

@@ -4,7 +4,7 @@ use Rattle.aml_frames.specs.declared.frames.Loop.{Loop}
 use Rattle.aml_frames.specs.declared.frames.Next.TheVariants as next
 use Rattle.aml_frames.proofs.Knowing.{leads_on}
 use Rattle.aml_frames.proofs.Stepping.{leads_while}
-use Rattle.aml_operators.proofs.statements.begin_while.Goals as goal
+use Rattle.aml_operators.proofs.loops.begin_while.Goals as goal
 
 pub returns-clause-means : goal.returns-clause-means
 returns-clause-means g c =
