@@ -1,10 +1,11 @@
-//! Steps of fields that are read and written, and of calls of control methods.
+//! Reads and writes of fields, and calls of control methods.
 //!
-//! Begin with `accesses` and `field_access`. An address in PCI_Config asks for objects above its region, which may be
-//! control methods (`asking`, `pci`, `bridges`): so an access may have to enter one (`calls`) and wait for it. Fields
+//! Begin with `accesses` and `field_access`. To find an address in PCI_Config, objects of the devices
+//! above the region are evaluated, which may be control methods (`asking`, `pci`, `bridges`): so an access may have to
+//! enter one (`calls`) and wait for it. Fields
 //! behind an index field are in `index_access`, those in a bank in `bank_access`.
 //!
-//! The parameters `run`, `act` and `levels` are as in `aml_frames`.
+//! The parameters `run`, `act` and `levels` are as in `aml_frames`, whose `specs/` define what these steps mean.
 #![tactic(auto)]
 
 mod accesses;

@@ -1,9 +1,9 @@
-//! Steps of data and of terms that declare names.
+//! Integers, strings, buffers and packages, and terms that declare names.
 //!
 //! Begin with `data` and `declarations`. Integers, strings and buffers are in `data`, packages in `packages`, regions and
 //! fields in `regions`, `field_lists` and `bank_fields`.
 //!
-//! The parameters `run`, `act` and `levels` are as in `aml_frames`.
+//! The parameters `run`, `act` and `levels` are as in `aml_frames`, whose `specs/` define what these steps mean.
 #![tactic(auto)]
 
 mod bank_fields;

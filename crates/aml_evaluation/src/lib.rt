@@ -1,10 +1,10 @@
 //! The machine: one loop over a stack of frames in memory, in place of functions that call themselves.
 //!
-//! Begin with `call_method`, `evaluate_list` and `ask_integer`. The loop is in `stack`: it takes a term's first step
+//! Begin with `evaluation` (`call_method`, `ask_integer`) and `stack` (`evaluate_list`). The loop is in `stack`: it takes a term's first step
 //! (`terms`), or has the frame on top go on with what it waited for (`resuming`). Items of lists are in `lists`, those
 //! that the wide profile passes over in `passing`, turns of a While in `turns`; `waiting` is the stack itself.
 //!
-//! The parameters `run`, `act` and `levels` are as in `aml_frames`.
+//! The parameters `run`, `act` and `levels` are as in `aml_frames`, whose `specs/` define what these steps mean.
 #![tactic(auto)]
 
 mod evaluation;

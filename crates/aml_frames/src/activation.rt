@@ -140,7 +140,7 @@ impl Activation {
         self.start = start;
     }
 
-    /// Where the term began that is told where evaluation is refused.
+    /// Where the term begins that the trace of a refusal names.
     pub(crate) fn start(&self) -> usize {
         self.start
     }

@@ -16,7 +16,7 @@ const WHILE: u8 = 0xA2;
 /// The first byte of an opcode of two bytes.
 const EXTENDED: u8 = 0x5B;
 
-/// A frame that waits is given up. The predicate of a While is no item of a list: the While is told in its place.
+/// A frame that waits is given up. The predicate of a While is no item of a list, so the trace names its While.
 /// Where names stand in a scope of their own in the body of a control method, the scope around it is kept.
 pub fn give_up(act: &mut Activation, outer: &mut Option<MethodPath>, frame: Frame)
     ensures { act.new ≡ act.old }

@@ -1,10 +1,10 @@
-//! Steps of operators with their targets, of statements, and of names where values stand.
+//! Operators and their targets, statements (If, While, Return and their like), and names that are used as values.
 //!
-//! Begin with `operators` and `statements`. A target is found by `targets` and used by `target_uses`; references are in
-//! `references`, Match in `searching`, terms of the wide profile alone in `wide`. An operand that is a string or a buffer
-//! needs no frame where `short_values` makes it at once.
+//! Begin with `operators`, `statements` and `names`; While is in `loops`. A target is found by `targets` and used by `target_uses`; references are in
+//! `references`, Match in `searching`, terms of the wide profile alone in `wide`. An operand that is a local, an
+//! argument, a string or a buffer needs no frame where `short_values` gives it at once.
 //!
-//! The parameters `run`, `act` and `levels` are as in `aml_frames`.
+//! The parameters `run`, `act` and `levels` are as in `aml_frames`, whose `specs/` define what these steps mean.
 #![tactic(auto)]
 
 mod loops;
