@@ -96,3 +96,5 @@ module _ {S : Type 0} (accesses : Accesses S) (m : Meter S) (place : Place) (wid
 
   pub write_is_refused : (value : ℕ) → m.left ≡ Some 0 → (metered accesses).writes m place width value ≡ (Err Device, m)
   write_is_refused value is = ap (λ o. made m o (λ x. accesses.writes x place width value)) is
+
+pub ruleset bounding = (read_is_made, read_is_refused, write_is_made, write_is_refused)

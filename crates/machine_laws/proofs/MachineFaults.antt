@@ -48,3 +48,7 @@ module _ {S : Type 0} (accesses : Accesses S) where
 
   pub fault_of_gathering : (fault : SpaceFault) (avoid : List ℕ) (s : MachineState S) → (gathered accesses avoid s).0 ≡ Err (Space fault) → LastFaults accesses fault s.world.space (gathered accesses avoid s).1.world.space
   fault_of_gathering fault avoid s e = fault_explained accesses (gathered accesses avoid s).0 s.world.space _ fault ((gathered_explains avoid).explained s) e
+
+pub ruleset faults_of_calls = (fault_of_tables, fault_of_initialization, fault_of_object)
+
+pub ruleset faults_of_links = (fault_of_routing_table, fault_of_possible, fault_of_current, fault_of_setting, fault_of_gathering)

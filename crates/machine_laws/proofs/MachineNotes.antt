@@ -46,3 +46,7 @@ module _ {S : Type 0} (accesses : Accesses S) where
 
   pub notes_of_gathering : (avoid : List ℕ) (s : MachineState (WithNotes S)) → TellsNotes (gathered (noted accesses) avoid s).0 s.world.space (gathered (noted accesses) avoid s).1.world.space
   notes_of_gathering avoid s = explained_told accesses _ _ _ ((gathered_explains avoid).explained s)
+
+pub ruleset notes_of_calls = (notes_of_tables, notes_of_initialization, notes_of_object)
+
+pub ruleset notes_of_links = (notes_of_routing_table, notes_of_possible, notes_of_current, notes_of_setting, notes_of_gathering)

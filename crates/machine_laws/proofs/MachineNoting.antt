@@ -66,3 +66,5 @@ module _ {S : Type 0} (accesses : Accesses S) where
   pub gathering_unnoted : (avoid : List ℕ) (s : MachineState (WithNotes S)) → gathered accesses avoid (machine_without_notes s) ≡ call_without_notes (gathered (noted accesses) avoid s)
   unfolding noting
   gathering_unnoted avoid s = machine_unnoted _ _ (goes_from (noting accesses) machines _ _ ((gathered_together {side = alike (noting accesses)} (λ n. refl) (inl refl) avoid).goes (machine_without_notes s) s.world.space refl))
+
+pub ruleset unnoted = (tables_unnoted, initialization_unnoted, object_unnoted, routing_table_unnoted, possible_unnoted, current_unnoted, setting_unnoted, gathering_unnoted)

@@ -166,3 +166,7 @@ module _ {S : Type 0} (accesses : Accesses S) where
     pub first_of_loading : (t : Tables) (steps : ℕ) → KeepsTheFirst (loaded_tables accesses t steps osi fresh).1.passed
     unfolding loaded_tables settle ◌>>=◌
     first_of_loading t steps = first_behind_texts (few_texts osi) t steps
+
+pub ruleset evaluating = (loading_evaluates, call_evaluates, initializing_evaluates, object_evaluates)
+
+pub ruleset first_accesses = (first_of_loading, first_of_initializing, more_of_initializing, first_of_object)

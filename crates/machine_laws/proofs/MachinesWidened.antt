@@ -141,3 +141,7 @@ module _ {S : Type 0} (accesses : Accesses S) where
   pub gathering_widened : (avoid : List ℕ) (s : MachineState S) → IsWithheld (gathered accesses avoid s).0 ⊎ (gathered accesses avoid (machine_widened s) ≡ call_widened (gathered accesses avoid s))
   unfolding in_routing raised
   gathering_widened avoid s = routing_call_widened _ (gathered_together {side = in_routing} (λ n. refl) routing_asks avoid) s
+
+pub ruleset widening_calls = (tables_widened, initialization_widened, object_widened, current_widened, setting_widened)
+
+pub ruleset widening_links = (routing_table_widened, possible_widened, gathering_widened)

@@ -147,3 +147,5 @@ module _ {S : Type 0} (accesses : Accesses S) where
     offers = is.offers;
     counts = is.counts;
   }
+
+pub ruleset widening_reports = (report_widened, report_with_options_widened)

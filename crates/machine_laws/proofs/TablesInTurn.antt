@@ -31,3 +31,5 @@ module _ {S : Type 0} (accesses : Accesses S) (steps : ℕ) where
   pub not_loaded_with_more_texts : (t : Tables) (osi : List (List ℕ)) (w : State S) → 64 < length osi → loaded_tables accesses t steps osi w ≡ (Err (refusal.Evaluation ObjectLimit), w)
   unfolding loaded_tables settle go_on ◌>>=◌
   not_loaded_with_more_texts t osi w more = let test : nat_lt 64 (length osi) ≡ true = grind (arith, nat_tests) in rw test refl
+
+pub ruleset loading = (all_in_turn, loaded_behind_the_predefined, not_loaded_with_more_texts)

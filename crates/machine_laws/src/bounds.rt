@@ -36,7 +36,7 @@ pub fn no_more_accesses_are_made_than_the_bound<S>()
 /// While accesses are left each one is made of the space below and answered as there, and one less is left; with none
 /// left it is answered `Device`, and the space below doesn't see it. A bound that refuses an access too early is
 /// refused by this.
-#[tactic(auto, using(crate::proofs::AccessesBounded::read_is_made, crate::proofs::AccessesBounded::read_is_refused, crate::proofs::AccessesBounded::write_is_made, crate::proofs::AccessesBounded::write_is_refused))]
+#[tactic(auto, using(crate::proofs::AccessesBounded::bounding))]
 pub fn each_access_within_the_bound_is_made<S>()
     ensures read { (accesses : Accesses S) (m : Meter S) (place : Places) (width : Widths) (n : ℕ) →
         m.left ≡ Some (suc n) → (metered accesses).reads m place width ≡ (

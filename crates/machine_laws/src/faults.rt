@@ -22,7 +22,7 @@ ghost use Rattle.acpi_links.specs.Gatherings.{gathered};
 /// register space, accesses that are all answered with values lead to a space at which one more is answered with that
 /// fault, and the space is left as that access leaves it. Of the accesses that the call made itself
 /// `machine_faults_are_answers_of_the_last_access` says so.
-#[tactic(auto, using(crate::proofs::MachineFaults::fault_of_tables, crate::proofs::MachineFaults::fault_of_initialization, crate::proofs::MachineFaults::fault_of_object))]
+#[tactic(auto, using(crate::proofs::MachineFaults::faults_of_calls))]
 pub fn machine_faults_are_reached_by_accesses<S>()
     ensures tables { (accesses : Accesses S) (fault : SpaceFault) (t : Tables) (steps : ℕ)
         (osi : List (List ℕ)) (w : State S) →
@@ -39,7 +39,7 @@ pub fn machine_faults_are_reached_by_accesses<S>()
 
 /// The same of a routing table, of what a link device may be set to, of what it is set to, of setting it, and of all
 /// that is gathered of a machine before its links are set.
-#[tactic(auto, using(crate::proofs::MachineFaults::fault_of_routing_table, crate::proofs::MachineFaults::fault_of_possible, crate::proofs::MachineFaults::fault_of_current, crate::proofs::MachineFaults::fault_of_setting, crate::proofs::MachineFaults::fault_of_gathering))]
+#[tactic(auto, using(crate::proofs::MachineFaults::faults_of_links))]
 pub fn routing_faults_are_reached_by_accesses<S>()
     ensures routing_table { (accesses : Accesses S) (fault : SpaceFault) (device : List Seg) (s : MachineState S) →
         (routing_table accesses device s).0 ≡ Err (Space fault) →

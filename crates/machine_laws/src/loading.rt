@@ -25,7 +25,7 @@ ghost use Rattle.machine_laws.specs.TextsKnown.{with_texts};
 /// The first that is refused ends it. `_OSI` may know sixty-four texts: with more of them no table is loaded, and
 /// nothing is changed. A DSDT that is loaded last, an SSDT that is left out, and a header that is read as AML are
 /// refused by this.
-#[tactic(auto, using(crate::proofs::TablesInTurn::all_in_turn, crate::proofs::TablesInTurn::loaded_behind_the_predefined, crate::proofs::TablesInTurn::not_loaded_with_more_texts))]
+#[tactic(auto, using(crate::proofs::TablesInTurn::loading))]
 pub fn tables_are_loaded_in_turn<S>()
     ensures in_turn { (accesses : Accesses S) (t : Tables) (steps : ℕ) (w end : State S) (r : Outcome (Unit {0})) →
         LoadedInTurn accesses steps (t.dsdt ∷ t.ssdts) w r end → all_loaded accesses t steps w ≡ (r, end) }

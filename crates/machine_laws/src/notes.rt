@@ -22,7 +22,7 @@ ghost use Rattle.machine_laws.specs.Notes.{machine_without_notes, call_without_n
 /// loading its tables, of initializing it, of an object, a routing table, what a link device may be set to, what it
 /// is set to, setting it, and all that is gathered before links are set, is the same without notes, and so is the
 /// machine after it, with its space.
-#[tactic(auto, using(crate::proofs::MachineNoting::tables_unnoted, crate::proofs::MachineNoting::initialization_unnoted, crate::proofs::MachineNoting::object_unnoted, crate::proofs::MachineNoting::routing_table_unnoted, crate::proofs::MachineNoting::possible_unnoted, crate::proofs::MachineNoting::current_unnoted, crate::proofs::MachineNoting::setting_unnoted, crate::proofs::MachineNoting::gathering_unnoted))]
+#[tactic(auto, using(crate::proofs::MachineNoting::unnoted))]
 pub fn noting_changes_no_call<S>()
     ensures tables { (accesses : Accesses S) (t : Tables) (steps : ℕ) (osi : List (List ℕ)) (w : State (WithNotes S)) →
         loaded_tables accesses t steps osi (without_notes w) ≡ (
@@ -55,7 +55,7 @@ pub fn noting_changes_no_call<S>()
 /// register space, the last of the call's own accesses is answered with that fault, and all those before it with
 /// values. However else the call ends, all its accesses are answered with values: no fault of the register space is
 /// passed over.
-#[tactic(auto, using(crate::proofs::MachineNotes::notes_of_tables, crate::proofs::MachineNotes::notes_of_initialization, crate::proofs::MachineNotes::notes_of_object))]
+#[tactic(auto, using(crate::proofs::MachineNotes::notes_of_calls))]
 pub fn machine_faults_are_answers_of_the_last_access<S>()
     ensures tables { (accesses : Accesses S) (t : Tables) (steps : ℕ) (osi : List (List ℕ)) (w : State (WithNotes S)) →
         TellsNotes (loaded_tables (noted accesses) t steps osi w).0 w.space
@@ -70,7 +70,7 @@ pub fn machine_faults_are_answers_of_the_last_access<S>()
 
 /// The same of a routing table, of what a link device may be set to, of what it is set to, of setting it, and of all
 /// that is gathered of a machine before its links are set; and of the bus of a routing table, which a kernel asks for.
-#[tactic(auto, using(crate::proofs::MachineNotes::notes_of_routing_table, crate::proofs::MachineNotes::notes_of_possible, crate::proofs::MachineNotes::notes_of_current, crate::proofs::MachineNotes::notes_of_setting, crate::proofs::MachineNotes::notes_of_gathering, crate::proofs::FaultsOfBuses::notes_of_bus))]
+#[tactic(auto, using(crate::proofs::MachineNotes::notes_of_links, crate::proofs::FaultsOfBuses::notes_of_bus))]
 pub fn routing_faults_are_answers_of_the_last_access<S>()
     ensures routing_table { (accesses : Accesses S) (device : List Seg) (s : MachineState (WithNotes S)) →
         TellsNotes (routing_table (noted accesses) device s).0 s.world.space

@@ -28,7 +28,7 @@ ghost use Rattle.machine_laws.specs.Widened.{machine_widened, call_widened, IsWi
 /// out (a term, `Unsupported`, or what lies behind a bridge, `DeepPci`), it comes to the same in the wide profile, and
 /// leaves the same machine with the same registers. Loading and initializing may also be refused for what the wide
 /// profile passes over.
-#[tactic(auto, using(crate::proofs::MachinesWidened::tables_widened, crate::proofs::MachinesWidened::initialization_widened, crate::proofs::MachinesWidened::object_widened, crate::proofs::MachinesWidened::current_widened, crate::proofs::MachinesWidened::setting_widened))]
+#[tactic(auto, using(crate::proofs::MachinesWidened::widening_calls))]
 pub fn the_wide_profile_calls_as_the_core_one_does<S>()
     ensures tables { (accesses : Accesses S) (t : Tables) (steps : ℕ) (osi : List (List ℕ)) (w : State S) →
         IsLeftOutAt 0 (loaded_tables accesses t steps osi w).0 ⊎
@@ -62,7 +62,7 @@ pub fn the_wide_profile_finds_the_buses_that_the_core_one_does<S>()
 
 /// The same of a routing table, of what a link may be set to, and of all that is gathered before links are set. The
 /// core profile may also refuse an exclusive offer (`Exclusive`), or a `_HID` that is a control method (`NotALink`).
-#[tactic(auto, using(crate::proofs::MachinesWidened::routing_table_widened, crate::proofs::MachinesWidened::possible_widened, crate::proofs::MachinesWidened::gathering_widened))]
+#[tactic(auto, using(crate::proofs::MachinesWidened::widening_links))]
 pub fn the_wide_profile_gathers_what_the_core_one_does<S>()
     ensures routing_table { (accesses : Accesses S) (device : List Seg) (s : MachineState S) →
         IsWithheld (routing_table accesses device s).0 ⊎
@@ -78,7 +78,7 @@ pub fn the_wide_profile_gathers_what_the_core_one_does<S>()
 /// A report of a machine is one of the same machine in the wide profile, if no line of it tells of what the
 /// profile leaves out, and it leaves the same machine with the same registers: with options, with lines for a kernel,
 /// and without.
-#[tactic(auto, using(crate::proofs::ReportsWidened::report_widened, crate::proofs::ReportsWidened::report_with_options_widened, crate::proofs::TellingWidened::report_for_kernels_widened))]
+#[tactic(auto, using(crate::proofs::ReportsWidened::widening_reports, crate::proofs::TellingWidened::report_for_kernels_widened))]
 pub fn the_wide_profile_reports_what_the_core_one_does<S>()
     ensures report { (accesses : Accesses S) (dry : Bool) (avoid : List ℕ) (before after : MachineState S)
         (report : RoutingReport) → TellsNothingLeftOut report → IsReport accesses dry avoid before after report →

@@ -29,7 +29,7 @@ ghost use Rattle.acpi_machine.specs.MachineStates.{MachineState};
 /// passes over: by its tables, by each call of initializing, passed over or not, by all of them, and by an object that
 /// it evaluates, however these end. So the laws of `aml_laws` that speak of all that evaluations make of a world speak
 /// of the worlds of machines.
-#[tactic(auto, using(crate::proofs::MachineWorlds::loading_evaluates, crate::proofs::MachineWorlds::call_evaluates, crate::proofs::MachineWorlds::initializing_evaluates, crate::proofs::MachineWorlds::object_evaluates))]
+#[tactic(auto, using(crate::proofs::MachineWorlds::evaluating))]
 pub fn a_machine_makes_of_its_world_what_evaluations_do<S>()
     ensures tables { (accesses : Accesses S) (t : Tables) (steps : ℕ) (w : State S) →
         Becomes accesses w (all_loaded accesses t steps w).1 }
@@ -44,7 +44,7 @@ pub fn a_machine_makes_of_its_world_what_evaluations_do<S>()
 /// Of what a machine passes over so many are kept as are counted, or 64 where these are more: in the world that its
 /// tables leave, in either profile, and also behind calls of initializing that are passed over and behind objects that
 /// it evaluates. What was kept before initializing stays, in its order, and the count never falls.
-#[tactic(auto, using(crate::proofs::MachineWorlds::first_of_loading, crate::proofs::MachineWorlds::first_of_initializing, crate::proofs::MachineWorlds::more_of_initializing, crate::proofs::MachineWorlds::first_of_object))]
+#[tactic(auto, using(crate::proofs::MachineWorlds::first_accesses))]
 pub fn the_first_that_a_machine_passes_over_are_kept<S>()
     ensures tables { (accesses : Accesses S) (settings : EvaluationSettings) (width : IntegerWidth) (osi : List (List ℕ))
         (space : S) (t : Tables) (steps : ℕ) →

@@ -163,3 +163,5 @@ write_line_alone r same = told_alone WriteFault r (ap (λ line. told_on line) sa
 
 pub length_line_alone : (r : Refusal) → error_line r ≡ error_line (refusal.Input TextTooLong) → r ≡ refusal.Input TextTooLong
 length_line_alone r same = told_alone TextTooLong r (ap (λ line. told_on line) same ∙ length_told)
+
+pub ruleset lines_alone = (read_line_alone, write_line_alone, length_line_alone)

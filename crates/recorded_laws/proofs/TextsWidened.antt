@@ -158,3 +158,5 @@ route_of o w (Ok m) q is (inr same) = subst (λ (x : Outcome (MachineState Regis
 
 pub route_widens : (mode : Mode) (evaluation : Evaluation) (o : RunOptions) (text : List ℕ) (w : Written) → IsWholeReport o (machine_of_text_in mode evaluation text) w → IsWholeReport o (machine_of_text_in mode (evaluation_widened evaluation) text) w
 route_widens mode evaluation o text w is = route_of o w (machine_of_text_in mode evaluation text) (machine_of_text_in mode (evaluation_widened evaluation) text) is (machine_of_text_in_widens mode evaluation text)
+
+pub ruleset widening = (route_widens, names_widen, eval_widens)

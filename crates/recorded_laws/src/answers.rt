@@ -39,7 +39,7 @@ pub fn a_failed_read_or_write_is_told_only_where_it_was()
 {}
 
 /// The lines of a failed read, of a failed write and of an input that is too long are the lines of no other refusal.
-#[tactic(auto, using(crate::proofs::StreamLines::read_line_alone, crate::proofs::StreamLines::write_line_alone, crate::proofs::StreamLines::length_line_alone))]
+#[tactic(auto, using(crate::proofs::StreamLines::lines_alone))]
 pub fn a_failed_read_or_write_has_a_line_of_its_own()
     ensures read { (r : Refusal) → error_line r ≡ error_line (Input ReadFault) → r ≡ Input ReadFault }
     ensures write { (r : Refusal) → error_line r ≡ error_line (Input WriteFault) → r ≡ Input WriteFault }

@@ -29,7 +29,7 @@ pub fn a_whole_run_is_one_in_the_wide_profile<S>()
 /// What the program writes over a machine text, it writes in the wide profile, too: `route`, where its report tells of
 /// nothing that the core profile leaves out, and `names` and `eval`, where they aren't refused for what it leaves out
 /// or the wide profile passes over.
-#[tactic(auto, using(crate::proofs::TextsWidened::route_widens, crate::proofs::TextsWidened::names_widen, crate::proofs::TextsWidened::eval_widens))]
+#[tactic(auto, using(crate::proofs::TextsWidened::widening))]
 pub fn the_wide_profile_writes_what_the_core_one_does()
     ensures route { (mode : Mode) (evaluation : Evaluation) (o : RunOptions) (text : List ℕ) (w : Written) →
         IsWholeReport o (machine_of_text_in mode evaluation text) w →
