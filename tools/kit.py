@@ -5,6 +5,7 @@ import importlib.util
 import os
 import shutil
 import sys
+import threading
 
 
 def load():
@@ -16,7 +17,36 @@ def load():
     made = importlib.util.module_from_spec(importlib.util.spec_from_loader("rt", loader))
     sys.modules["rt"] = made
     loader.exec_module(made)
+    # (a kit that does it in another way is left as it is)
+    with contextlib.suppress(Exception):
+        visit_once(made.rtlib.Crate)
     return made
+
+
+def visit_once(kind):
+    """Has the kit go to each library below a crate once. Some kits (`rattle-kit-13b` is one) go along each path of dependencies, which are
+    180,000 for the program, at each question. What they answer stays the same."""
+    kits_below, kits_stamp, asked = kind.below, kind.stamp, threading.local()
+
+    def below(crate):
+        if "libraries_below" not in crate.__dict__:
+            crate.libraries_below = kits_below(crate)
+        return [*crate.libraries_below]
+
+    def stamp(crate):
+        sums = getattr(asked, "sums", None)
+        if sums is not None:
+            if crate.folder not in sums:
+                sums[crate.folder] = kits_stamp(crate)
+            return sums[crate.folder]
+        # (files may change from one question to the next)
+        asked.sums = {}
+        try:
+            return kits_stamp(crate)
+        finally:
+            asked.sums = None
+
+    kind.below, kind.stamp = below, stamp
 
 
 def stamps(rt):
