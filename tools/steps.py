@@ -7,7 +7,7 @@ import re
 from pages import Wrong, files_in, text_of
 
 # The crates of evaluation, lowest first. No two of their files have one name.
-CRATES = ("aml_frames", "aml_accesses", "aml_declarations", "aml_operators", "aml_evaluation")
+CRATES = ("aml_frames", "aml_accesses", "aml_declarations", "aml_targets", "aml_statements", "aml_operators", "aml_evaluation")
 # The files that have no steps: those of the loop, which puts on the stack what a step leaves and begins it; and the types.
 LOOPS, TYPES = ("stack", "waiting"), "frames"
 # What all terms share isn't followed: other terms, lists, targets, stores and accesses of fields, and going over what was read.

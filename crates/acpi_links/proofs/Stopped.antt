@@ -30,6 +30,11 @@ use Rattle.acpi_links.specs.Gatherings.{pins_found}
 use Rattle.acpi_links.specs.Links.{links_named, few_links, some_left}
 use Rattle.acpi_links.specs.Stops.{StopsIfTable, StopsInDevice, StopsInTables, offer_asked, StopsInOffer, StopsIfPresent, StopsInLinks, StopsInFew, StopsInGathering}
 
+-- devices are listed without a change
+pub listed : {S : Type 0} {r : Outcome (List (List Seg))} {s : MachineState S} → Answers r (Ok (devices s)) → Does r s devices_listed s
+unfolding devices_listed
+listed {s = s} h = record { is = λ ne. ap (λ x. (x, s)) (h.is ne) }
+
 -- ---- calls that evaluate one object of a link at most
 
 module _ {S : Type 0} (accesses : Accesses S) {s t : MachineState S} (link : List Seg) (name : Seg) (arguments : List Given) (h : AllOrNone (child_evaluated accesses link name arguments) s t) where

@@ -8,7 +8,7 @@ ghost use Rattle.aml_path.specs.Paths.{path_cmp};
 ghost use Rattle.route_solve.specs.Fits.{Fits};
 ghost use Rattle.acpi_machine.specs.MachineStates.{sci_of};
 ghost use Rattle.acpi_links.specs.Links.{HasLeft, links_named};
-ghost use Rattle.acpi_links.specs.Devices.{devices, devices_listed};
+ghost use Rattle.acpi_links.specs.Devices.{devices};
 ghost use Rattle.acpi_links.specs.Gatherings.{sci_shown, pins_found, links_found, gathering, gathered};
 ghost use Rattle.acpi_links.specs.Problems.{problem_of};
 
@@ -72,17 +72,10 @@ fn pins_found<S: Space>(
     ensures evaluated { StopsInTables S.accesses (devices machine.old) machine.old machine.new }
     ensures few { IfOk result (λ list. length list.items + length (option_to_list sci) ≤ 4096) }
 {
-    let list = devices_listed(alloc, machine)?;
+    let list = list_devices(alloc, machine)?;
     let pins = pins_of_each(alloc, machine, &list)?;
     few_pins(sci, &pins)?;
     Ok(pins)
-}
-
-#[tactic(auto, unfolding(crate::specs::Devices::devices_listed))]
-fn devices_listed<S: Space>(alloc: Global, machine: &Machine<S>) -> Result<Vec<Path>>
-    ensures { Does (seen (λ list. list.items) result) machine.now devices_listed machine.now }
-{
-    list_devices(alloc, machine)
 }
 
 /// The present links that some pins lead to.

@@ -2,7 +2,7 @@
 ghost use Rattle.std.specs.Prelude.{◌≡◌, [], ◌∷◌, ◌++◌, Err, IfOk, IfErr, true};
 ghost use Rattle.ar_space.specs.declared.refusal.Refusal.TheVariants.{OutOfMemory};
 ghost use Rattle.ar_space.specs.Change.{Does};
-ghost use Rattle.ar_space.specs.Outcome.{Answers, NotMemory, seen};
+ghost use Rattle.ar_space.specs.Outcome.{AnswersInPlace, seen};
 ghost use Rattle.aml_meaning.specs.Calling.{ending, with_steps};
 ghost use Rattle.aml_meaning.specs.Fields.{bus_behind, bus_behind_all, inherited};
 ghost use Rattle.acpi_machine.specs.Stops.{Made};
@@ -12,7 +12,9 @@ ghost use Rattle.acpi_machine.specs.Buses.{address_part, bus_of_table, bus_answe
 use crate::calls::SPENT;
 use crate::machine::Machine;
 use aml_evaluation::ask_integer;
-use aml_meaning::{Running, Sought, World, WorldState, adr, base_bus, segment_group};
+use aml_meaning::{
+    Running, Sought, World, WorldState, adr, base_bus, secondary_bus, segment_group,
+};
 use aml_path::{Path, Seg};
 use ar_space::{FieldFault, Refusal, Result, Space};
 use std::alloc::Global;
@@ -194,19 +196,18 @@ fn bus_behind_all<S: Space>(
 }
 
 /// The bus behind one bridge: its address is asked for, and its secondary bus is read.
-#[tactic(auto, using(aml_meaning::proofs::Runs::running), unfolding(aml_meaning::specs::Fields::bus_behind))]
+#[tactic(auto, using(aml_meaning::proofs::Runs::running, aml_meaning::proofs::Lifted::parts), unfolding(aml_meaning::specs::Fields::bus_behind))]
 fn bus_behind<S: Space>(run: &mut Running<S>, segment: u64, bus: u64, bridge: &Path) -> Result<u64>
     ensures { Does result run.new (bus_behind S.accesses (address_part S.accesses) segment bus bridge.now) run.old }
 {
     let object = bridge.child(run.world.alloc, adr())?;
     let address = ask_integer(run, CALLS_OF_AN_ADDRESS, &object)?;
-    run.world.secondary_bus(segment, bus, address)
+    secondary_bus(&mut run.world.space, segment, bus, address)
 }
 
 /// A segment group and a bus, where both are in range.
 fn bus_numbered(segment: u64, bus: u64) -> Result<PciBus>
-    ensures answer { Answers result (bus_numbered segment bus) }
-    ensures memory { NotMemory result }
+    ensures { AnswersInPlace result (bus_numbered segment bus) }
 {
     if segment < 65536 && bus < 256 {
         Ok(PciBus {

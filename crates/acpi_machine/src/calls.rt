@@ -4,8 +4,8 @@ ghost use Rattle.std.specs.FinMap.{contains_key};
 ghost use Rattle.ar_space.specs.declared.refusal.Refusal.TheVariants.{OutOfMemory};
 ghost use Rattle.ar_space.specs.declared.refusal.Refusal.TheVariants as refusals;
 ghost use Rattle.ar_space.specs.declared.refusal.MachineFault.TheVariants.{Spent};
-ghost use Rattle.ar_space.specs.Outcome.{Answers, NotMemory, seen};
-ghost use Rattle.ar_space.specs.Change.{Does};
+ghost use Rattle.ar_space.specs.Outcome.{Answers, seen};
+ghost use Rattle.ar_space.specs.Change.{Does, DoesInPlace};
 ghost use Rattle.aml_meaning.specs.Given.{given_of};
 ghost use Rattle.aml_meaning.specs.declared.datum.Datum.TheVariants as datum;
 ghost use Rattle.acpi_machine.specs.FixedPaths.{at_root, below_root};
@@ -88,8 +88,7 @@ impl<S: Space> Machine<S> {
     /// no memory.
     #[tactic(auto, using(crate::proofs::Noticed::spending), unfolding(crate::specs::Calls::osi_set))]
     pub fn set_osi(&mut self, texts: Vec<Octets>) -> Result<()>
-        ensures answer { Does result self.new (osi_set texts.items) self.old }
-        ensures memory { NotMemory result }
+        ensures { DoesInPlace result self.new (osi_set texts.items) self.old }
     {
         if self.spent {
             return Err(SPENT);
@@ -99,8 +98,7 @@ impl<S: Space> Machine<S> {
 
     #[tactic(auto, using(ar_space::proofs::Changes::changing), unfolding(crate::specs::Calls::few_texts_kept))]
     fn set_texts_if_few(&mut self, texts: Vec<Octets>) -> Result<()>
-        ensures answer { Does result self.new (few_texts_kept texts.items) self.old }
-        ensures memory { NotMemory result }
+        ensures { DoesInPlace result self.new (few_texts_kept texts.items) self.old }
     {
         few_texts(&texts)?;
         self.set_texts(texts)
@@ -108,8 +106,7 @@ impl<S: Space> Machine<S> {
 
     #[tactic(auto, unfolding(crate::specs::Calls::texts_kept))]
     fn set_texts(&mut self, texts: Vec<Octets>) -> Result<()>
-        ensures answer { Does result self.new (texts_kept texts.items) self.old }
-        ensures memory { NotMemory result }
+        ensures { DoesInPlace result self.new (texts_kept texts.items) self.old }
     {
         self.world.set_osi(texts);
         Ok(())
@@ -202,7 +199,7 @@ impl<S: Space> Machine<S> {
         ensures { Does result self.new (refused_call path.now refusal) self.old }
     {
         if self.profile().is_wide() {
-            self.world.pass_over(path, refusal)
+            self.world.running.world.pass_over(path, refusal)
         } else {
             Err(refusal)
         }

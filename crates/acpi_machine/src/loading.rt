@@ -2,7 +2,7 @@
 ghost use Rattle.std.specs.Prelude.{◌≡◌, ◌≢◌, Ok, Err, IfOk, IfErr};
 ghost use Rattle.ar_space.specs.declared.refusal.Refusal.TheVariants.{OutOfMemory};
 ghost use Rattle.ar_space.specs.Change.{Does};
-ghost use Rattle.ar_space.specs.Outcome.{Answers, NotMemory};
+ghost use Rattle.ar_space.specs.Outcome.{AnswersInPlace};
 ghost use Rattle.aml_meaning.specs.Predefined.{fresh, fresh_as, predefined};
 ghost use Rattle.aml_meaning.specs.Calling.{loaded};
 ghost use Rattle.acpi_machine.specs.MachineStates.{machine_of};
@@ -127,8 +127,7 @@ pub fn load_tables_traced<S: Space>(
 
 /// `_OSI` may know so many texts; more are refused as `ObjectLimit`.
 pub(crate) fn few_texts(texts: &[Octets]) -> Result<()>
-    ensures value { Answers result (few_texts texts.now) }
-    ensures memory { NotMemory result }
+    ensures { AnswersInPlace result (few_texts texts.now) }
 {
     if texts.len() > MAX_TEXTS {
         Err(Refusal::Evaluation(EvaluationFault::ObjectLimit))

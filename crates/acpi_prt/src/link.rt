@@ -6,7 +6,7 @@ ghost use Rattle.acpi_machine.specs.Stops.{AllOrNone};
 ghost use Rattle.aml_meaning.specs.Given.{given_of};
 ghost use Rattle.acpi_machine.specs.Kinds.{kind_seen};
 ghost use Rattle.acpi_prt.specs.Children.{child_named};
-ghost use Rattle.acpi_prt.specs.Finding.{followed, device_or_not, device_in, method_or_not, id_or_not, id_in};
+ghost use Rattle.acpi_prt.specs.Finding.{followed, device_or_not, method_or_not, id_or_not};
 ghost use Rattle.acpi_prt.specs.Links.{device_at, id_at, is_link_id, link_id_or_not, link_at};
 
 use acpi_machine::{Kind, Machine, Profile};
@@ -39,16 +39,9 @@ pub(crate) fn link_at<S: Space>(
 }
 
 /// The path of the device that stands at a path, or that an alias there leads to.
-#[tactic(auto, unfolding(crate::specs::Links::device_at))]
+#[tactic(auto, using(crate::proofs::Standing::standing), unfolding(crate::specs::Finding::device_in))]
 fn device_at<S: Space>(alloc: Global, machine: &Machine<S>, path: &Path) -> Result<Path>
     ensures { Does result machine.now (device_at path.now) machine.now }
-{
-    device_in(alloc, machine, path)
-}
-
-#[tactic(auto, using(ar_space::proofs::Outcomes::answering), unfolding(crate::specs::Finding::device_in))]
-fn device_in<S: Space>(alloc: Global, machine: &Machine<S>, path: &Path) -> Result<Path>
-    ensures { Answers result (device_in machine.now.world.names.map path.now) }
 {
     let found = followed(alloc, machine, path)?;
     device_or_not(machine.find_node(&found))?;
@@ -66,16 +59,9 @@ fn device_or_not(kind: Option<Kind<'_>>) -> Result<()>
 
 /// The path of the name that holds an integer or a string and stands at a path, or that an alias there leads to; in
 /// the wide profile also that of a control method.
-#[tactic(auto, unfolding(crate::specs::Links::id_at))]
+#[tactic(auto, using(crate::proofs::Standing::standing), unfolding(crate::specs::Finding::id_in))]
 fn id_at<S: Space>(alloc: Global, machine: &Machine<S>, path: &Path) -> Result<Path>
     ensures { Does result machine.now (id_at path.now) machine.now }
-{
-    id_in(alloc, machine, path)
-}
-
-#[tactic(auto, using(ar_space::proofs::Outcomes::answering), unfolding(crate::specs::Finding::id_in))]
-fn id_in<S: Space>(alloc: Global, machine: &Machine<S>, path: &Path) -> Result<Path>
-    ensures { Answers result (id_in machine.now.world.profile machine.now.world.names.map path.now) }
 {
     let found = followed(alloc, machine, path)?;
     id_or_not(machine.profile(), machine.find_node(&found))?;

@@ -8,9 +8,6 @@ use Rattle.ar_space.specs.declared.refusal.Refusal.{Refusal}
 use Rattle.ar_space.specs.declared.refusal.Refusal.TheVariants as refusal
 use Rattle.ar_space.specs.declared.refusal.EvaluationFault.TheVariants.{CallDepth}
 use Rattle.aml_path.specs.declared.segment.Seg.{Seg}
-use Rattle.aml_grammar.specs.Shape.{trees_of}
-use Rattle.aml_grammar.specs.declared.marks.Mark.{Mark}
-use Rattle.aml_marked.specs.Marked.{trees_by}
 use Rattle.aml_fields.specs.Regions.{read_field, write_field}
 use Rattle.aml_objects.specs.declared.entry.Field.{Field}
 use Rattle.aml_objects.specs.declared.entry.Field.TheVariants as field
@@ -23,14 +20,13 @@ use Rattle.aml_meaning.specs.declared.invocation.Invocation.{Invocation}
 use Rattle.aml_meaning.specs.declared.regions.RegionField.{RegionField}
 use Rattle.aml_meaning.specs.State.{State, on_space}
 use Rattle.aml_meaning.specs.Run.{Run, lift}
-use Rattle.aml_meaning.specs.Tasks.{in_turn}
 use Rattle.aml_meaning.specs.Meaning.{meaning}
 use Rattle.aml_meaning.specs.PciFunctions.{adr, segment_group, base_bus, pci_function}
 use Rattle.aml_meaning.specs.Bridges.{bridges_above}
 use Rattle.aml_meaning.specs.Regions.{space_numbered, region_declared, integer_only, integer_alone, pci_space}
 use Rattle.aml_meaning.specs.Fields.{field_unit_bits, field_unit_written, region_bits, region_written, located, space_at, pci_address, inherited, bus_behind_all, field_part, bits_in}
 use Rattle.aml_meaning.specs.FieldCalls.{asked, answer_within, answer_over, method_integer}
-use Rattle.aml_meaning.specs.Invocations.{leaving, invoked, method_value, call_allowed, value_of_call}
+use Rattle.aml_meaning.specs.Invocations.{invoked, method_value, call_allowed, value_of_call}
 use Rattle.aml_meaning.proofs.Runs.{running, does_lift}
 use Rattle.aml_frames.specs.declared.addresses.Asked.{Asked}
 use Rattle.aml_frames.specs.declared.addresses.Asked.TheVariants as answers
@@ -38,7 +34,6 @@ use Rattle.aml_frames.specs.declared.addresses.PciAccess.{PciAccess}
 use Rattle.aml_frames.specs.declared.addresses.RegionAccess.{RegionAccess}
 use Rattle.aml_frames.specs.declared.addresses.Waited.{Waited}
 use Rattle.aml_frames.specs.declared.addresses.Waited.TheVariants as waits
-use Rattle.aml_frames.specs.declared.frames.Frame.{Frame}
 use Rattle.aml_frames.specs.declared.frames.Frame.TheVariants as frames
 use Rattle.aml_frames.specs.declared.frames.Next.{Next}
 use Rattle.aml_frames.specs.declared.frames.Next.TheVariants as next
@@ -50,7 +45,8 @@ use Rattle.aml_frames.specs.Places.{Site}
 use Rattle.aml_frames.specs.Addresses.{done_in, space_known, function_known, bus_known, bridges_left, segment_known, bridges_known, device_known, pci_run, part_known, waited_run, waited_met, part_met, Asks}
 use Rattle.aml_frames.specs.Uses.{access_done, asking, read_as}
 use Rattle.aml_frames.specs.Weights.{part_weight, region_weight, field_weight, next_weight}
-use Rattle.aml_frames.specs.Follow.{resumed, entered_then, Leads}
+use Rattle.aml_frames.specs.Follow.{entered_then, Leads}
+use Rattle.aml_frames.proofs.Lent.{lent}
 use Rattle.aml_frames.proofs.Stepping.{bind_bind, stepping, leads_ok, leads_err}
 use Rattle.aml_frames.proofs.Targeting.{bind_as, bind_same, leads_nested, leads_given, leads_stopped}
 use Rattle.aml_frames.proofs.Using.{given_one}
@@ -206,9 +202,9 @@ module _ {S : Type 0} {ac : Accesses S} where
   unfolding answer_within
   asks_none calls i e = rw e (record { is = λ _. refl })
 
-pub ruleset reading_as = (stepping)
+pub ruleset reading_as = (stepping, lent)
 
-pub ruleset fields = (stepping, leads_unit, region_less, flow_less)
+pub ruleset fields = (stepping, lent, leads_unit, region_less, flow_less)
 
 pub ruleset regions = (stepping, leads_region, leads_pci)
 

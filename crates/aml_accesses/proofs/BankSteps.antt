@@ -1,9 +1,9 @@
 -- Accesses of fields of a bank, one unit after another: each step keeps what is left of the access.
-use Rattle.std.proofs.Common.{◌≡◌, ◌≤◌, ◌<◌, ◌+◌, ◌*◌, ℕ, List, [], ◌∷◌, length, true, false, None, Some, Ok, Err, IfOk, refl, ◌∙◌, ap, sym, arith}
+use Rattle.std.proofs.Common.{◌≡◌, ◌≤◌, ◌<◌, ◌+◌, ◌*◌, ℕ, List, [], ◌∷◌, length, true, false, None, Some, Ok, Err, IfOk, ◌∙◌, ap, sym, arith}
 use Rattle.std.proofs.Math.Nat.{mul-le-mul_right}
 use Rattle.ar_space.specs.Accesses.{Accesses}
 use Rattle.ar_space.specs.Outcome.{Outcome}
-use Rattle.ar_space.specs.Change.{give, settle, ◌>>=◌}
+use Rattle.ar_space.specs.Change.{settle, ◌>>=◌}
 use Rattle.aml_objects.specs.declared.entry.Bank.{Bank}
 use Rattle.aml_objects.specs.declared.entry.Field.TheVariants as field
 use Rattle.aml_objects.specs.declared.entry.FieldSource.TheVariants as sources
@@ -23,7 +23,6 @@ use Rattle.aml_meaning.specs.Fields.{unit_bytes, bank_selected, bank_unit, regio
 use Rattle.aml_frames.specs.declared.addresses.RegionAccess.{RegionAccess}
 use Rattle.aml_frames.specs.declared.banked.BankReads.{BankReads}
 use Rattle.aml_frames.specs.declared.banked.BankWrites.{BankWrites}
-use Rattle.aml_frames.specs.declared.banked.BankedField.{BankedField}
 use Rattle.aml_frames.specs.declared.banked.BanksLeft.{BanksLeft}
 use Rattle.aml_frames.specs.declared.banked.BanksLeft.TheVariants as banks_left
 use Rattle.aml_frames.specs.declared.banked.Selector.{Selector}
@@ -40,7 +39,7 @@ use Rattle.aml_frames.specs.Addresses.{done_in, located_done, space_known, banke
 use Rattle.aml_frames.specs.Weights.{part_weight, region_weight, field_weight, units_weight, banked_weight, behind_weight, next_weight}
 use Rattle.aml_frames.specs.Follow.{selected_then, Leads}
 use Rattle.aml_frames.proofs.Stepping.{bind_bind, stepping}
-use Rattle.aml_frames.proofs.Indexing.{bound, after_same, kept_read, kept_none, many_on, few_units, fewer_units}
+use Rattle.aml_frames.proofs.Indexing.{bound, after_same, kept_read, kept_none, many_on, fewer_units}
 use Rattle.aml_accesses.proofs.UnitSteps.{falls_written}
 use Rattle.aml_accesses.proofs.BankUnits.{banks_are}
 
@@ -64,7 +63,7 @@ unfolding units_weight
 more_units calls xs ys u e = rw e (many_on (length ys) (4 * region_weight calls + 20))
 
 -- a unit that isn't read before it is written
-pub falls_over : (r : Outcome Next) (calls : ℕ) (xs ys : List UnitAccess) (u : UnitAccess) → xs ≡ u ∷ ys → IfOk r (λ n. next_weight n ≤ units_weight calls ys + region_weight calls + 1) → IfOk r (λ n. next_weight n < units_weight calls xs + 4)
+pub falls_over : (r : Outcome Next) (calls : ℕ) (xs ys : List UnitAccess) (u : UnitAccess) → xs ≡ u ∷ ys → IfOk r (λ n. next_weight n < units_weight calls ys + region_weight calls + 2) → IfOk r (λ n. next_weight n < units_weight calls xs + 4)
 falls_over (Ok n) calls xs ys u e h = let i = more_units calls xs ys u e in omega (arith, h, i)
 falls_over (Err x) calls xs ys u e h = tt
 

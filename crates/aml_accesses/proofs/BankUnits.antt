@@ -1,8 +1,8 @@
 -- Fields of a bank: units that are accessed one by one are what the field's access means.
-use Rattle.std.proofs.Common.{◌≡◌, ◌≤◌, ◌<◌, ◌+◌, ℕ, List, [], ◌∷◌, ◌++◌, length, drop, replicate, Bool, Some, refl, ◌∙◌, ap, sym, subst, length-append}
+use Rattle.std.proofs.Common.{◌≡◌, ◌≤◌, ◌<◌, ◌+◌, ℕ, List, [], ◌∷◌, ◌++◌, length, drop, replicate, Bool, refl, ◌∙◌, ap, sym, subst, length-append}
 use Rattle.std.proofs.lemmas.List.{append_assoc}
 use Rattle.ar_space.specs.Accesses.{Accesses}
-use Rattle.ar_space.specs.Change.{give, ◌>>=◌, ◌>>◌}
+use Rattle.ar_space.specs.Change.{give, ◌>>=◌}
 use Rattle.aml_fields.specs.Bits.{bits_from, byte_count, extended, packed}
 use Rattle.aml_fields.specs.Regions.{write_whole}
 use Rattle.aml_fields.specs.UnitByUnit.{read_units, bits_read, write_units, kept}
@@ -24,7 +24,7 @@ use Rattle.aml_meaning.specs.State.{State, on_space}
 use Rattle.aml_meaning.specs.Run.{Run, lift}
 use Rattle.aml_meaning.specs.Meaning.{meaning}
 use Rattle.aml_meaning.specs.Regions.{space_numbered, region_declared, field_declared}
-use Rattle.aml_meaning.specs.Fields.{space_at, located, bank_unit, bank_unit_written, bank_bits, bank_written, field_unit_bits, field_unit_written}
+use Rattle.aml_meaning.specs.Fields.{space_at, located, bank_unit_written, bank_bits, bank_written, field_unit_bits, field_unit_written}
 use Rattle.aml_frames.specs.declared.banked.BankedField.{BankedField}
 use Rattle.aml_frames.specs.declared.banked.Selector.{Selector}
 use Rattle.aml_frames.specs.declared.uses.Accessed.TheVariants as object

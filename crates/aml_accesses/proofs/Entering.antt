@@ -1,6 +1,6 @@
 -- Control methods that are entered, and evaluations from outside.
 use Rattle.std.specs.Prelude.{◌≡◌, ℕ, List, [], true, Ok, Err, IsErr, IsErrAnd, refl}
-use Rattle.std.proofs.Common.{◌∙◌, ap, sym}
+use Rattle.std.proofs.Common.{◌∙◌, sym}
 use Rattle.ar_space.specs.Accesses.{Accesses}
 use Rattle.ar_space.specs.Outcome.{Outcome, Answers, seen}
 use Rattle.ar_space.specs.Change.{Change, Does, give, stop, settle, go_on, ◌>>=◌}
@@ -21,18 +21,15 @@ use Rattle.aml_meaning.specs.declared.flow.Flow.TheVariants as flow
 use Rattle.aml_meaning.specs.State.{State}
 use Rattle.aml_meaning.specs.Run.{Run, lift}
 use Rattle.aml_meaning.specs.Tasks.{in_turn}
-use Rattle.aml_meaning.specs.Invocations.{leaving, invoked, method_value, value_of_call}
-use Rattle.aml_meaning.specs.FieldCalls.{method_integer}
+use Rattle.aml_meaning.specs.Invocations.{leaving, value_of_call}
 use Rattle.aml_meaning.specs.Fields.{field_part, bits_in}
 use Rattle.aml_meaning.specs.Regions.{integer_only, integer_alone}
 use Rattle.aml_meaning.specs.Meaning.{meaning}
 use Rattle.aml_meaning.proofs.Runs.{running, does_lift}
-use Rattle.aml_frames.specs.declared.addresses.Asked.{Asked}
 use Rattle.aml_frames.specs.declared.addresses.Asked.TheVariants as answers
 use Rattle.aml_frames.specs.declared.addresses.Waited.{Waited}
 use Rattle.aml_frames.specs.declared.addresses.PciAccess.{PciAccess}
 use Rattle.aml_frames.specs.declared.frames.Frame.TheVariants as frames
-use Rattle.aml_frames.specs.declared.frames.Next.{Next}
 use Rattle.aml_frames.specs.declared.frames.Next.TheVariants as next
 use Rattle.aml_frames.specs.declared.uses.Accessed.TheVariants as object
 use Rattle.aml_frames.specs.declared.uses.Doing.TheVariants as doing

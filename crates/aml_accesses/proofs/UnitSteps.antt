@@ -8,7 +8,6 @@ use Rattle.ar_space.specs.Change.{give, settle, go_on, ◌>>=◌}
 use Rattle.aml_objects.specs.declared.entry.Field.TheVariants as field
 use Rattle.aml_objects.specs.declared.entry.FieldSource.TheVariants as sources
 use Rattle.aml_objects.specs.declared.entry.FieldUnit.{FieldUnit}
-use Rattle.aml_objects.specs.declared.value.Value.TheVariants as value
 use Rattle.aml_fields.specs.declared.field_units.Unit.{Unit as UnitAccess}
 use Rattle.aml_fields.specs.Units.{units_of}
 use Rattle.aml_fields.specs.UnitByUnit.{kept}
@@ -58,11 +57,11 @@ pub falls_units : (r : Outcome Next) (calls : ℕ) (f : FieldUnit) → f.bits < 
 falls_units (Ok n) calls f few h = let i = all_units calls f few in omega (arith, h, i)
 falls_units (Err e) calls f few h = tt
 
-pub falls_read : (r : Outcome Next) (calls : ℕ) (xs ys : List UnitAccess) (u : UnitAccess) → xs ≡ u ∷ ys → IfOk r (λ n. next_weight n ≤ units_weight calls ys + 4 * region_weight calls + 1) → IfOk r (λ n. next_weight n < units_weight calls xs + 4)
+pub falls_read : (r : Outcome Next) (calls : ℕ) (xs ys : List UnitAccess) (u : UnitAccess) → xs ≡ u ∷ ys → IfOk r (λ n. next_weight n < units_weight calls ys + 4 * region_weight calls + 2) → IfOk r (λ n. next_weight n < units_weight calls xs + 4)
 falls_read (Ok n) calls xs ys u e h = let i = more_units calls xs ys u e in omega (arith, h, i)
 falls_read (Err x) calls xs ys u e h = tt
 
-pub falls_written : (r : Outcome Next) (calls : ℕ) (xs ys : List UnitAccess) (u : UnitAccess) → xs ≡ u ∷ ys → IfOk r (λ n. next_weight n ≤ units_weight calls ys + 2 * region_weight calls + 1) → IfOk r (λ n. next_weight n < units_weight calls xs + 4)
+pub falls_written : (r : Outcome Next) (calls : ℕ) (xs ys : List UnitAccess) (u : UnitAccess) → xs ≡ u ∷ ys → IfOk r (λ n. next_weight n < units_weight calls ys + 2 * region_weight calls + 2) → IfOk r (λ n. next_weight n < units_weight calls xs + 4)
 falls_written (Ok n) calls xs ys u e h = let i = more_units calls xs ys u e in omega (arith, h, i)
 falls_written (Err x) calls xs ys u e h = tt
 

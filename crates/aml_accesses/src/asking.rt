@@ -12,7 +12,7 @@ ghost use Rattle.aml_frames.specs.Addresses.{Asks};
 ghost use Rattle.aml_frames.specs.Uses.{asking};
 ghost use Rattle.aml_frames.specs.Weights.{part_weight, asked_weight};
 
-use crate::accesses::calls_left;
+use crate::accesses::MAX_CALLS;
 use aml_frames::{Asked, Waited, told_path};
 use aml_meaning::{Invocation, Running, WorldState, integer_only};
 use aml_objects::Value;
@@ -44,7 +44,7 @@ fn answer<S: Space>(run: &Running<S>, calls: usize, found: Invocation) -> Result
     if calls == 0 {
         return Err(Refusal::Evaluation(EvaluationFault::CallDepth));
     }
-    run.world.call_allowed(calls_left(calls))?;
+    run.world.call_allowed(MAX_CALLS.saturating_sub(calls))?;
     answer_allowed(run, calls, found)
 }
 
@@ -54,15 +54,14 @@ fn answer_allowed<S: Space>(run: &Running<S>, calls: usize, found: Invocation) -
     requires { 0 < calls }
     ensures memory { NotMemory result }
     ensures few { IfOk result (λ a. asked_weight a ≤ part_weight calls) }
-    ensures means { Asks S.accesses (meaning S.accesses) result run.now
-        (answer_over S.accesses (meaning S.accesses) (calls - 1)
-        (asked (answer_within S.accesses (meaning S.accesses) (calls - 1))) found) run.now }
+    ensures means { Asks S.accesses (meaning S.accesses) result run.now (answer_over S.accesses (meaning S.accesses)
+        (calls - 1) (asked (answer_within S.accesses (meaning S.accesses) (calls - 1))) found) run.now }
 {
     match found {
         Invocation::Value(value) => known(run, value),
         Invocation::Field(field) => Ok(Asked::Waits(Waited::Field(calls - 1, field))),
         Invocation::Method(path, body) => {
-            Ok(Asked::Waits(Waited::Method(calls_left(calls), path, body)))
+            Ok(Asked::Waits(Waited::Method(MAX_CALLS.saturating_sub(calls), path, body)))
         }
         Invocation::Osi => Err(Refusal::Value(ValueFault::WrongType)),
     }

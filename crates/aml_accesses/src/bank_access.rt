@@ -1,19 +1,20 @@
 //! Accesses of fields of a bank, one unit after another, lowest first (ACPI 6.5, 19.6: BankField). The bank is selected
 //! before each access of a unit: its value is written to the bank field, which is waited for.
-ghost use Rattle.std.specs.Prelude.{◌≡◌, ◌≤◌, ◌<◌, ◌+◌, ◌*◌, IfOk};
+ghost use Rattle.std.specs.Prelude.{◌<◌, ◌+◌, ◌*◌};
 ghost use Rattle.aml_fields.specs.Units.{units_of};
 ghost use Rattle.aml_meaning.specs.Meaning.{meaning};
 ghost use Rattle.aml_frames.specs.declared.banked.BanksLeft.TheVariants as banks_left;
 ghost use Rattle.aml_frames.specs.Banked.{field_accessed, units_done, reads_done, writes_done, unit_met, unit_behind};
 ghost use Rattle.aml_frames.specs.Banked.{unit_chosen, unit_merged};
 ghost use Rattle.aml_frames.specs.Addresses.{banked_done};
-ghost use Rattle.aml_frames.specs.Follow.{selected_then, ends, Leads, EndsAt};
+ghost use Rattle.aml_frames.specs.Follow.{selected_then, ends};
 ghost use Rattle.aml_frames.specs.Weights.{bank_reads_weight, bank_writes_weight, banks_left_weight, units_weight};
-ghost use Rattle.aml_frames.specs.Weights.{region_weight, field_weight, weight, next_weight};
+ghost use Rattle.aml_frames.specs.Weights.{region_weight, field_weight, weight};
+ghost use Rattle.aml_frames.specs.Steps.{Steps};
 
 use crate::field_access::{begin_declared, finish_read, region_of};
 use crate::index_access::write_then;
-use aml_fields::{Unit, units};
+use aml_fields::{Unit, read_unit, units, write_whole};
 use aml_frames::{
     Activation, BankReads, BankWrites, BankedField, BanksLeft, Boxed, Doing, Frame, Next,
     RegionAccess, Selector, is_kept, merge_unit, put_unit, zeros,
@@ -32,12 +33,9 @@ pub(crate) fn begin_banked<S: Space>(
     lies_in: (u64, Bank),
     access: (FieldUnit, Doing),
 ) -> Result<Next>
-    ensures spent { run.new.1 ≤ run.old.1 }
-    ensures falls { IfOk result (λ n. next_weight n < field_weight calls) }
+    ensures steps { Steps S.accesses (field_weight calls) result act.now run.new
+        (banked_done S.accesses (meaning S.accesses) calls lies_in.0 lies_in.1 access.0 access.1, act.now) run.old }
     ensures few { access.0.bits < 4294967296 }
-    ensures means { Leads S.accesses (meaning S.accesses) result act.now run.new
-        (banked_done S.accesses (meaning S.accesses) calls lies_in.0 lies_in.1 access.0 access.1) run.old }
-    ensures ends { EndsAt result act.now act.now }
 {
     let (region, bank) = lies_in;
     let (unit, doing) = access;
@@ -67,12 +65,9 @@ pub(crate) fn begin_units<S: Space>(
     field: BankedField,
     doing: Doing,
 ) -> Result<Next>
-    ensures spent { run.new.1 ≤ run.old.1 }
-    ensures falls { IfOk result (λ n. next_weight n <
-        units_weight field.calls (units_of field.field.bit_offset field.field.bits field.field.access) + 4) }
-    ensures means { Leads S.accesses (meaning S.accesses) result act.now run.new
-        (units_done S.accesses (meaning S.accesses) field doing) run.old }
-    ensures ends { EndsAt result act.now act.now }
+    ensures { Steps S.accesses
+        (units_weight field.calls (units_of field.field.bit_offset field.field.bits field.field.access) + 4) result
+        act.now run.new (units_done S.accesses (meaning S.accesses) field doing, act.now) run.old }
 {
     let unit = field.field;
     let left = units(unit.bit_offset, unit.bits, unit.access);
@@ -98,11 +93,8 @@ fn next_bank_read<S: Space>(
     act: &Activation,
     reads: BankReads,
 ) -> Result<Next>
-    ensures spent { run.new.1 ≤ run.old.1 }
-    ensures falls { IfOk result (λ n. next_weight n < bank_reads_weight reads + 4) }
-    ensures means { Leads S.accesses (meaning S.accesses) result act.now run.new
-        (reads_done S.accesses (meaning S.accesses) reads) run.old }
-    ensures ends { EndsAt result act.now act.now }
+    ensures { Steps S.accesses (bank_reads_weight reads + 4) result act.now run.new
+        (reads_done S.accesses (meaning S.accesses) reads, act.now) run.old }
 {
     let mut reads = reads;
     match reads.left.next() {
@@ -118,11 +110,8 @@ fn next_bank_write<S: Space>(
     act: &Activation,
     writes: BankWrites,
 ) -> Result<Next>
-    ensures spent { run.new.1 ≤ run.old.1 }
-    ensures falls { IfOk result (λ n. next_weight n < bank_writes_weight writes + 4) }
-    ensures means { Leads S.accesses (meaning S.accesses) result act.now run.new
-        (writes_done S.accesses (meaning S.accesses) writes) run.old }
-    ensures ends { EndsAt result act.now act.now }
+    ensures { Steps S.accesses (bank_writes_weight writes + 4) result act.now run.new
+        (writes_done S.accesses (meaning S.accesses) writes, act.now) run.old }
 {
     let mut writes = writes;
     match writes.left.next() {
@@ -145,11 +134,8 @@ fn select_to_read<S: Space>(
     units: BanksLeft,
     unit: Unit,
 ) -> Result<Next>
-    ensures falls { IfOk result (λ n. next_weight n ≤ banks_left_weight units + 2 *
-        region_weight (field_accessed units).calls + 1) }
-    ensures means { Leads S.accesses (meaning S.accesses) result act.now run.now
-        (unit_chosen S.accesses (meaning S.accesses) units unit) run.now }
-    ensures ends { EndsAt result act.now act.now }
+    ensures { Steps S.accesses (banks_left_weight units + 2 * region_weight (field_accessed units).calls + 2) result
+        act.now run.now (unit_chosen S.accesses (meaning S.accesses) units unit, act.now) run.now }
 {
     let field = units.field();
     let frame = Frame::BankRead(Boxed::new(run.world.alloc, units)?, unit);
@@ -164,15 +150,11 @@ pub fn read_selected<S: Space>(
     units: Boxed<BanksLeft>,
     unit: Unit,
 ) -> Result<Next>
-    ensures spent { run.new.1 ≤ run.old.1 }
-    ensures falls { IfOk result (λ n. next_weight n < banks_left_weight units +
-        region_weight (field_accessed units).calls + 4) }
-    ensures means { Leads S.accesses (meaning S.accesses) result act.now run.new
-        (unit_behind S.accesses (meaning S.accesses) units unit) run.old }
-    ensures ends { EndsAt result act.now act.now }
+    ensures { Steps S.accesses (banks_left_weight units + region_weight (field_accessed units).calls + 4) result act.now
+        run.new (unit_behind S.accesses (meaning S.accesses) units unit, act.now) run.old }
 {
     let field = units.get().field();
-    let number = run.world.read_unit(field.region, field.field.access, unit)?;
+    let number = read_unit(&mut run.world.space, field.region, field.field.access, unit)?;
     meet_unit(run, act, units.into_inner(), unit, number)
 }
 
@@ -185,12 +167,8 @@ fn meet_unit<S: Space>(
     unit: Unit,
     number: u64,
 ) -> Result<Next>
-    ensures spent { run.new.1 ≤ run.old.1 }
-    ensures falls { IfOk result (λ n. next_weight n < banks_left_weight units +
-        region_weight (field_accessed units).calls + 4) }
-    ensures means { Leads S.accesses (meaning S.accesses) result act.now run.new
-        (unit_met S.accesses (meaning S.accesses) units unit number) run.old }
-    ensures ends { EndsAt result act.now act.now }
+    ensures { Steps S.accesses (banks_left_weight units + region_weight (field_accessed units).calls + 4) result act.now
+        run.new (unit_met S.accesses (meaning S.accesses) units unit number, act.now) run.old }
 {
     match units {
         BanksLeft::Reads(reads) => {
@@ -211,11 +189,8 @@ fn select_to_write<S: Space>(
     unit: Unit,
     old: u64,
 ) -> Result<Next>
-    ensures falls { IfOk result (λ n. next_weight n ≤ bank_writes_weight writes +
-        region_weight writes.field.calls + 1) }
-    ensures means { Leads S.accesses (meaning S.accesses) result act.now run.now
-        (unit_met S.accesses (meaning S.accesses) (banks_left.Writes writes) unit old) run.now }
-    ensures ends { EndsAt result act.now act.now }
+    ensures { Steps S.accesses (bank_writes_weight writes + region_weight writes.field.calls + 2) result act.now run.now
+        (unit_met S.accesses (meaning S.accesses) (banks_left.Writes writes) unit old, act.now) run.now }
 {
     let field = writes.field;
     let number = merge_unit(field.field, writes.bytes.as_slice(), unit, old);
@@ -232,16 +207,18 @@ pub fn write_selected<S: Space>(
     offset: u64,
     number: u64,
 ) -> Result<Next>
-    ensures spent { run.new.1 ≤ run.old.1 }
-    ensures falls { IfOk result (λ n. next_weight n < bank_writes_weight writes + 4) }
-    ensures means { Leads S.accesses (meaning S.accesses) result act.now run.new
-        (unit_merged S.accesses (meaning S.accesses) writes offset number) run.old }
-    ensures ends { EndsAt result act.now act.now }
+    ensures { Steps S.accesses (bank_writes_weight writes + 4) result act.now run.new
+        (unit_merged S.accesses (meaning S.accesses) writes offset number, act.now) run.old }
 {
     let writes = writes.into_inner();
     let field = writes.field;
-    run.world
-        .write_whole(field.region, field.field.access, offset, number)?;
+    write_whole(
+        &mut run.world.space,
+        field.region,
+        field.field.access,
+        offset,
+        number,
+    )?;
     next_bank_write(run, act, writes)
 }
 
@@ -253,10 +230,8 @@ fn select_then<S: Space>(
     field: BankedField,
     frame: Frame,
 ) -> Result<Next>
-    ensures falls { IfOk result (λ n. next_weight n ≤ region_weight field.calls + weight frame) }
-    ensures means { Leads S.accesses (meaning S.accesses) result act.now run.now
-        (selected_then S.accesses (meaning S.accesses) field frame act.now) run.now }
-    ensures ends { EndsAt result act.now (ends frame act.now) }
+    ensures { Steps S.accesses (region_weight field.calls + weight frame + 1) result act.now run.now
+        (selected_then S.accesses (meaning S.accesses) field frame act.now, ends frame act.now) run.now }
 {
     let bank = field.bank;
     bank.field.must_hold(bank.value)?;

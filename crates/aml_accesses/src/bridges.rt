@@ -1,14 +1,14 @@
 //! The bus of a function of PCI_Config behind bridges: the address of each is asked for, from the outermost on, and its
 //! secondary bus is read (ACPI 6.5, 5.5.2.4 and 6.1.1; PCI-to-PCI Bridge Architecture 1.2, 3.2).
-ghost use Rattle.std.specs.Prelude.{◌≡◌, ◌≤◌, ◌<◌, ◌+◌, ◌*◌, ◌++◌, ◌∷◌, [], IfOk, length};
+ghost use Rattle.std.specs.Prelude.{◌+◌, ◌*◌, length};
 ghost use Rattle.aml_meaning.specs.Meaning.{meaning};
 ghost use Rattle.aml_frames.specs.Addresses.{bridges_left, bridge_known, bridge_asked, part_known};
-ghost use Rattle.aml_frames.specs.Follow.{Leads, EndsAt};
-ghost use Rattle.aml_frames.specs.Weights.{part_weight, bridges_weight, address_weight, behind_weight, next_weight};
+ghost use Rattle.aml_frames.specs.Weights.{part_weight, bridges_weight, address_weight, behind_weight};
+ghost use Rattle.aml_frames.specs.Steps.{Steps};
 
 use crate::pci::{ask_address, begin_function, wait};
 use aml_frames::{Activation, AddressPart, Asked, Boxed, Frame, FunctionAddress, Next, PciAccess};
-use aml_meaning::Running;
+use aml_meaning::{Running, secondary_bus};
 use aml_path::Path;
 use ar_space::{Result, Space};
 
@@ -22,13 +22,10 @@ pub(crate) fn begin_bridges<S: Space>(
     segment: u64,
     bus: u64,
 ) -> Result<Next>
-    ensures spent { run.new.1 ≤ run.old.1 }
-    ensures falls { IfOk result (λ n. next_weight n <
-        bridges_weight pci.access.calls (length pci.bridges.items) + part_weight pci.access.calls + 14 +
-        behind_weight pci.access) }
-    ensures means { Leads S.accesses (meaning S.accesses) result act.now run.new
-        (bridges_left S.accesses (meaning S.accesses) pci.access pci.device pci.bridges.items segment bus) run.old }
-    ensures ends { EndsAt result act.now act.now }
+    ensures { Steps S.accesses (bridges_weight pci.access.calls (length pci.bridges.items) + part_weight
+        pci.access.calls + 14 + behind_weight pci.access) result act.now run.new
+        (bridges_left S.accesses (meaning S.accesses) pci.access pci.device pci.bridges.items segment bus, act.now)
+        run.old }
 {
     let mut pci = pci;
     match pci.bridges.pop_front() {
@@ -46,14 +43,11 @@ fn begin_bridge<S: Space>(
     on: (u64, u64),
     bridge: &Path,
 ) -> Result<Next>
-    ensures spent { run.new.1 ≤ run.old.1 }
-    ensures falls { IfOk result (λ n. next_weight n <
-        bridges_weight pci.access.calls (length pci.bridges.items) + 2 * part_weight pci.access.calls + 34 +
-        behind_weight pci.access) }
-    ensures means { Leads S.accesses (meaning S.accesses) result act.now run.new
-        (bridge_asked S.accesses (meaning S.accesses) pci.access pci.device bridge.now pci.bridges.items on.0 on.1)
-        run.old }
-    ensures ends { EndsAt result act.now act.now }
+    ensures { Steps S.accesses (bridges_weight pci.access.calls (length pci.bridges.items) + 2 * part_weight
+        pci.access.calls + 34 + behind_weight pci.access) result act.now run.new (
+          bridge_asked S.accesses (meaning S.accesses) pci.access pci.device bridge.now pci.bridges.items on.0 on.1,
+          act.now,
+        ) run.old }
 {
     let (segment, bus) = on;
     let asked = ask_address(run, pci.access.calls, bridge)?;
@@ -75,11 +69,8 @@ fn give_part<S: Space>(
     pci: PciAccess,
     part: u64,
 ) -> Result<Next>
-    ensures falls { IfOk result (λ n. next_weight n ≤
-        address_weight pci.part pci.access.calls (length pci.bridges.items) + behind_weight pci.access + 3) }
-    ensures means { Leads S.accesses (meaning S.accesses) result act.now run.now
-        (part_known S.accesses (meaning S.accesses) pci part) run.now }
-    ensures ends { EndsAt result act.now act.now }
+    ensures { Steps S.accesses (address_weight pci.part pci.access.calls (length pci.bridges.items) + behind_weight
+        pci.access + 4) result act.now run.now (part_known S.accesses (meaning S.accesses) pci part, act.now) run.now }
 {
     let waiting = Boxed::new(run.world.alloc, pci)?;
     Ok(Next::IntegerThen(part, Frame::Address(waiting)))
@@ -93,17 +84,18 @@ pub(crate) fn pass_bridge<S: Space>(
     pci: PciAccess,
     bridge: FunctionAddress,
 ) -> Result<Next>
-    ensures spent { run.new.1 ≤ run.old.1 }
-    ensures falls { IfOk result (λ n. next_weight n <
-        bridges_weight pci.access.calls (length pci.bridges.items) + part_weight pci.access.calls + 14 +
-        behind_weight pci.access) }
-    ensures means { Leads S.accesses (meaning S.accesses) result act.now run.new
-        (bridge_known S.accesses (meaning S.accesses) pci.access pci.device pci.bridges.items bridge.segment bridge.bus
-        bridge.address) run.old }
-    ensures ends { EndsAt result act.now act.now }
+    ensures { Steps S.accesses (bridges_weight pci.access.calls (length pci.bridges.items) + part_weight
+        pci.access.calls + 14 + behind_weight pci.access) result act.now run.new (
+          bridge_known S.accesses (meaning S.accesses) pci.access pci.device pci.bridges.items bridge.segment bridge.bus
+              bridge.address,
+          act.now,
+        ) run.old }
 {
-    let bus = run
-        .world
-        .secondary_bus(bridge.segment, bridge.bus, bridge.address)?;
+    let bus = secondary_bus(
+        &mut run.world.space,
+        bridge.segment,
+        bridge.bus,
+        bridge.address,
+    )?;
     begin_bridges(run, act, pci, bridge.segment, bus)
 }

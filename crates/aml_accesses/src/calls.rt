@@ -1,13 +1,13 @@
 //! Calls of control methods (ACPI 6.5, 5.5.2 and 20.2.5: MethodInvocation).
-ghost use Rattle.std.specs.Prelude.{◌≡◌, ◌≤◌, ◌<◌, ◌+◌, IfOk, IfErr, slice_index_or};
+ghost use Rattle.std.specs.Prelude.{◌≡◌, ◌≤◌, ◌+◌, IfErr, slice_index_or};
 ghost use Rattle.aml_objects.specs.declared.value.Value.TheVariants.{Uninitialized};
 ghost use Rattle.aml_meaning.specs.Meaning.{meaning};
 ghost use Rattle.aml_meaning.specs.Invocations.{frame_arguments, invoked};
 ghost use Rattle.aml_frames.specs.declared.frames.Frame.TheVariants as frames;
 ghost use Rattle.aml_frames.specs.Entering.{Enters};
-ghost use Rattle.aml_frames.specs.Follow.{called, entered_then, arguments_left, behind_arguments, resumed, ends, Leads};
-ghost use Rattle.aml_frames.specs.Follow.{EndsAt};
-ghost use Rattle.aml_frames.specs.Weights.{weight, next_weight};
+ghost use Rattle.aml_frames.specs.Follow.{called, entered_then, arguments_left, behind_arguments, ends};
+ghost use Rattle.aml_frames.specs.Weights.{weight};
+ghost use Rattle.aml_frames.specs.Steps.{Steps, frame_at};
 
 use aml_frames::{
     Activation, Boxed, Call, Callee, Frame, MethodPath, Next, PciAccess, known_integer, told_path,
@@ -21,11 +21,9 @@ use ar_space::{Result, Space};
 /// frame; for any other one the call waits (`Frame::Argument`).
 #[tactic(auto, using(aml_frames::proofs::Stepping::calls, crate::proofs::Arguments::arguing))]
 pub fn begin_call<S: Space>(run: &mut Running<S>, act: &mut Activation, call: Call) -> Result<Next>
-    ensures spent { run.new.1 ≤ run.old.1 }
-    ensures falls { IfOk result (λ n. next_weight n < 6) }
-    ensures means { Leads S.accesses (meaning S.accesses) result act.new run.new
-        (arguments_left S.accesses (meaning S.accesses) call call.done.items act.old) run.old }
-    ensures ends { EndsAt result act.new (behind_arguments call act.old) }
+    ensures { Steps S.accesses 6 result act.new run.new
+        (arguments_left S.accesses (meaning S.accesses) call call.done.items act.old, behind_arguments call act.old)
+        run.old }
 {
     let mut call = call;
     'arguments: while call.left > 0 {
@@ -51,11 +49,8 @@ pub fn resume_argument<S: Space>(
     call: Boxed<Call>,
     flow: Flow,
 ) -> Result<Next>
-    ensures spent { run.new.1 ≤ run.old.1 }
-    ensures falls { IfOk result (λ n. next_weight n < 6) }
-    ensures means { Leads S.accesses (meaning S.accesses) result act.new run.new
-        (resumed S.accesses (meaning S.accesses) (frames.Argument call) act.old flow) run.old }
-    ensures ends { EndsAt result act.new (ends (frames.Argument call) act.old) }
+    ensures { Steps S.accesses 6 result act.new run.new (frame_at S.accesses (frames.Argument call) act.old flow)
+        run.old }
 {
     let value = flow.value()?;
     let mut call = call.into_inner();
@@ -66,12 +61,9 @@ pub fn resume_argument<S: Space>(
 /// Makes a call whose arguments are evaluated: a control method is entered, and `\_OSI` answers at once.
 #[tactic(auto, using(aml_frames::proofs::Stepping::calls, crate::proofs::Entering::entered))]
 fn begin_callee<S: Space>(run: &mut Running<S>, act: &Activation, call: Call) -> Result<Next>
-    ensures spent { run.new.1 ≤ run.old.1 }
-    ensures falls { IfOk result (λ n. next_weight n < 6) }
+    ensures steps { Steps S.accesses 6 result act.now run.new
+        (called S.accesses (meaning S.accesses) call.callee act.now.depth call.done.items, act.now) run.old }
     ensures closed { IfErr result (λ e. run.new ≡ run.old) }
-    ensures means { Leads S.accesses (meaning S.accesses) result act.now run.new
-        (called S.accesses (meaning S.accesses) call.callee act.now.depth call.done.items) run.old }
-    ensures ends { EndsAt result act.now act.now }
 {
     let node = call.node;
     let done = call.done;
@@ -100,12 +92,11 @@ pub(crate) fn enter_then<S: Space>(
     called: (Path, Body),
     asked: Boxed<PciAccess>,
 ) -> Result<Next>
-    ensures spent { run.new.1 ≤ run.old.1 }
-    ensures falls { IfOk result (λ n. next_weight n ≤ 5 + weight (frames.Address asked)) }
+    ensures steps { Steps S.accesses (weight (frames.Address asked) + 6) result act.now run.new (
+      entered_then S.accesses (meaning S.accesses) depth called.0 called.1 (frames.Address asked) act.now,
+      ends (frames.Address asked) act.now,
+    ) run.old }
     ensures closed { IfErr result (λ e. run.new ≡ run.old) }
-    ensures means { Leads S.accesses (meaning S.accesses) result act.now run.new
-        (entered_then S.accesses (meaning S.accesses) depth called.0 called.1 (frames.Address asked) act.now) run.old }
-    ensures ends { EndsAt result act.now (ends (frames.Address asked) act.now) }
 {
     match enter(run, depth, called, None, &[]) {
         Ok(entered) => Ok(Next::BodyThen(entered, asked)),

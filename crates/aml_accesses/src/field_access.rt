@@ -1,5 +1,5 @@
 //! Accesses of fields of operation regions (ACPI 6.5, 5.5.2.4 and 19.6: OperationRegion, Field, BankField).
-ghost use Rattle.std.specs.Prelude.{◌≡◌, ◌≤◌, ◌<◌, ◌+◌, ◌*◌, IfOk, Ok};
+ghost use Rattle.std.specs.Prelude.{◌≡◌, ◌≤◌, ◌+◌};
 ghost use Rattle.ar_space.specs.Change.{Does};
 ghost use Rattle.ar_space.specs.Outcome.{NotMemory};
 ghost use Rattle.aml_meaning.specs.declared.regions.RegionSpace.TheVariants as kinds;
@@ -11,14 +11,16 @@ ghost use Rattle.aml_meaning.specs.Meaning.{meaning};
 ghost use Rattle.aml_objects.specs.declared.entry.Field.TheVariants as fields;
 ghost use Rattle.aml_frames.specs.declared.uses.Accessed.TheVariants as object;
 ghost use Rattle.aml_frames.specs.Addresses.{done_in, space_known, space_run};
-ghost use Rattle.aml_frames.specs.Follow.{Leads, EndsAt};
 ghost use Rattle.aml_frames.specs.Uses.{access_run, access_done, read_as};
-ghost use Rattle.aml_frames.specs.Weights.{region_weight, behind_weight, field_weight, access_weight, next_weight};
+ghost use Rattle.aml_frames.specs.Weights.{region_weight, behind_weight, field_weight, access_weight};
+ghost use Rattle.aml_frames.specs.Steps.{Steps};
 
 use crate::bank_access::{begin_banked, begin_units};
 use crate::index_access::begin_indexed;
 use crate::pci::begin_pci;
-use aml_fields::{AddressSpace, Region, merge};
+use aml_fields::{
+    AddressSpace, Region, merge, read_buffer_field, read_field, write_buffer_field, write_field,
+};
 use aml_frames::{
     Access, Accessed, Activation, BankedField, Doing, Next, Reading, RegionAccess, size_or_type,
 };
@@ -36,11 +38,8 @@ pub fn begin_access<S: Space>(
     act: &Activation,
     access: Access,
 ) -> Result<Next>
-    ensures spent { run.new.1 ≤ run.old.1 }
-    ensures falls { IfOk result (λ n. next_weight n < access_weight access) }
-    ensures means { Leads S.accesses (meaning S.accesses) result act.now run.new
-        (access_run S.accesses (meaning S.accesses) access) run.old }
-    ensures ends { EndsAt result act.now act.now }
+    ensures { Steps S.accesses (access_weight access) result act.now run.new
+        (access_run S.accesses (meaning S.accesses) access, act.now) run.old }
 {
     match access.object {
         Accessed::Unit(field) => begin_region(run, act, access.calls, field, access.doing),
@@ -62,11 +61,8 @@ fn begin_unit<S: Space>(
     unit: FieldUnit,
     doing: Doing,
 ) -> Result<Next>
-    ensures spent { run.new.1 ≤ run.old.1 }
-    ensures falls { IfOk result (λ n. next_weight n < field_weight calls) }
-    ensures means { Leads S.accesses (meaning S.accesses) result act.now run.new
-        (access_done S.accesses (meaning S.accesses) calls (object.Field (fields.Unit unit)) doing) run.old }
-    ensures ends { EndsAt result act.now act.now }
+    ensures { Steps S.accesses (field_weight calls) result act.now run.new
+        (access_done S.accesses (meaning S.accesses) calls (object.Field (fields.Unit unit)) doing, act.now) run.old }
 {
     match unit.source {
         FieldSource::Region(region) => {
@@ -90,19 +86,22 @@ fn access_buffer<S: Space>(
     field: BufferField,
     doing: Doing,
 ) -> Result<Next>
-    ensures spent { run.new.1 ≤ run.old.1 }
-    ensures falls { IfOk result (λ n. next_weight n < 4) }
-    ensures means { Leads S.accesses (meaning S.accesses) result act.now run.new
-        (access_done S.accesses (meaning S.accesses) calls (object.Field (fields.Buffer field)) doing) run.old }
-    ensures ends { EndsAt result act.now act.now }
+    ensures { Steps S.accesses 4 result act.now run.new
+        (access_done S.accesses (meaning S.accesses) calls (object.Field (fields.Buffer field)) doing, act.now)
+        run.old }
 {
     match doing {
         Doing::Read(reading) => {
-            let bytes = run.world.read_buffer_field(field)?;
+            let bytes = read_buffer_field(run.world.alloc, run.world.objects(), field)?;
             finish_read(run, act, reading, field.bits, bytes)
         }
         Doing::Write(bytes) => {
-            run.world.write_buffer_field(field, bytes.as_slice())?;
+            write_buffer_field(
+                run.world.alloc,
+                &mut run.world.heap,
+                field,
+                bytes.as_slice(),
+            )?;
             Ok(Next::Flow(Flow::Next))
         }
     }
@@ -117,11 +116,8 @@ pub fn begin_region<S: Space>(
     field: RegionField,
     doing: Doing,
 ) -> Result<Next>
-    ensures spent { run.new.1 ≤ run.old.1 }
-    ensures falls { IfOk result (λ n. next_weight n < region_weight calls) }
-    ensures means { Leads S.accesses (meaning S.accesses) result act.now run.new
-        (access_done S.accesses (meaning S.accesses) calls (object.Unit field) doing) run.old }
-    ensures ends { EndsAt result act.now act.now }
+    ensures { Steps S.accesses (region_weight calls) result act.now run.new
+        (access_done S.accesses (meaning S.accesses) calls (object.Unit field) doing, act.now) run.old }
 {
     let declared = region_of(run, field.region)?;
     let access = RegionAccess {
@@ -158,11 +154,8 @@ pub(crate) fn begin_declared<S: Space>(
     kind: RegionSpace,
     scope: &Path,
 ) -> Result<Next>
-    ensures spent { run.new.1 ≤ run.old.1 }
-    ensures falls { IfOk result (λ n. next_weight n < region_weight access.calls + behind_weight access) }
-    ensures means { Leads S.accesses (meaning S.accesses) result act.now run.new
-        (space_run S.accesses (meaning S.accesses) access kind scope.now) run.old }
-    ensures ends { EndsAt result act.now act.now }
+    ensures steps { Steps S.accesses (region_weight access.calls + behind_weight access) result act.now run.new
+        (space_run S.accesses (meaning S.accesses) access kind scope.now, act.now) run.old }
     ensures memory { kind ≡ kinds.Other → NotMemory result }
 {
     match kind {
@@ -181,11 +174,8 @@ pub(crate) fn access_space<S: Space>(
     access: RegionAccess,
     space: AddressSpace,
 ) -> Result<Next>
-    ensures spent { run.new.1 ≤ run.old.1 }
-    ensures falls { IfOk result (λ n. next_weight n < 4 + behind_weight access) }
-    ensures means { Leads S.accesses (meaning S.accesses) result act.now run.new
-        (space_known S.accesses (meaning S.accesses) access space) run.old }
-    ensures ends { EndsAt result act.now act.now }
+    ensures { Steps S.accesses (4 + behind_weight access) result act.now run.new
+        (space_known S.accesses (meaning S.accesses) access space, act.now) run.old }
 {
     let RegionAccess {
         calls,
@@ -223,20 +213,16 @@ fn access_located<S: Space>(
     region: Region,
     doing: Doing,
 ) -> Result<Next>
-    ensures spent { run.new.1 ≤ run.old.1 }
-    ensures falls { IfOk result (λ n. next_weight n < 4) }
-    ensures means { Leads S.accesses (meaning S.accesses) result act.now run.new
-        (done_in S.accesses doing field region) run.old }
-    ensures ends { EndsAt result act.now act.now }
+    ensures { Steps S.accesses 4 result act.now run.new (done_in S.accesses doing field region, act.now) run.old }
 {
     let unit = field.unit;
     match doing {
         Doing::Read(reading) => {
-            let bytes = run.world.read_field(region, unit)?;
+            let bytes = read_field(run.world.alloc, &mut run.world.space, region, unit)?;
             finish_read(run, act, reading, unit.bits, bytes)
         }
         Doing::Write(bytes) => {
-            run.world.write_field(region, unit, bytes.as_slice())?;
+            write_field(&mut run.world.space, region, unit, bytes.as_slice())?;
             Ok(Next::Flow(Flow::Next))
         }
     }
@@ -251,11 +237,7 @@ pub(crate) fn finish_read<S: Space>(
     count: u32,
     bytes: Vec<u8>,
 ) -> Result<Next>
-    ensures spent { run.new.1 ≤ run.old.1 }
-    ensures falls { IfOk result (λ n. next_weight n < 4) }
-    ensures means { Leads S.accesses (meaning S.accesses) result act.now run.new
-        (read_as reading count bytes.items) run.old }
-    ensures ends { EndsAt result act.now act.now }
+    ensures { Steps S.accesses 4 result act.now run.new (read_as reading count bytes.items, act.now) run.old }
 {
     match reading {
         Reading::Value => {

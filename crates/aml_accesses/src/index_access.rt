@@ -1,16 +1,17 @@
 //! Accesses of fields behind an index field and a data field, one unit after another, lowest first (ACPI 6.5, 19.6:
 //! IndexField). The offset of a unit is written to the index field before the data field is read or written, and each
 //! of these accesses is waited for.
-ghost use Rattle.std.specs.Prelude.{◌≡◌, ◌≤◌, ◌<◌, ◌+◌, ◌*◌, IfOk, Ok};
+ghost use Rattle.std.specs.Prelude.{◌<◌, ◌+◌, ◌*◌, Ok};
 ghost use Rattle.ar_space.specs.Outcome.{Answers};
 ghost use Rattle.aml_meaning.specs.Fields.{unit_bytes};
 ghost use Rattle.aml_meaning.specs.Meaning.{meaning};
 ghost use Rattle.aml_frames.specs.declared.indexed.UnitsLeft.TheVariants as units_left;
-ghost use Rattle.aml_frames.specs.Follow.{number_written_then, ends, next_ends, Leads, EndsAt};
+ghost use Rattle.aml_frames.specs.Follow.{number_written_then, ends};
 ghost use Rattle.aml_frames.specs.Indexed.{field_accessed, reads_done, writes_done, unit_met, unit_given, unit_behind};
 ghost use Rattle.aml_frames.specs.Indexed.{unit_chosen, unit_merged, indexed_done};
 ghost use Rattle.aml_frames.specs.Weights.{reads_weight, writes_weight, left_weight, region_weight, field_weight};
-ghost use Rattle.aml_frames.specs.Weights.{weight, next_weight};
+ghost use Rattle.aml_frames.specs.Weights.{weight};
+ghost use Rattle.aml_frames.specs.Steps.{Steps};
 
 use crate::field_access::finish_read;
 use aml_fields::{Unit, bytes_of, units};
@@ -33,12 +34,9 @@ pub(crate) fn begin_indexed<S: Space>(
     numbers: (u64, u64),
     access: (FieldUnit, Doing),
 ) -> Result<Next>
-    ensures spent { run.new.1 ≤ run.old.1 }
-    ensures falls { IfOk result (λ n. next_weight n < field_weight calls) }
+    ensures steps { Steps S.accesses (field_weight calls) result act.now run.new
+        (indexed_done S.accesses (meaning S.accesses) calls numbers.0 numbers.1 access.0 access.1, act.now) run.old }
     ensures few { access.0.bits < 4294967296 }
-    ensures means { Leads S.accesses (meaning S.accesses) result act.now run.new
-        (indexed_done S.accesses (meaning S.accesses) calls numbers.0 numbers.1 access.0 access.1) run.old }
-    ensures ends { EndsAt result act.now act.now }
 {
     let (unit, doing) = access;
     let left = units(unit.bit_offset, unit.bits, unit.access);
@@ -69,11 +67,8 @@ pub(crate) fn begin_indexed<S: Space>(
 /// value.
 #[tactic(auto, using(crate::proofs::UnitSteps::unit_by_unit))]
 fn next_read<S: Space>(run: &mut Running<S>, act: &Activation, reads: UnitReads) -> Result<Next>
-    ensures spent { run.new.1 ≤ run.old.1 }
-    ensures falls { IfOk result (λ n. next_weight n < reads_weight reads + 4) }
-    ensures means { Leads S.accesses (meaning S.accesses) result act.now run.new
-        (reads_done S.accesses (meaning S.accesses) reads) run.old }
-    ensures ends { EndsAt result act.now act.now }
+    ensures { Steps S.accesses (reads_weight reads + 4) result act.now run.new
+        (reads_done S.accesses (meaning S.accesses) reads, act.now) run.old }
 {
     let mut reads = reads;
     match reads.left.next() {
@@ -89,11 +84,8 @@ pub fn next_write<S: Space>(
     act: &Activation,
     writes: UnitWrites,
 ) -> Result<Next>
-    ensures spent { run.new.1 ≤ run.old.1 }
-    ensures falls { IfOk result (λ n. next_weight n < writes_weight writes + 4) }
-    ensures means { Leads S.accesses (meaning S.accesses) result act.now run.new
-        (writes_done S.accesses (meaning S.accesses) writes) run.old }
-    ensures ends { EndsAt result act.now act.now }
+    ensures { Steps S.accesses (writes_weight writes + 4) result act.now run.new
+        (writes_done S.accesses (meaning S.accesses) writes, act.now) run.old }
 {
     let mut writes = writes;
     match writes.left.next() {
@@ -116,11 +108,8 @@ fn choose<S: Space>(
     units: UnitsLeft,
     unit: Unit,
 ) -> Result<Next>
-    ensures falls { IfOk result (λ n. next_weight n ≤ left_weight units + 4 *
-        region_weight (field_accessed units).calls + 1) }
-    ensures means { Leads S.accesses (meaning S.accesses) result act.now run.now
-        (unit_chosen S.accesses (meaning S.accesses) units unit) run.now }
-    ensures ends { EndsAt result act.now act.now }
+    ensures { Steps S.accesses (left_weight units + 4 * region_weight (field_accessed units).calls + 2) result act.now
+        run.now (unit_chosen S.accesses (meaning S.accesses) units unit, act.now) run.now }
 {
     let field = units.field();
     let chosen = (field.index, unit.offset);
@@ -136,11 +125,8 @@ pub fn read_chosen<S: Space>(
     units: Boxed<UnitsLeft>,
     unit: Unit,
 ) -> Result<Next>
-    ensures falls { IfOk result (λ n. next_weight n ≤ left_weight units + 3 *
-        region_weight (field_accessed units).calls + 1) }
-    ensures means { Leads S.accesses (meaning S.accesses) result act.now run.now
-        (unit_behind S.accesses (meaning S.accesses) units unit) run.now }
-    ensures ends { EndsAt result act.now act.now }
+    ensures { Steps S.accesses (left_weight units + 3 * region_weight (field_accessed units).calls + 2) result act.now
+        run.now (unit_behind S.accesses (meaning S.accesses) units unit, act.now) run.now }
 {
     let field = units.get().field();
     let access = Access {
@@ -164,12 +150,8 @@ pub fn resume_unit<S: Space>(
     unit: Unit,
     flow: Flow,
 ) -> Result<Next>
-    ensures spent { run.new.1 ≤ run.old.1 }
-    ensures falls { IfOk result (λ n. next_weight n < left_weight units + 2 *
-        region_weight (field_accessed units).calls + 4) }
-    ensures means { Leads S.accesses (meaning S.accesses) result act.now run.new
-        (unit_given S.accesses (meaning S.accesses) units unit flow) run.old }
-    ensures ends { EndsAt result act.now act.now }
+    ensures { Steps S.accesses (left_weight units + 2 * region_weight (field_accessed units).calls + 4) result act.now
+        run.new (unit_given S.accesses (meaning S.accesses) units unit flow, act.now) run.old }
 {
     let number = integer_only(value_of_call(flow))?;
     match units.into_inner() {
@@ -191,10 +173,8 @@ fn write_over<S: Space>(
     unit: Unit,
     old: u64,
 ) -> Result<Next>
-    ensures falls { IfOk result (λ n. next_weight n ≤ writes_weight writes + 2 * region_weight writes.field.calls + 1) }
-    ensures means { Leads S.accesses (meaning S.accesses) result act.now run.now
-        (unit_met S.accesses (meaning S.accesses) (units_left.Writes writes) unit old) run.now }
-    ensures ends { EndsAt result act.now act.now }
+    ensures { Steps S.accesses (writes_weight writes + 2 * region_weight writes.field.calls + 2) result act.now run.now
+        (unit_met S.accesses (meaning S.accesses) (units_left.Writes writes) unit old, act.now) run.now }
 {
     let field = writes.field;
     let number = merge_unit(field.field, writes.bytes.as_slice(), unit, old);
@@ -211,10 +191,8 @@ pub fn write_merged<S: Space>(
     writes: Boxed<UnitWrites>,
     number: u64,
 ) -> Result<Next>
-    ensures falls { IfOk result (λ n. next_weight n ≤ writes_weight writes + region_weight writes.field.calls + 1) }
-    ensures means { Leads S.accesses (meaning S.accesses) result act.now run.now
-        (unit_merged S.accesses (meaning S.accesses) writes number) run.now }
-    ensures ends { EndsAt result act.now act.now }
+    ensures { Steps S.accesses (writes_weight writes + region_weight writes.field.calls + 2) result act.now run.now
+        (unit_merged S.accesses (meaning S.accesses) writes number, act.now) run.now }
 {
     let field = writes.get().field;
     let frame = Frame::UnitWritten(writes);
@@ -230,10 +208,10 @@ pub(crate) fn write_then<S: Space>(
     written: (RegionField, u64),
     frame: Frame,
 ) -> Result<Next>
-    ensures falls { IfOk result (λ n. next_weight n ≤ region_weight calls + weight frame) }
-    ensures means { Leads S.accesses (meaning S.accesses) result act.now run.now
-        (number_written_then S.accesses (meaning S.accesses) calls written.0 written.1 frame act.now) run.now }
-    ensures ends { EndsAt result act.now (ends frame act.now) }
+    ensures { Steps S.accesses (region_weight calls + weight frame + 1) result act.now run.now (
+      number_written_then S.accesses (meaning S.accesses) calls written.0 written.1 frame act.now,
+      ends frame act.now,
+    ) run.now }
 {
     let bytes = unit_octets(run.world.alloc, written.1)?;
     let access = Access {

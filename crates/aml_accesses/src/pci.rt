@@ -1,16 +1,16 @@
 //! The address of a function of PCI_Config: its segment group, its bus and its address are asked for, in this order
 //! (ACPI 6.5, 5.5.2.4, 6.1.1, 6.5.5 and 6.5.6), and the bridges above it between the bus and the address. A control
 //! method or a field that gives one of them is waited for.
-ghost use Rattle.std.specs.Prelude.{◌≡◌, ◌≤◌, ◌<◌, ◌+◌, ◌*◌, ◌++◌, ◌∷◌, [], IfOk, length};
+ghost use Rattle.std.specs.Prelude.{◌≤◌, ◌+◌, ◌*◌, ◌++◌, ◌∷◌, [], IfOk, length};
 ghost use Rattle.aml_meaning.specs.Meaning.{meaning};
 ghost use Rattle.aml_meaning.specs.Fields.{inherited};
 ghost use Rattle.aml_meaning.specs.PciFunctions.{adr};
 ghost use Rattle.aml_frames.specs.Addresses.{pci_run, device_known, bridges_known, segment_known, bus_known};
 ghost use Rattle.aml_frames.specs.Addresses.{function_known, waited_met, part_met, Asks};
-ghost use Rattle.aml_frames.specs.Follow.{Leads, EndsAt};
 ghost use Rattle.aml_frames.specs.Uses.{asking};
 ghost use Rattle.aml_frames.specs.Weights.{part_weight, bridges_weight, region_weight, address_weight, behind_weight};
-ghost use Rattle.aml_frames.specs.Weights.{asked_weight, waited_weight, next_weight};
+ghost use Rattle.aml_frames.specs.Weights.{asked_weight, waited_weight};
+ghost use Rattle.aml_frames.specs.Steps.{Steps};
 
 use crate::asking::ask;
 use crate::bridges::{begin_bridges, pass_bridge};
@@ -32,11 +32,8 @@ pub(crate) fn begin_pci<S: Space>(
     access: RegionAccess,
     scope: &Path,
 ) -> Result<Next>
-    ensures spent { run.new.1 ≤ run.old.1 }
-    ensures falls { IfOk result (λ n. next_weight n < region_weight access.calls + behind_weight access) }
-    ensures means { Leads S.accesses (meaning S.accesses) result act.now run.new
-        (pci_run S.accesses (meaning S.accesses) access scope.now) run.old }
-    ensures ends { EndsAt result act.now act.now }
+    ensures { Steps S.accesses (region_weight access.calls + behind_weight access) result act.now run.new
+        (pci_run S.accesses (meaning S.accesses) access scope.now, act.now) run.old }
 {
     let device = run.world.pci_function(scope)?;
     begin_device(run, act, access, device)
@@ -50,11 +47,8 @@ fn begin_device<S: Space>(
     access: RegionAccess,
     device: Path,
 ) -> Result<Next>
-    ensures spent { run.new.1 ≤ run.old.1 }
-    ensures falls { IfOk result (λ n. next_weight n < region_weight access.calls + behind_weight access) }
-    ensures means { Leads S.accesses (meaning S.accesses) result act.now run.new
-        (device_known S.accesses (meaning S.accesses) access device) run.old }
-    ensures ends { EndsAt result act.now act.now }
+    ensures { Steps S.accesses (region_weight access.calls + behind_weight access) result act.now run.new
+        (device_known S.accesses (meaning S.accesses) access device, act.now) run.old }
 {
     let bridges = run.world.bridges_above(&device)?;
     let pci = PciAccess {
@@ -69,13 +63,9 @@ fn begin_device<S: Space>(
 /// The segment group is asked for.
 #[tactic(auto, using(crate::proofs::Addressing::parts_known), unfolding(aml_frames::specs::Addresses::bridges_known))]
 fn begin_segment<S: Space>(run: &mut Running<S>, act: &Activation, pci: PciAccess) -> Result<Next>
-    ensures spent { run.new.1 ≤ run.old.1 }
-    ensures falls { IfOk result (λ n. next_weight n <
-        bridges_weight pci.access.calls (length pci.bridges.items) + 3 * part_weight pci.access.calls + 40 +
-        behind_weight pci.access) }
-    ensures means { Leads S.accesses (meaning S.accesses) result act.now run.new
-        (bridges_known S.accesses (meaning S.accesses) pci.access pci.device pci.bridges.items) run.old }
-    ensures ends { EndsAt result act.now act.now }
+    ensures { Steps S.accesses (bridges_weight pci.access.calls (length pci.bridges.items) + 3 * part_weight
+        pci.access.calls + 40 + behind_weight pci.access) result act.now run.new
+        (bridges_known S.accesses (meaning S.accesses) pci.access pci.device pci.bridges.items, act.now) run.old }
 {
     let asked = ask_inherited(run, pci.access.calls, segment_group(), &pci.device)?;
     match asked {
@@ -98,13 +88,10 @@ fn begin_bus<S: Space>(
     pci: PciAccess,
     segment: u64,
 ) -> Result<Next>
-    ensures spent { run.new.1 ≤ run.old.1 }
-    ensures falls { IfOk result (λ n. next_weight n <
-        bridges_weight pci.access.calls (length pci.bridges.items) + 2 * part_weight pci.access.calls + 25 +
-        behind_weight pci.access) }
-    ensures means { Leads S.accesses (meaning S.accesses) result act.now run.new
-        (segment_known S.accesses (meaning S.accesses) pci.access pci.device pci.bridges.items segment) run.old }
-    ensures ends { EndsAt result act.now act.now }
+    ensures { Steps S.accesses (bridges_weight pci.access.calls (length pci.bridges.items) + 2 * part_weight
+        pci.access.calls + 25 + behind_weight pci.access) result act.now run.new
+        (segment_known S.accesses (meaning S.accesses) pci.access pci.device pci.bridges.items segment, act.now)
+        run.old }
 {
     let asked = ask_inherited(run, pci.access.calls, base_bus(), &pci.device)?;
     match asked {
@@ -128,11 +115,8 @@ pub(crate) fn begin_function<S: Space>(
     segment: u64,
     bus: u64,
 ) -> Result<Next>
-    ensures spent { run.new.1 ≤ run.old.1 }
-    ensures falls { IfOk result (λ n. next_weight n < part_weight pci.access.calls + 14 + behind_weight pci.access) }
-    ensures means { Leads S.accesses (meaning S.accesses) result act.now run.new
-        (bus_known S.accesses (meaning S.accesses) pci.access pci.device segment bus) run.old }
-    ensures ends { EndsAt result act.now act.now }
+    ensures { Steps S.accesses (part_weight pci.access.calls + 14 + behind_weight pci.access) result act.now run.new
+        (bus_known S.accesses (meaning S.accesses) pci.access pci.device segment bus, act.now) run.old }
 {
     let asked = ask_address(run, pci.access.calls, &pci.device)?;
     match asked {
@@ -162,11 +146,9 @@ fn access_function<S: Space>(
     access: RegionAccess,
     function: FunctionAddress,
 ) -> Result<Next>
-    ensures spent { run.new.1 ≤ run.old.1 }
-    ensures falls { IfOk result (λ n. next_weight n < 4 + behind_weight access) }
-    ensures means { Leads S.accesses (meaning S.accesses) result act.now run.new
-        (function_known S.accesses (meaning S.accesses) access function.segment function.bus function.address) run.old }
-    ensures ends { EndsAt result act.now act.now }
+    ensures { Steps S.accesses (4 + behind_weight access) result act.now run.new
+        (function_known S.accesses (meaning S.accesses) access function.segment function.bus function.address, act.now)
+        run.old }
 {
     let space = pci_space(function.segment, function.bus, function.address)?;
     access_space(run, act, access, space)
@@ -196,12 +178,9 @@ pub(crate) fn wait<S: Space>(
     pci: PciAccess,
     waited: Waited,
 ) -> Result<Next>
-    ensures spent { run.new.1 ≤ run.old.1 }
-    ensures falls { IfOk result (λ n. next_weight n ≤ waited_weight waited +
-        address_weight pci.part pci.access.calls (length pci.bridges.items) + behind_weight pci.access + 6) }
-    ensures means { Leads S.accesses (meaning S.accesses) result act.now run.new
-        (waited_met S.accesses (meaning S.accesses) waited pci) run.old }
-    ensures ends { EndsAt result act.now act.now }
+    ensures { Steps S.accesses (waited_weight waited + address_weight pci.part pci.access.calls
+        (length pci.bridges.items) + behind_weight pci.access + 7) result act.now run.new
+        (waited_met S.accesses (meaning S.accesses) waited pci, act.now) run.old }
 {
     match waited {
         Waited::Method(depth, path, body) => {
@@ -229,12 +208,8 @@ pub fn resume_address<S: Space>(
     pci: Boxed<PciAccess>,
     flow: Flow,
 ) -> Result<Next>
-    ensures spent { run.new.1 ≤ run.old.1 }
-    ensures falls { IfOk result (λ n. next_weight n <
-        address_weight pci.part pci.access.calls (length pci.bridges.items) + behind_weight pci.access + 3) }
-    ensures means { Leads S.accesses (meaning S.accesses) result act.now run.new
-        (part_met S.accesses (meaning S.accesses) pci flow) run.old }
-    ensures ends { EndsAt result act.now act.now }
+    ensures { Steps S.accesses (address_weight pci.part pci.access.calls (length pci.bridges.items) + behind_weight
+        pci.access + 3) result act.now run.new (part_met S.accesses (meaning S.accesses) pci flow, act.now) run.old }
 {
     let number = integer_only(value_of_call(flow))?;
     let pci = pci.into_inner();

@@ -41,7 +41,7 @@ use Rattle.aml_frames.specs.Follow.{place_of, coded_run, behind_coded, Leads, En
 use Rattle.aml_frames.proofs.Declaring.{leads_done, leads_refused}
 use Rattle.aml_frames.proofs.Forming.{count_is}
 use Rattle.aml_frames.proofs.RuleShapes.{region_is, behind_region_is}
-use Rattle.aml_frames.proofs.Stepping.{leads_value, leads_value_at, stepping}
+use Rattle.aml_frames.proofs.Stepping.{leads_value, leads_value_at}
 use Rattle.aml_frames.proofs.Using.{two_run}
 
 -- the address space is the byte behind the name

@@ -1,6 +1,6 @@
 //! BankField (ACPI 6.5, 19.6 and 20.2.5.2): fields in the bank of an operation region that a value of a bank field
 //! selects. The operands stand next.
-ghost use Rattle.std.specs.Prelude.{◌≡◌, ◌≤◌, ◌<◌, IfOk};
+ghost use Rattle.std.specs.Prelude.{◌≡◌, ◌≤◌, IfOk};
 ghost use Rattle.ar_space.specs.Change.{Does};
 ghost use Rattle.aml_marked.specs.Marked.{a_name, an_integer, over};
 ghost use Rattle.aml_meaning.specs.FieldTerms.{region_found, field_found, fields_laid};
@@ -10,8 +10,8 @@ ghost use Rattle.aml_meaning.specs.declared.term_kind.WideKind.TheVariants as wi
 ghost use Rattle.aml_frames.specs.Places.{at_place, terms};
 ghost use Rattle.aml_frames.specs.RegionTerms.{behind_name, bank_declared, bank_names_run};
 ghost use Rattle.aml_frames.specs.Operands.{fields_at, outside_at};
-ghost use Rattle.aml_frames.specs.Follow.{at_position, wide_run, Leads, EndsAt};
-ghost use Rattle.aml_frames.specs.Weights.{next_weight};
+ghost use Rattle.aml_frames.specs.Follow.{at_position, wide_run};
+ghost use Rattle.aml_frames.specs.Steps.{Steps};
 
 use crate::field_lists::lay_fields;
 use aml_frames::{Activation, DeclarationPart, Frame, Next, Position, integer_of, told};
@@ -26,11 +26,10 @@ pub fn begin_bank_fields<S: Space>(
     act: &mut Activation,
     levels: u8,
 ) -> Result<Next>
-    ensures spent { run.new.1 ≤ run.old.1 }
-    ensures falls { IfOk result (λ n. next_weight n < 6) }
-    ensures means { Leads S.accesses (meaning S.accesses) result act.new run.new
-        (wide_run S.accesses (meaning S.accesses) wides.BankField act.old levels) run.old }
-    ensures ends { EndsAt result act.new (at_place act.old (outside_at act.old.place)) }
+    ensures { Steps S.accesses 6 result act.new run.new (
+      wide_run S.accesses (meaning S.accesses) wides.BankField act.old levels,
+      at_place act.old (outside_at act.old.place),
+    ) run.old }
 {
     let outer = act.open();
     begin_bank_names(run, act, levels, outer)
@@ -44,11 +43,8 @@ fn begin_bank_names<S: Space>(
     levels: u8,
     outer: Position,
 ) -> Result<Next>
-    ensures spent { run.new.1 ≤ run.old.1 }
-    ensures falls { IfOk result (λ n. next_weight n < 6) }
-    ensures means { Leads S.accesses (meaning S.accesses) result act.new run.new
-        (bank_names_run (meaning S.accesses) levels act.old) run.old }
-    ensures ends { EndsAt result act.new (at_position act.old outer) }
+    ensures { Steps S.accesses 6 result act.new run.new
+        (bank_names_run (meaning S.accesses) levels act.old, at_position act.old outer) run.old }
 {
     let region = take_region(run, act)?;
     let bank = take_bank(run, act)?;
@@ -93,11 +89,8 @@ pub(crate) fn declare_bank_fields<S: Space>(
     lies_in: (u64, u64),
     value: Value,
 ) -> Result<Next>
-    ensures spent { run.new.1 ≤ run.old.1 }
-    ensures falls { IfOk result (λ n. next_weight n < 6) }
-    ensures means { Leads S.accesses (meaning S.accesses) result act.new run.new
-        (bank_declared list.0 lies_in.0 lies_in.1 value act.old) run.old }
-    ensures ends { EndsAt result act.new (at_position act.old list.1) }
+    ensures { Steps S.accesses 6 result act.new run.new
+        (bank_declared list.0 lies_in.0 lies_in.1 value act.old, at_position act.old list.1) run.old }
 {
     let (region, field) = lies_in;
     let value = integer_of(&run.world, value)?;

@@ -1,21 +1,19 @@
 //! Data that terms form: integers, strings and buffers; how packages begin (ACPI 6.5, 19.6 and 20.2.3). The parts
 //! stand next.
-ghost use Rattle.std.specs.Prelude.{◌≡◌, ◌≤◌, ◌<◌, ◌+◌, OnOk, IfOk, Ok};
+ghost use Rattle.std.specs.Prelude.{◌≡◌, OnOk, Ok};
 ghost use Rattle.ar_space.specs.Change.{Does};
 ghost use Rattle.ar_space.specs.Outcome.{Answers, NotMemory};
-ghost use Rattle.aml_marked.specs.Marked.{a_text, with_row};
-ghost use Rattle.aml_scan.specs.RowsAt.{row_at};
+ghost use Rattle.aml_marked.specs.Marked.{a_text};
 ghost use Rattle.aml_meaning.specs.declared.term_kind.DataKind.TheVariants as datas;
-ghost use Rattle.aml_meaning.specs.declared.term_kind.TermKind.TheVariants as kinds;
 ghost use Rattle.aml_meaning.specs.Meaning.{meaning};
 ghost use Rattle.aml_meaning.specs.DataTerms.{constant_rule};
 ghost use Rattle.aml_frames.specs.declared.frames.Frame.TheVariants as frames;
 ghost use Rattle.aml_frames.specs.declared.frames.Next.TheVariants as next;
 ghost use Rattle.aml_frames.specs.Places.{at_place};
-ghost use Rattle.aml_frames.specs.Operands.{row_kind, outside_at};
+ghost use Rattle.aml_frames.specs.Operands.{outside_at};
 ghost use Rattle.aml_frames.specs.Data.{data_run, behind_data_at, string_run, text_made, buffer_run, buffer_filled};
-ghost use Rattle.aml_frames.specs.Follow.{resumed, ends, next_ends, next_run, Leads, EndsAt};
-ghost use Rattle.aml_frames.specs.Weights.{next_weight};
+ghost use Rattle.aml_frames.specs.Follow.{ends};
+ghost use Rattle.aml_frames.specs.Steps.{Steps, frame_at, next_at};
 
 use crate::packages::{begin_package, begin_var_package};
 use aml_frames::{Activation, Frame, Next, Position, integer_of, known_integer, leave};
@@ -35,11 +33,8 @@ pub fn begin_data<S: Space>(
     place: RowPlace,
     kind: DataKind,
 ) -> Result<Next>
-    ensures spent { run.new.1 ≤ run.old.1 }
-    ensures falls { IfOk result (λ n. next_weight n < 6) }
-    ensures means { Leads S.accesses (meaning S.accesses) result act.new run.new
-        (data_run (meaning S.accesses) kind place act.old levels) run.old }
-    ensures ends { EndsAt result act.new (behind_data_at kind place act.old levels) }
+    ensures { Steps S.accesses 6 result act.new run.new
+        (data_run (meaning S.accesses) kind place act.old levels, behind_data_at kind place act.old levels) run.old }
 {
     match kind {
         DataKind::Constant(number) => begin_constant(run, act, number),
@@ -54,11 +49,9 @@ pub fn begin_data<S: Space>(
 /// An integer that an opcode says.
 #[tactic(auto, using(aml_frames::proofs::Stepping::stepping), unfolding(aml_meaning::specs::DataTerms::constant_rule))]
 fn begin_constant<S: Space>(run: &Running<S>, act: &Activation, number: u64) -> Result<Next>
-    ensures falls { IfOk result (λ n. next_weight n < 6) }
+    ensures steps { Steps S.accesses 6 result act.now run.now (constant_rule (meaning S.accesses) number, act.now)
+        run.now }
     ensures memory { NotMemory result }
-    ensures means { Leads S.accesses (meaning S.accesses) result act.now run.now
-        (constant_rule (meaning S.accesses) number) run.now }
-    ensures ends { EndsAt result act.now act.now }
 {
     let value = run.world.integer_kept(number)?;
     Ok(Next::Flow(Flow::Value(value)))
@@ -72,11 +65,11 @@ fn begin_integer<S: Space>(
     levels: u8,
     place: RowPlace,
 ) -> Result<Next>
-    ensures falls { IfOk result (λ n. next_weight n < 6) }
+    ensures steps { Steps S.accesses 6 result act.new run.now (
+      data_run (meaning S.accesses) datas.Integer place act.old levels,
+      behind_data_at datas.Integer place act.old levels,
+    ) run.now }
     ensures memory { NotMemory result }
-    ensures means { Leads S.accesses (meaning S.accesses) result act.new run.now
-        (data_run (meaning S.accesses) datas.Integer place act.old levels) run.now }
-    ensures ends { EndsAt result act.new (behind_data_at datas.Integer place act.old levels) }
 {
     let number = act.number(levels, place)?;
     act.over_operands(levels, place);
@@ -86,25 +79,22 @@ fn begin_integer<S: Space>(
 /// A string: the characters that stand before the next zero.
 #[tactic(auto, using(aml_frames::proofs::Stepping::stepping), unfolding(aml_meaning::specs::DataTerms::string_rule))]
 fn begin_string<S: Space>(run: &mut Running<S>, act: &mut Activation) -> Result<Next>
-    ensures spent { run.new.1 ≤ run.old.1 }
-    ensures falls { IfOk result (λ n. next_weight n < 6) }
-    ensures means { Leads S.accesses (meaning S.accesses) result act.new run.new
-        (string_run (meaning S.accesses) act.old) run.old }
-    ensures ends { EndsAt result act.new (at_place act.old (a_text act.old.place).1) }
+    ensures { Steps S.accesses 6 result act.new run.new
+        (string_run (meaning S.accesses) act.old, at_place act.old (a_text act.old.place).1) run.old }
 {
     let value = make_text(run, act)?;
     leave(Flow::Value(value))
 }
 
 /// A string of the characters that stand before the next zero. Evaluation goes over them and the zero.
-#[tactic(auto, using(aml_meaning::proofs::Runs::running))]
+#[tactic(auto, using(aml_meaning::proofs::Runs::running, aml_meaning::proofs::Lifted::parts))]
 pub fn make_text<S: Space>(run: &mut Running<S>, act: &mut Activation) -> Result<Value>
     ensures steps { run.new.1 ≡ run.old.1 }
     ensures made { Does result run.new (text_made act.old) run.old }
     ensures behind { OnOk result (act.new ≡ at_place act.old (a_text act.old.place).1) }
 {
     let text = take_text(run.world.alloc, act)?;
-    run.world.make_string(text)
+    run.world.heap.make_string(text)
 }
 
 /// A copy of the text that stands next. Evaluation goes over it and its zero.
@@ -122,11 +112,8 @@ fn take_text(alloc: Global, act: &mut Activation) -> Result<Octets>
 /// A Buffer: its size is evaluated, and the bytes behind its size are its first ones.
 #[tactic(auto, using(aml_frames::proofs::Forming::buffers, aml_frames::proofs::Knowing::going_on))]
 fn begin_buffer<S: Space>(run: &mut Running<S>, act: &mut Activation, levels: u8) -> Result<Next>
-    ensures spent { run.new.1 ≤ run.old.1 }
-    ensures falls { IfOk result (λ n. next_weight n < 6) }
-    ensures means { Leads S.accesses (meaning S.accesses) result act.new run.new
-        (buffer_run (meaning S.accesses) act.old levels) run.old }
-    ensures ends { EndsAt result act.new (at_place act.old (outside_at act.old.place)) }
+    ensures { Steps S.accesses 6 result act.new run.new
+        (buffer_run (meaning S.accesses) act.old levels, at_place act.old (outside_at act.old.place)) run.old }
 {
     let outer = act.open();
     begin_size(run, act, levels, outer)
@@ -140,11 +127,8 @@ fn begin_size<S: Space>(
     levels: u8,
     outer: Position,
 ) -> Result<Next>
-    ensures spent { run.new.1 ≤ run.old.1 }
-    ensures falls { IfOk result (λ n. next_weight n < 6) }
-    ensures means { Leads S.accesses (meaning S.accesses) result act.new run.new
-        (next_run S.accesses (meaning S.accesses) (next.Term levels (frames.Buffer outer)) act.old) run.old }
-    ensures ends { EndsAt result act.new (next_ends (next.Term levels (frames.Buffer outer)) act.old) }
+    ensures { Steps S.accesses 6 result act.new run.new
+        (next_at S.accesses (next.Term levels (frames.Buffer outer)) act.old) run.old }
 {
     match known_integer(run, act, levels)? {
         Some(size) => {
@@ -163,11 +147,8 @@ pub fn resume_buffer<S: Space>(
     outer: Position,
     flow: Flow,
 ) -> Result<Next>
-    ensures spent { run.new.1 ≤ run.old.1 }
-    ensures falls { IfOk result (λ n. next_weight n < 6) }
-    ensures means { Leads S.accesses (meaning S.accesses) result act.new run.new
-        (resumed S.accesses (meaning S.accesses) (frames.Buffer outer) act.old flow) run.old }
-    ensures ends { EndsAt result act.new (ends (frames.Buffer outer) act.old) }
+    ensures { Steps S.accesses 6 result act.new run.new (frame_at S.accesses (frames.Buffer outer) act.old flow)
+        run.old }
 {
     let value = flow.value()?;
     let size = integer_of(&run.world, value)?;

@@ -1,6 +1,6 @@
 //! Terms that declare something, and the scopes that they stand in (ACPI 6.5, 19.6 and 20.2.5). The operands stand
 //! next.
-ghost use Rattle.std.specs.Prelude.{◌≡◌, ◌≤◌, ◌<◌, ◌+◌, Ok, IfOk};
+ghost use Rattle.std.specs.Prelude.{◌≡◌, ◌≤◌, Ok};
 ghost use Rattle.ar_space.specs.Change.{Does};
 ghost use Rattle.aml_marked.specs.Marked.{a_name};
 ghost use Rattle.aml_path.specs.Paths.{resolved};
@@ -16,8 +16,8 @@ ghost use Rattle.aml_frames.specs.Operands.{behind_one, outside_at};
 ghost use Rattle.aml_frames.specs.Declarations.{coded_tree, behind_numbers, declaration_run, behind_declaration_at};
 ghost use Rattle.aml_frames.specs.Declarations.{declared_at, named_run, list_in, scope_run, new_scope_run};
 ghost use Rattle.aml_frames.specs.Declarations.{scope_object};
-ghost use Rattle.aml_frames.specs.Follow.{place_of, at_position, behind_coded, resumed, ends, next_ends, Leads, EndsAt};
-ghost use Rattle.aml_frames.specs.Weights.{next_weight};
+ghost use Rattle.aml_frames.specs.Follow.{place_of, at_position, behind_coded};
+ghost use Rattle.aml_frames.specs.Steps.{Steps, frame_at};
 
 use aml_frames::{
     Activation, Frame, MethodPath, Next, Position, bytes_operand, leave, number_operand, told,
@@ -39,11 +39,10 @@ pub fn begin_declaration<S: Space>(
     place: RowPlace,
     kind: DeclarationKind,
 ) -> Result<Next>
-    ensures spent { run.new.1 ≤ run.old.1 }
-    ensures falls { IfOk result (λ n. next_weight n < 10) }
-    ensures means { Leads S.accesses (meaning S.accesses) result act.new run.new
-        (declaration_run (meaning S.accesses) kind place act.old levels) run.old }
-    ensures ends { EndsAt result act.new (behind_declaration_at kind place act.old levels) }
+    ensures { Steps S.accesses 10 result act.new run.new (
+      declaration_run (meaning S.accesses) kind place act.old levels,
+      behind_declaration_at kind place act.old levels,
+    ) run.old }
 {
     match kind {
         DeclarationKind::Scope => begin_scope(run, act, levels),
@@ -116,9 +115,8 @@ fn declare<S: Space>(
     object: NamedObject,
 ) -> Result<Flow>
     ensures spent { run.new.1 ≤ run.old.1 }
-    ensures means { Does result run.new
-        (declaring (meaning S.accesses) act.now.scope act.now.depth
-        (coded_tree place act.now levels) 0 object) run.old }
+    ensures means { Does result run.new (declaring (meaning S.accesses) act.now.scope act.now.depth (coded_tree place
+        act.now levels) 0 object) run.old }
 {
     let name = act.coded_term(levels, place).name(run.world.alloc, 0)?;
     let path = resolve(&mut run.world, act, &name)?;
@@ -179,11 +177,10 @@ fn declare_method<S: Space>(
 /// Name: its datum is evaluated.
 #[tactic(auto, using(aml_frames::proofs::Declaring::naming), unfolding(aml_marked::specs::Marked::a_name))]
 fn begin_named<S: Space>(run: &Running<S>, act: &mut Activation, levels: u8) -> Next
-    ensures falls { next_weight result < 6 }
-    ensures means { Leads S.accesses (meaning S.accesses) (Ok result) act.new run.now
-        (named_run (meaning S.accesses) act.old levels) run.now }
-    ensures ends { next_ends result act.new ≡
-        at_place act.old (behind_one (terms act.old levels) (a_name act.old.place).1) }
+    ensures { Steps S.accesses 6 (Ok result) act.new run.now (
+      named_run (meaning S.accesses) act.old levels,
+      at_place act.old (behind_one (terms act.old levels) (a_name act.old.place).1),
+    ) run.now }
 {
     let name = act.position();
     act.over_name();
@@ -198,11 +195,7 @@ pub fn resume_named<S: Space>(
     name: Position,
     flow: Flow,
 ) -> Result<Next>
-    ensures spent { run.new.1 ≤ run.old.1 }
-    ensures falls { IfOk result (λ n. next_weight n < 6) }
-    ensures means { Leads S.accesses (meaning S.accesses) result act.now run.new
-        (resumed S.accesses (meaning S.accesses) (frames.Named name) act.now flow) run.old }
-    ensures ends { EndsAt result act.now act.now }
+    ensures { Steps S.accesses 6 result act.now run.new (frame_at S.accesses (frames.Named name) act.now flow) run.old }
 {
     let value = flow.value()?;
     declare_at(run, act, name, NamedObject::Data(value))
@@ -216,11 +209,8 @@ pub(crate) fn declare_at<S: Space>(
     name: Position,
     object: NamedObject,
 ) -> Result<Next>
-    ensures spent { run.new.1 ≤ run.old.1 }
-    ensures falls { IfOk result (λ n. next_weight n < 6) }
-    ensures means { Leads S.accesses (meaning S.accesses) result act.now run.new
-        (declared_at object (place_of act.now name) act.now) run.old }
-    ensures ends { EndsAt result act.now act.now }
+    ensures { Steps S.accesses 6 result act.now run.new (declared_at object (place_of act.now name) act.now, act.now)
+        run.old }
 {
     let name = act.name_at(run.world.alloc, name)?;
     let path = resolve(&mut run.world, act, &name)?;
@@ -233,11 +223,8 @@ pub(crate) fn declare_at<S: Space>(
 /// Scope: its list is evaluated in the scope that its name finds.
 #[tactic(auto, using(aml_frames::proofs::Declaring::entering), unfolding(aml_frames::specs::Declarations::scope_run, aml_marked::specs::Marked::a_name))]
 fn begin_scope<S: Space>(run: &mut Running<S>, act: &mut Activation, levels: u8) -> Result<Next>
-    ensures spent { run.new.1 ≤ run.old.1 }
-    ensures falls { IfOk result (λ n. next_weight n < 10) }
-    ensures means { Leads S.accesses (meaning S.accesses) result act.new run.new
-        (scope_run (meaning S.accesses) act.old levels) run.old }
-    ensures ends { EndsAt result act.new (at_place act.old (outside_at act.old.place)) }
+    ensures { Steps S.accesses 10 result act.new run.new
+        (scope_run (meaning S.accesses) act.old levels, at_place act.old (outside_at act.old.place)) run.old }
 {
     let outer = act.open();
     let name = act.name(run.world.alloc)?;
@@ -257,11 +244,10 @@ fn begin_new_scope<S: Space>(
     levels: u8,
     kind: DeclarationKind,
 ) -> Result<Next>
-    ensures spent { run.new.1 ≤ run.old.1 }
-    ensures falls { IfOk result (λ n. next_weight n < 10) }
-    ensures means { Leads S.accesses (meaning S.accesses) result act.new run.new
-        (new_scope_run (meaning S.accesses) kind (scope_object kind) act.old levels) run.old }
-    ensures ends { EndsAt result act.new (at_place act.old (outside_at act.old.place)) }
+    ensures { Steps S.accesses 10 result act.new run.new (
+      new_scope_run (meaning S.accesses) kind (scope_object kind) act.old levels,
+      at_place act.old (outside_at act.old.place),
+    ) run.old }
 {
     let outer = act.open();
     let name = act.name(run.world.alloc)?;
@@ -331,10 +317,8 @@ fn begin_list_in<S: Space>(
     outer: Position,
     scope: (MethodPath, NodeId),
 ) -> Next
-    ensures falls { next_weight result < 10 }
-    ensures means { Leads S.accesses (meaning S.accesses) (Ok result) act.new run.now
-        (list_in (meaning S.accesses) scope.0 act.old levels) run.now }
-    ensures ends { next_ends result act.new ≡ at_position act.old outer }
+    ensures { Steps S.accesses 10 (Ok result) act.new run.now
+        (list_in (meaning S.accesses) scope.0 act.old levels, at_position act.old outer) run.now }
 {
     let items = act.items(levels, outer);
     let (path, node) = scope;
@@ -351,11 +335,9 @@ pub fn resume_scope<S: Space>(
     node: NodeId,
     flow: Flow,
 ) -> Result<Next>
-    ensures falls { IfOk result (λ n. next_weight n < 6) }
+    ensures steps { Steps S.accesses 6 result act.new run.now
+        (frame_at S.accesses (frames.Scope scope node) act.old flow) run.now }
     ensures memory { NotMemory result }
-    ensures means { Leads S.accesses (meaning S.accesses) result act.new run.now
-        (resumed S.accesses (meaning S.accesses) (frames.Scope scope node) act.old flow) run.now }
-    ensures ends { EndsAt result act.new (ends (frames.Scope scope node) act.old) }
 {
     let _inner = act.enter(scope, node);
     leave(flow)

@@ -126,8 +126,7 @@ fn lay_element<S: Space>(
     at: FieldLayout,
     element: &At<'_>,
 ) -> Result<FieldLayout>
-    ensures { Does result world.new
-        (element_laid group act.now.scope act.now.depth (code_of (at_tree element.now)) at
+    ensures { Does result world.new (element_laid group act.now.scope act.now.depth (code_of (at_tree element.now)) at
         (at_tree element.now)) world.old }
 {
     match element.code() {

@@ -1,17 +1,18 @@
 //! Packages: their elements are evaluated one after another, and a name that is an element is searched for at each
 //! use (ACPI 6.5, 19.6: Package, VarPackage, and 20.2.5.4).
-ghost use Rattle.std.specs.Prelude.{◌≡◌, ◌≤◌, ◌<◌, ◌+◌, ◌-◌, OnOk, IfOk, Ok};
+ghost use Rattle.std.specs.Prelude.{◌≡◌, ◌≤◌, ◌<◌, ◌+◌, IfOk, Ok};
 ghost use Rattle.aml_meaning.specs.Meaning.{meaning};
 ghost use Rattle.aml_frames.specs.declared.frames.Frame.TheVariants as frames;
 ghost use Rattle.aml_frames.specs.Places.{at_place};
 ghost use Rattle.aml_frames.specs.Operands.{outside_at};
 ghost use Rattle.aml_frames.specs.Data.{package_term_run, var_package_run, package_run, package_made, named_left};
 ghost use Rattle.aml_frames.specs.Data.{unfilled, one_fewer};
-ghost use Rattle.aml_frames.specs.Follow.{at_position, resumed, ends, next_ends, Leads, EndsAt};
+ghost use Rattle.aml_frames.specs.Follow.{at_position, Leads, EndsAt};
 ghost use Rattle.aml_frames.specs.Weights.{next_weight, charged};
+ghost use Rattle.aml_frames.specs.Steps.{Steps, frame_at};
 
 use aml_frames::{Activation, Boxed, Frame, Next, Package, Position, integer_of};
-use aml_meaning::{Flow, Running};
+use aml_meaning::{Flow, MAX_ELEMENTS, Running};
 use aml_objects::{Element, Elements};
 use ar_space::{Result, Space};
 use std::alloc::Global;
@@ -23,10 +24,8 @@ pub(crate) fn begin_package<S: Space>(
     act: &mut Activation,
     levels: u8,
 ) -> Result<Next>
-    ensures falls { IfOk result (λ n. next_weight n < 6) }
-    ensures means { Leads S.accesses (meaning S.accesses) result act.new run.now
-        (package_term_run (meaning S.accesses) act.old levels) run.now }
-    ensures ends { EndsAt result act.new (at_place act.old (outside_at act.old.place)) }
+    ensures { Steps S.accesses 6 result act.new run.now
+        (package_term_run (meaning S.accesses) act.old levels, at_place act.old (outside_at act.old.place)) run.now }
 {
     let outer = act.open();
     let count = usize::from(act.next_byte());
@@ -42,10 +41,8 @@ pub(crate) fn begin_var_package<S: Space>(
     act: &mut Activation,
     levels: u8,
 ) -> Next
-    ensures falls { next_weight result < 6 }
-    ensures means { Leads S.accesses (meaning S.accesses) (Ok result) act.new run.now
-        (var_package_run (meaning S.accesses) act.old levels) run.now }
-    ensures ends { next_ends result act.new ≡ at_place act.old (outside_at act.old.place) }
+    ensures { Steps S.accesses 6 (Ok result) act.new run.now
+        (var_package_run (meaning S.accesses) act.old levels, at_place act.old (outside_at act.old.place)) run.now }
 {
     let outer = act.open();
     Next::Term(levels, Frame::VarPackage(levels, outer))
@@ -60,15 +57,12 @@ pub fn resume_var_package<S: Space>(
     outer: Position,
     flow: Flow,
 ) -> Result<Next>
-    ensures spent { run.new.1 ≤ run.old.1 }
-    ensures falls { IfOk result (λ n. next_weight n < 6) }
-    ensures means { Leads S.accesses (meaning S.accesses) result act.new run.new
-        (resumed S.accesses (meaning S.accesses) (frames.VarPackage levels outer) act.old flow) run.old }
-    ensures ends { EndsAt result act.new (ends (frames.VarPackage levels outer) act.old) }
+    ensures { Steps S.accesses 6 result act.new run.new
+        (frame_at S.accesses (frames.VarPackage levels outer) act.old flow) run.old }
 {
     let value = flow.value()?;
     let count = integer_of(&run.world, value)?;
-    run.world.few_elements(count)?;
+    run.world.within(MAX_ELEMENTS, count)?;
     let filling = unfilled(run.world.alloc, act, levels, outer, count as usize);
     Ok(Next::Package(Boxed::new(run.world.alloc, filling)?))
 }
@@ -131,11 +125,8 @@ fn finish_package<S: Space>(
     act: &mut Activation,
     filling: Package,
 ) -> Result<Next>
-    ensures spent { run.new.1 ≤ run.old.1 }
-    ensures falls { IfOk result (λ n. next_weight n < 4) }
-    ensures means { Leads S.accesses (meaning S.accesses) result act.new run.new
-        (package_made filling.count filling.done) run.old }
-    ensures ends { EndsAt result act.new (at_position act.old filling.outer) }
+    ensures { Steps S.accesses 4 result act.new run.new
+        (package_made filling.count filling.done, at_position act.old filling.outer) run.old }
 {
     let value = run.world.new_package(filling.count, filling.done)?;
     act.go_to(filling.outer);
@@ -174,10 +165,8 @@ pub fn resume_element<S: Space>(
     filling: Boxed<Package>,
     flow: Flow,
 ) -> Result<Next>
-    ensures falls { IfOk result (λ n. next_weight n < 6) }
-    ensures means { Leads S.accesses (meaning S.accesses) result act.now run.now
-        (resumed S.accesses (meaning S.accesses) (frames.Element filling) act.now flow) run.now }
-    ensures ends { EndsAt result act.now (ends (frames.Element filling) act.now) }
+    ensures { Steps S.accesses 6 result act.now run.now (frame_at S.accesses (frames.Element filling) act.now flow)
+        run.now }
 {
     let mut filling = filling;
     let value = flow.value()?;

@@ -1,6 +1,6 @@
 //! Terms that declare operation regions and fields (ACPI 6.5, 19.6: OperationRegion, CreateField and its like). The
 //! operands stand next.
-ghost use Rattle.std.specs.Prelude.{◌≡◌, ◌≤◌, ◌<◌, ◌+◌, ◌%◌, Ok, IfOk};
+ghost use Rattle.std.specs.Prelude.{Ok};
 ghost use Rattle.aml_meaning.specs.Meaning.{meaning};
 ghost use Rattle.aml_frames.specs.declared.frames.Frame.TheVariants as frames;
 ghost use Rattle.aml_frames.specs.Places.{at_place, terms};
@@ -9,12 +9,13 @@ ghost use Rattle.aml_frames.specs.RegionTerms.{behind_name, behind_space, operat
 ghost use Rattle.aml_frames.specs.RegionTerms.{behind_region_at, part_declared, part_ends, region_declared};
 ghost use Rattle.aml_frames.specs.RegionTerms.{sized_field_declared, bits_field_declared};
 ghost use Rattle.aml_frames.specs.Declarations.{declared_at};
-ghost use Rattle.aml_frames.specs.Follow.{place_of, resumed, ends, next_ends, Leads, EndsAt};
-ghost use Rattle.aml_frames.specs.Weights.{next_weight};
+ghost use Rattle.aml_frames.specs.Follow.{place_of};
+ghost use Rattle.aml_frames.specs.Steps.{Steps, frame_at};
 
 use crate::bank_fields::declare_bank_fields;
 use crate::declarations::{declare_at, done};
 use crate::field_lists::{declare_fields, declare_index_fields};
+use aml_fields::new_buffer_field;
 use aml_frames::{Activation, DeclarationPart, Frame, Next, Position, integer_of};
 use aml_meaning::{BufferFieldSize, Flow, RegionKind, Running, buffer_of, field_size};
 use aml_objects::{NamedObject, OperationRegion, Value};
@@ -31,11 +32,9 @@ pub fn begin_region_term<S: Space>(
     place: RowPlace,
     kind: RegionKind,
 ) -> Result<Next>
-    ensures spent { run.new.1 ≤ run.old.1 }
-    ensures falls { IfOk result (λ n. next_weight n < 6) }
-    ensures means { Leads S.accesses (meaning S.accesses) result act.new run.new
-        (region_term_run (meaning S.accesses) kind place act.old levels) run.old }
-    ensures ends { EndsAt result act.new (behind_region_at kind place act.old levels) }
+    ensures { Steps S.accesses 6 result act.new run.new
+        (region_term_run (meaning S.accesses) kind place act.old levels, behind_region_at kind place act.old levels)
+        run.old }
 {
     match kind {
         RegionKind::OperationRegion => Ok(begin_operation_region(run, act, levels)),
@@ -61,11 +60,10 @@ pub fn begin_region_term<S: Space>(
 /// OperationRegion: its offset is evaluated, behind its name and its address space.
 #[tactic(auto, unfolding(aml_marked::specs::Marked::a_name))]
 fn begin_operation_region<S: Space>(run: &Running<S>, act: &mut Activation, levels: u8) -> Next
-    ensures falls { next_weight result < 6 }
-    ensures means { Leads S.accesses (meaning S.accesses) (Ok result) act.new run.now
-        (operation_region_run (meaning S.accesses) act.old levels) run.now }
-    ensures ends { next_ends result act.new ≡
-        at_place act.old (behind_two (terms act.old levels) (behind_space act.old.place)) }
+    ensures { Steps S.accesses 6 (Ok result) act.new run.now (
+      operation_region_run (meaning S.accesses) act.old levels,
+      at_place act.old (behind_two (terms act.old levels) (behind_space act.old.place)),
+    ) run.now }
 {
     let name = act.position();
     act.over_name();
@@ -83,11 +81,8 @@ pub fn resume_declaration<S: Space>(
     part: DeclarationPart,
     flow: Flow,
 ) -> Result<Next>
-    ensures spent { run.new.1 ≤ run.old.1 }
-    ensures falls { IfOk result (λ n. next_weight n < 6) }
-    ensures means { Leads S.accesses (meaning S.accesses) result act.new run.new
-        (resumed S.accesses (meaning S.accesses) (frames.Declaration part) act.old flow) run.old }
-    ensures ends { EndsAt result act.new (ends (frames.Declaration part) act.old) }
+    ensures { Steps S.accesses 6 result act.new run.new (frame_at S.accesses (frames.Declaration part) act.old flow)
+        run.old }
 {
     let value = flow.value()?;
     declare_part(run, act, part, value)
@@ -101,11 +96,8 @@ fn declare_part<S: Space>(
     part: DeclarationPart,
     value: Value,
 ) -> Result<Next>
-    ensures spent { run.new.1 ≤ run.old.1 }
-    ensures falls { IfOk result (λ n. next_weight n < 6) }
-    ensures means { Leads S.accesses (meaning S.accesses) result act.new run.new
-        (part_declared (meaning S.accesses) part value act.old) run.old }
-    ensures ends { EndsAt result act.new (part_ends part act.old) }
+    ensures { Steps S.accesses 6 result act.new run.new
+        (part_declared (meaning S.accesses) part value act.old, part_ends part act.old) run.old }
 {
     match part {
         DeclarationPart::RegionOffset(space, name, levels) => {
@@ -148,11 +140,8 @@ fn declare_region<S: Space>(
     offset: Value,
     length: Value,
 ) -> Result<Next>
-    ensures spent { run.new.1 ≤ run.old.1 }
-    ensures falls { IfOk result (λ n. next_weight n < 6) }
-    ensures means { Leads S.accesses (meaning S.accesses) result act.now run.new
-        (region_declared named.0 (place_of act.now named.1) offset length act.now) run.old }
-    ensures ends { EndsAt result act.now act.now }
+    ensures { Steps S.accesses 6 result act.now run.new
+        (region_declared named.0 (place_of act.now named.1) offset length act.now, act.now) run.old }
 {
     let (space, name) = named;
     let offset = integer_of(&run.world, offset)?;
@@ -167,7 +156,7 @@ fn declare_region<S: Space>(
 
 /// A buffer field whose term says how many bits it has: its buffer and its index were evaluated, and its name stands
 /// next.
-#[tactic(auto, using(aml_frames::proofs::Stepping::stepping), unfolding(aml_frames::specs::RegionTerms::sized_field_declared))]
+#[tactic(auto, using(aml_frames::proofs::Stepping::stepping, aml_frames::proofs::Lent::lent), unfolding(aml_frames::specs::RegionTerms::sized_field_declared))]
 fn declare_sized_field<S: Space>(
     run: &mut Running<S>,
     act: &mut Activation,
@@ -175,40 +164,34 @@ fn declare_sized_field<S: Space>(
     source: Value,
     index: Value,
 ) -> Result<Next>
-    ensures spent { run.new.1 ≤ run.old.1 }
-    ensures falls { IfOk result (λ n. next_weight n < 6) }
-    ensures means { Leads S.accesses (meaning S.accesses) result act.new run.new
-        (sized_field_declared size source index act.old) run.old }
-    ensures ends { EndsAt result act.new (behind_name act.old) }
+    ensures { Steps S.accesses 6 result act.new run.new
+        (sized_field_declared size source index act.old, behind_name act.old) run.old }
 {
     let buffer = buffer_of(source)?;
     let index = integer_of(&run.world, index)?;
     let first = size.first_bit(index);
-    let field = run.world.new_buffer_field(buffer, first, size.bits())?;
+    let field = new_buffer_field(run.world.objects(), buffer, first, size.bits())?;
     declare_next(run, act, NamedObject::BufferField(field))
 }
 
 /// CreateField: its buffer, the index of its first bit and the number of its bits were evaluated, and its name stands
 /// next.
-#[tactic(auto, using(aml_frames::proofs::Stepping::stepping), unfolding(aml_frames::specs::RegionTerms::bits_field_declared))]
+#[tactic(auto, using(aml_frames::proofs::Stepping::stepping, aml_frames::proofs::Lent::lent), unfolding(aml_frames::specs::RegionTerms::bits_field_declared))]
 fn declare_bits_field<S: Space>(
     run: &mut Running<S>,
     act: &mut Activation,
     bits: (Value, Value),
     count: Value,
 ) -> Result<Next>
-    ensures spent { run.new.1 ≤ run.old.1 }
-    ensures falls { IfOk result (λ n. next_weight n < 6) }
-    ensures means { Leads S.accesses (meaning S.accesses) result act.new run.new
-        (bits_field_declared bits.0 bits.1 count act.old) run.old }
-    ensures ends { EndsAt result act.new (behind_name act.old) }
+    ensures { Steps S.accesses 6 result act.new run.new
+        (bits_field_declared bits.0 bits.1 count act.old, behind_name act.old) run.old }
 {
     let (source, index) = bits;
     let buffer = buffer_of(source)?;
     let index = integer_of(&run.world, index)?;
     let count = integer_of(&run.world, count)?;
     let bits = field_size(count)?;
-    let field = run.world.new_buffer_field(buffer, u128::from(index), bits)?;
+    let field = new_buffer_field(run.world.objects(), buffer, u128::from(index), bits)?;
     declare_next(run, act, NamedObject::BufferField(field))
 }
 
@@ -219,11 +202,8 @@ fn declare_next<S: Space>(
     act: &mut Activation,
     object: NamedObject,
 ) -> Result<Next>
-    ensures spent { run.new.1 ≤ run.old.1 }
-    ensures falls { IfOk result (λ n. next_weight n < 6) }
-    ensures means { Leads S.accesses (meaning S.accesses) result act.new run.new
-        (declared_at object act.old.place act.old) run.old }
-    ensures ends { EndsAt result act.new (behind_name act.old) }
+    ensures { Steps S.accesses 6 result act.new run.new (declared_at object act.old.place act.old, behind_name act.old)
+        run.old }
 {
     let name = act.position();
     act.over_name();

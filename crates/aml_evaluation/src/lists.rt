@@ -1,16 +1,14 @@
 //! Lists of terms (ACPI 6.5, 20.2.5). An item is finished in the turn of the machine's loop that comes to it, or leaves
 //! a part of it to be evaluated: a `Next` other than `Next::Flow`. Only then are the items behind it put on the stack;
 //! at module level the wide profile puts them there before each item.
-ghost use Rattle.std.specs.Prelude.{◌≡◌, ◌≤◌, ◌<◌, ◌+◌, [], ◌∷◌, ◌++◌, true, OnOk, IfOk, IfErr, IsOk};
+ghost use Rattle.std.specs.Prelude.{◌≡◌, ◌<◌, ◌+◌, [], ◌∷◌, ◌++◌, OnOk, IfOk, IfErr, IsOk};
 ghost use Rattle.ar_space.specs.declared.refusal.Refusal.TheVariants.{OutOfMemory};
 ghost use Rattle.aml_meaning.specs.Meaning.{meaning};
-ghost use Rattle.aml_meaning.specs.PassedOver.{is_passable};
 ghost use Rattle.aml_frames.specs.declared.frames.Control.TheVariants as control;
 ghost use Rattle.aml_frames.specs.declared.frames.Entry.TheVariants as entry;
 ghost use Rattle.aml_frames.specs.declared.frames.Frame.TheVariants as frames;
-ghost use Rattle.aml_frames.specs.Follow.{next_run, next_ends};
-ghost use Rattle.aml_frames.specs.Stack.{then_all, machine, given_up, Goes, stack_weight, control_weight};
-ghost use Rattle.aml_frames.specs.Weights.{next_weight, charged};
+ghost use Rattle.aml_frames.specs.Stack.{machine, given_up, Goes, stack_weight, control_weight, Follows, Turns};
+ghost use Rattle.aml_frames.specs.Weights.{next_weight};
 
 use crate::passing::{passes_over, push_passable_item};
 use crate::stack::{end_call, follow};
@@ -32,13 +30,9 @@ pub(crate) fn step_items<S: Space>(
     stack: &mut Stack,
     items: Items,
 ) -> Result<Control>
-    ensures falls { IfOk result (λ c. charged run.new.1 + (stack_weight stack.new.entries.items + control_weight c) <
-        charged run.old.1 + (stack_weight stack.old.entries.items + 4)) }
-    ensures refused { IfErr result (λ e. is_passable e ≡ true →
-        charged run.new.1 + (stack_weight stack.new.entries.items + 1) <
-        charged run.old.1 + (stack_weight stack.old.entries.items + 4)) }
-    ensures means { Goes S.accesses (meaning S.accesses) result stack.new.act stack.new.entries.items run.new
-        (machine S.accesses (meaning S.accesses) (control.Items items) stack.old.act stack.old.entries.items) run.old }
+    ensures { Turns S.accesses (stack_weight stack.old.entries.items + 4) result stack.new.act stack.new.entries.items
+        run.new (machine S.accesses (meaning S.accesses) (control.Items items) stack.old.act stack.old.entries.items)
+        run.old }
 {
     let rest = stack.act.rest().len();
     if items.left == 0 || rest == 0 {
@@ -74,13 +68,9 @@ fn follow_item<S: Space>(
     behind: Items,
     next: Next,
 ) -> Result<Control>
-    ensures falls { IfOk result (λ c. charged run.new.1 + (stack_weight stack.new.entries.items + control_weight c) ≤
-        charged run.old.1 + (stack_weight stack.old.entries.items + 3 + next_weight next)) }
-    ensures ended { IfErr result (λ e. run.new ≡ given_up next run.old) }
-    ensures memory { IfErr result (λ e. e ≡ OutOfMemory) }
-    ensures means { Goes S.accesses (meaning S.accesses) result stack.new.act stack.new.entries.items run.new
-        (then_all S.accesses (meaning S.accesses) (next_run S.accesses (meaning S.accesses) next stack.old.act)
-        (next_ends next stack.old.act) (stack.old.entries.items ++ entry.Frame (frames.Items behind) ∷ [])) run.old }
+    ensures { Follows S.accesses (stack_weight stack.old.entries.items + 3 + next_weight next) result stack.new.act
+        stack.new.entries.items run.new next stack.old.act
+        (stack.old.entries.items ++ entry.Frame (frames.Items behind) ∷ []) run.old }
 {
     match next {
         Next::Flow(flow) => next_item(run, stack, behind, flow),
@@ -97,13 +87,9 @@ fn follow_above<S: Space>(
     behind: Items,
     next: Next,
 ) -> Result<Control>
-    ensures falls { IfOk result (λ c. charged run.new.1 + (stack_weight stack.new.entries.items + control_weight c) ≤
-        charged run.old.1 + (stack_weight stack.old.entries.items + 3 + next_weight next)) }
-    ensures ended { IfErr result (λ e. run.new ≡ given_up next run.old) }
-    ensures memory { IfErr result (λ e. e ≡ OutOfMemory) }
-    ensures means { Goes S.accesses (meaning S.accesses) result stack.new.act stack.new.entries.items run.new
-        (then_all S.accesses (meaning S.accesses) (next_run S.accesses (meaning S.accesses) next stack.old.act)
-        (next_ends next stack.old.act) (stack.old.entries.items ++ entry.Frame (frames.Items behind) ∷ [])) run.old }
+    ensures { Follows S.accesses (stack_weight stack.old.entries.items + 3 + next_weight next) result stack.new.act
+        stack.new.entries.items run.new next stack.old.act
+        (stack.old.entries.items ++ entry.Frame (frames.Items behind) ∷ []) run.old }
 {
     push_list(run, stack, behind, &next)?;
     follow(run, stack, next)

@@ -1,10 +1,11 @@
 //! What frames do with the flows that they wait for.
-ghost use Rattle.std.specs.Prelude.{◌≡◌, ◌≤◌, ◌<◌, ◌+◌, Ok, IfOk};
+ghost use Rattle.std.specs.Prelude.{◌≤◌, ◌<◌, ◌+◌, IfOk};
 ghost use Rattle.ar_space.specs.Outcome.{NotMemory};
 ghost use Rattle.aml_meaning.specs.Meaning.{meaning};
 ghost use Rattle.aml_frames.specs.declared.frames.Frame.TheVariants as frames;
 ghost use Rattle.aml_frames.specs.Follow.{resumed, ends, Leads, EndsAt};
 ghost use Rattle.aml_frames.specs.Weights.{weight, next_weight, charged};
+ghost use Rattle.aml_frames.specs.Steps.{Steps, frame_at};
 
 use aml_accesses::{
     next_write, read_chosen, read_selected, resume_address, resume_argument, resume_unit,
@@ -17,10 +18,14 @@ use aml_declarations::{
 use aml_frames::{Activation, Frame, Items, Next, leave};
 use aml_meaning::{Flow, Running};
 use aml_operators::{
-    resume_counted, resume_dereferenced, resume_fatal, resume_first, resume_found, resume_if,
-    resume_index_target, resume_match, resume_matched, resume_operand, resume_pause,
-    resume_predicate, resume_quotient, resume_referent, resume_return, resume_second, resume_third,
-    resume_turn, resume_wait,
+    resume_first, resume_match, resume_matched, resume_operand, resume_quotient, resume_second,
+    resume_third, resume_wait,
+};
+use aml_statements::{
+    resume_fatal, resume_if, resume_pause, resume_predicate, resume_return, resume_turn,
+};
+use aml_targets::{
+    resume_counted, resume_dereferenced, resume_found, resume_index_target, resume_referent,
 };
 use ar_space::{Result, Space};
 
@@ -34,11 +39,9 @@ fn resume_items<S: Space>(
     items: Items,
     flow: Flow,
 ) -> Result<Next>
-    ensures falls { IfOk result (λ n. next_weight n < 6) }
+    ensures steps { Steps S.accesses 6 result act.new run.now (frame_at S.accesses (frames.Items items) act.old flow)
+        run.now }
     ensures memory { NotMemory result }
-    ensures means { Leads S.accesses (meaning S.accesses) result act.new run.now
-        (resumed S.accesses (meaning S.accesses) (frames.Items items) act.old flow) run.now }
-    ensures ends { EndsAt result act.new (ends (frames.Items items) act.old) }
 {
     if flow.goes_on() {
         Ok(Next::Items(items))

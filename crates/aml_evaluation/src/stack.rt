@@ -1,5 +1,5 @@
 //! The machine: a loop over a stack of frames.
-ghost use Rattle.std.specs.Prelude.{◌≡◌, ◌≢◌, ◌≤◌, ◌<◌, ◌+◌, ◌*◌, [], ◌∷◌, ◌++◌, true, Ok, Err, OnOk, OnErr, IfOk, IfErr};
+ghost use Rattle.std.specs.Prelude.{◌≡◌, ◌≢◌, ◌≤◌, ◌<◌, ◌+◌, [], ◌∷◌, ◌++◌, true, OnOk, OnErr, IfOk, IfErr};
 ghost use Rattle.ar_space.specs.Change.{Does, stop};
 ghost use Rattle.ar_space.specs.Outcome.{NotMemory, seen};
 ghost use Rattle.ar_space.specs.declared.refusal.Refusal.TheVariants.{OutOfMemory};
@@ -8,17 +8,15 @@ ghost use Rattle.aml_meaning.specs.Meaning.{meaning};
 ghost use Rattle.aml_meaning.specs.PassedOver.{is_passable};
 ghost use Rattle.aml_frames.specs.declared.frames.Control.TheVariants as control;
 ghost use Rattle.aml_frames.specs.declared.frames.Entry.TheVariants as entry;
-ghost use Rattle.aml_frames.specs.declared.frames.Frame.TheVariants as frames;
 ghost use Rattle.aml_frames.specs.declared.frames.Next.TheVariants as next;
 ghost use Rattle.aml_frames.specs.declared.uses.Accessed.TheVariants as object;
 ghost use Rattle.aml_frames.specs.declared.uses.Doing.TheVariants as doing;
 ghost use Rattle.aml_frames.specs.declared.uses.Reading.TheVariants as reading;
-ghost use Rattle.aml_frames.specs.declared.uses.TargetUse.TheVariants as uses;
-ghost use Rattle.aml_objects.specs.declared.value.Value.TheVariants as values;
-ghost use Rattle.aml_frames.specs.Follow.{turn_items, body_run, list_run, all_left, next_run, next_ends};
+ghost use Rattle.aml_frames.specs.Follow.{body_run, list_run, all_left};
 ghost use Rattle.aml_marked.specs.Marked.{walk_levels};
-ghost use Rattle.aml_frames.specs.Uses.{optional, access_done};
-ghost use Rattle.aml_frames.specs.Stack.{whole, then_all, machine, given_up, Goes, Stepped, stack_weight, entry_weight, control_weight};
+ghost use Rattle.aml_frames.specs.Uses.{access_done};
+ghost use Rattle.aml_frames.specs.Stack.{whole, then_all, machine, stack_weight, entry_weight, control_weight};
+ghost use Rattle.aml_frames.specs.Stack.{Goes, Stepped, Follows, Turns};
 ghost use Rattle.aml_frames.specs.Weights.{next_weight, target_weight, access_weight, charged};
 
 use crate::lists::{next_item, step_items};
@@ -34,8 +32,8 @@ use aml_frames::{
 };
 use aml_meaning::{Flow, Running, is_passable};
 use aml_objects::{Field, NodeId, Reference, Value};
-use aml_operators::begin_target;
 use aml_path::Path;
+use aml_targets::begin_target;
 use aml_terms::LEVELS;
 use ar_space::{Refusal, Result, Space};
 
@@ -156,13 +154,9 @@ fn take_steps<S: Space>(run: &mut Running<S>, stack: &mut Stack, first: Control)
 #[inline(always)]
 #[tactic(auto, using(crate::proofs::Machine::taking))]
 fn step_term<S: Space>(run: &mut Running<S>, stack: &mut Stack, levels: u8) -> Result<Control>
-    ensures falls { IfOk result (λ c. charged run.new.1 + (stack_weight stack.new.entries.items + control_weight c) <
-        charged run.old.1 + stack_weight stack.old.entries.items) }
-    ensures refused { IfErr result (λ e. is_passable e ≡ true →
-        charged run.new.1 + (stack_weight stack.new.entries.items + 1) <
-        charged run.old.1 + stack_weight stack.old.entries.items) }
-    ensures means { Goes S.accesses (meaning S.accesses) result stack.new.act stack.new.entries.items run.new
-        (machine S.accesses (meaning S.accesses) (control.Term levels) stack.old.act stack.old.entries.items) run.old }
+    ensures { Turns S.accesses (stack_weight stack.old.entries.items) result stack.new.act stack.new.entries.items
+        run.new (machine S.accesses (meaning S.accesses) (control.Term levels) stack.old.act stack.old.entries.items)
+        run.old }
 {
     let next = begin_term(run, &mut stack.act, levels)?;
     follow(run, stack, next)
@@ -176,13 +170,8 @@ fn step_package<S: Space>(
     stack: &mut Stack,
     filling: Boxed<Package>,
 ) -> Result<Control>
-    ensures falls { IfOk result (λ c. charged run.new.1 + (stack_weight stack.new.entries.items + control_weight c) <
-        charged run.old.1 + (stack_weight stack.old.entries.items + 4)) }
-    ensures refused { IfErr result (λ e. is_passable e ≡ true →
-        charged run.new.1 + (stack_weight stack.new.entries.items + 1) <
-        charged run.old.1 + (stack_weight stack.old.entries.items + 4)) }
-    ensures means { Goes S.accesses (meaning S.accesses) result stack.new.act stack.new.entries.items run.new
-        (machine S.accesses (meaning S.accesses) (control.Package filling) stack.old.act
+    ensures { Turns S.accesses (stack_weight stack.old.entries.items + 4) result stack.new.act stack.new.entries.items
+        run.new (machine S.accesses (meaning S.accesses) (control.Package filling) stack.old.act
         stack.old.entries.items) run.old }
 {
     let next = begin_element(run, &mut stack.act, filling)?;
@@ -198,14 +187,9 @@ fn step_target<S: Space>(
     target: Target,
     target_use: TargetUse,
 ) -> Result<Control>
-    ensures falls { IfOk result (λ c. charged run.new.1 + (stack_weight stack.new.entries.items + control_weight c) <
-        charged run.old.1 + (stack_weight stack.old.entries.items + target_weight target_use)) }
-    ensures refused { IfErr result (λ e. is_passable e ≡ true →
-        charged run.new.1 + (stack_weight stack.new.entries.items + 1) <
-        charged run.old.1 + (stack_weight stack.old.entries.items + target_weight target_use)) }
-    ensures means { Goes S.accesses (meaning S.accesses) result stack.new.act stack.new.entries.items run.new
-        (machine S.accesses (meaning S.accesses) (control.Target target target_use) stack.old.act
-        stack.old.entries.items) run.old }
+    ensures { Turns S.accesses (stack_weight stack.old.entries.items + target_weight target_use) result stack.new.act
+        stack.new.entries.items run.new (machine S.accesses (meaning S.accesses) (control.Target target target_use)
+        stack.old.act stack.old.entries.items) run.old }
 {
     let next = begin_target(run, &mut stack.act, target, target_use)?;
     follow(run, stack, next)
@@ -219,13 +203,8 @@ fn step_access<S: Space>(
     stack: &mut Stack,
     access: Boxed<Access>,
 ) -> Result<Control>
-    ensures falls { IfOk result (λ c. charged run.new.1 + (stack_weight stack.new.entries.items + control_weight c) <
-        charged run.old.1 + (stack_weight stack.old.entries.items + access_weight access)) }
-    ensures refused { IfErr result (λ e. is_passable e ≡ true →
-        charged run.new.1 + (stack_weight stack.new.entries.items + 1) <
-        charged run.old.1 + (stack_weight stack.old.entries.items + access_weight access)) }
-    ensures means { Goes S.accesses (meaning S.accesses) result stack.new.act stack.new.entries.items run.new
-        (machine S.accesses (meaning S.accesses) (control.Access access) stack.old.act
+    ensures { Turns S.accesses (stack_weight stack.old.entries.items + access_weight access) result stack.new.act
+        stack.new.entries.items run.new (machine S.accesses (meaning S.accesses) (control.Access access) stack.old.act
         stack.old.entries.items) run.old }
 {
     let next = begin_access(run, &stack.act, access.into_inner())?;
@@ -241,13 +220,8 @@ fn step_entry<S: Space>(
     top: Entry,
     flow: Flow,
 ) -> Result<Control>
-    ensures falls { IfOk result (λ c. charged run.new.1 + (stack_weight stack.new.entries.items + control_weight c) <
-        charged run.old.1 + (stack_weight stack.old.entries.items + entry_weight top + 3)) }
-    ensures refused { IfErr result (λ e. is_passable e ≡ true →
-        charged run.new.1 + (stack_weight stack.new.entries.items + 1) <
-        charged run.old.1 + (stack_weight stack.old.entries.items + entry_weight top + 3)) }
-    ensures means { Goes S.accesses (meaning S.accesses) result stack.new.act stack.new.entries.items run.new
-        (machine S.accesses (meaning S.accesses) (control.Flow flow) stack.old.act
+    ensures { Turns S.accesses (stack_weight stack.old.entries.items + entry_weight top + 3) result stack.new.act
+        stack.new.entries.items run.new (machine S.accesses (meaning S.accesses) (control.Flow flow) stack.old.act
         (stack.old.entries.items ++ top ∷ [])) run.old }
 {
     match top {
@@ -273,13 +247,8 @@ pub(crate) fn follow<S: Space>(
     stack: &mut Stack,
     next: Next,
 ) -> Result<Control>
-    ensures falls { IfOk result (λ c. charged run.new.1 + (stack_weight stack.new.entries.items + control_weight c) ≤
-        charged run.old.1 + (stack_weight stack.old.entries.items + next_weight next)) }
-    ensures ended { IfErr result (λ e. run.new ≡ given_up next run.old) }
-    ensures memory { IfErr result (λ e. e ≡ OutOfMemory) }
-    ensures means { Goes S.accesses (meaning S.accesses) result stack.new.act stack.new.entries.items run.new
-        (then_all S.accesses (meaning S.accesses) (next_run S.accesses (meaning S.accesses) next stack.old.act)
-        (next_ends next stack.old.act) stack.old.entries.items) run.old }
+    ensures { Follows S.accesses (stack_weight stack.old.entries.items + next_weight next) result stack.new.act
+        stack.new.entries.items run.new next stack.old.act stack.old.entries.items run.old }
 {
     match next {
         Next::Flow(flow) => go_to_flow(flow),
@@ -308,13 +277,9 @@ fn run_then<S: Space>(
     body: Boxed<Activation>,
     asked: Boxed<PciAccess>,
 ) -> Result<Control>
-    ensures falls { IfOk result (λ c. charged run.new.1 + (stack_weight stack.new.entries.items + control_weight c) ≤
-        charged run.old.1 + (stack_weight stack.old.entries.items + next_weight (next.BodyThen body asked))) }
-    ensures ended { IfErr result (λ e. run.new ≡ (left body.scope run.old.0, run.old.1)) }
-    ensures memory { IfErr result (λ e. e ≡ OutOfMemory) }
-    ensures means { Goes S.accesses (meaning S.accesses) result stack.new.act stack.new.entries.items run.new
-        (then_all S.accesses (meaning S.accesses) (next_run S.accesses (meaning S.accesses) (next.BodyThen body asked)
-        stack.old.act) (next_ends (next.BodyThen body asked) stack.old.act) stack.old.entries.items) run.old }
+    ensures { Follows S.accesses (stack_weight stack.old.entries.items + next_weight (next.BodyThen body asked)) result
+        stack.new.act stack.new.entries.items run.new (next.BodyThen body asked) stack.old.act stack.old.entries.items
+        run.old }
 {
     push_frame(run, stack, body.get(), Frame::Address(asked))?;
     run_in(run, stack, body)

@@ -1,18 +1,16 @@
 //! The turns of a While (ACPI 6.5, 19.6): where the list of one ends and its predicate holds, the next turn begins at
 //! once, and what is left of the While stays on the stack.
-ghost use Rattle.std.specs.Prelude.{◌≡◌, ◌≤◌, ◌<◌, ◌+◌, true, IfOk, IfErr, IfSome};
+ghost use Rattle.std.specs.Prelude.{◌+◌, IfSome};
 ghost use Rattle.aml_meaning.specs.declared.flow.Flow.TheVariants as flows;
 ghost use Rattle.aml_meaning.specs.Meaning.{meaning};
-ghost use Rattle.aml_meaning.specs.PassedOver.{is_passable};
 ghost use Rattle.aml_frames.specs.declared.frames.Control.TheVariants as control;
-ghost use Rattle.aml_frames.specs.Stack.{machine, Goes, TurnWaits, stack_weight, control_weight};
-ghost use Rattle.aml_frames.specs.Weights.{charged};
+ghost use Rattle.aml_frames.specs.Stack.{machine, TurnWaits, stack_weight, Turns};
 
 use crate::stack::follow;
 use crate::waiting::{Stack, go_to_flow, go_to_items};
 use aml_frames::{Control, Entry, Frame, Loop, Next};
 use aml_meaning::{Flow, Running};
-use aml_operators::resume_turn;
+use aml_statements::resume_turn;
 use ar_space::{Result, Space};
 
 /// The While that waits on the top of the stack, if one does.
@@ -30,14 +28,9 @@ fn waiting_loop(stack: &Stack) -> Option<Loop>
 /// waits is handed `Flow::Next`.
 #[tactic(auto, using(crate::proofs::LoopTurns::turning))]
 pub(crate) fn end_list<S: Space>(run: &mut Running<S>, stack: &mut Stack) -> Result<Control>
-    ensures falls { IfOk result (λ c. charged run.new.1 + (stack_weight stack.new.entries.items + control_weight c) <
-        charged run.old.1 + (stack_weight stack.old.entries.items + 4)) }
-    ensures refused { IfErr result (λ e. is_passable e ≡ true →
-        charged run.new.1 + (stack_weight stack.new.entries.items + 1) <
-        charged run.old.1 + (stack_weight stack.old.entries.items + 4)) }
-    ensures means { Goes S.accesses (meaning S.accesses) result stack.new.act stack.new.entries.items run.new
-        (machine S.accesses (meaning S.accesses) (control.Flow flows.Next) stack.old.act stack.old.entries.items)
-        run.old }
+    ensures { Turns S.accesses (stack_weight stack.old.entries.items + 4) result stack.new.act stack.new.entries.items
+        run.new (machine S.accesses (meaning S.accesses) (control.Flow flows.Next) stack.old.act
+        stack.old.entries.items) run.old }
 {
     match waiting_loop(stack) {
         None => go_to_flow(Flow::Next),
@@ -51,14 +44,9 @@ pub(crate) fn end_list<S: Space>(run: &mut Running<S>, stack: &mut Stack) -> Res
 #[tactic(auto, using(crate::proofs::LoopTurns::turning))]
 fn end_turn<S: Space>(run: &mut Running<S>, stack: &mut Stack, turn: Loop) -> Result<Control>
     requires { TurnWaits turn stack.old.entries.items }
-    ensures falls { IfOk result (λ c. charged run.new.1 + (stack_weight stack.new.entries.items + control_weight c) <
-        charged run.old.1 + (stack_weight stack.old.entries.items + 4)) }
-    ensures refused { IfErr result (λ e. is_passable e ≡ true →
-        charged run.new.1 + (stack_weight stack.new.entries.items + 1) <
-        charged run.old.1 + (stack_weight stack.old.entries.items + 4)) }
-    ensures means { Goes S.accesses (meaning S.accesses) result stack.new.act stack.new.entries.items run.new
-        (machine S.accesses (meaning S.accesses) (control.Flow flows.Next) stack.old.act stack.old.entries.items)
-        run.old }
+    ensures { Turns S.accesses (stack_weight stack.old.entries.items + 4) result stack.new.act stack.new.entries.items
+        run.new (machine S.accesses (meaning S.accesses) (control.Flow flows.Next) stack.old.act
+        stack.old.entries.items) run.old }
 {
     match resume_turn(run, &mut stack.act, turn, Flow::Next) {
         Ok(Next::Turn(again)) => go_to_items(stack.act.items(again.levels, again.outer)),

@@ -1,6 +1,5 @@
 //! The stack of the machine: what waits on it, and what the machine does next.
-ghost use Rattle.std.specs.Prelude.{◌≡◌, [], ◌∷◌, ◌++◌, Ok, OnOk, IfOk, IfErr};
-ghost use Rattle.ar_space.specs.declared.refusal.Refusal.TheVariants.{OutOfMemory};
+ghost use Rattle.std.specs.Prelude.{◌≡◌, [], Ok};
 ghost use Rattle.aml_frames.specs.declared.frames.Control.TheVariants as control;
 ghost use Rattle.aml_frames.specs.declared.frames.Entry.TheVariants as entry;
 ghost use Rattle.aml_frames.specs.declared.frames.Frame.TheVariants as frames;
@@ -9,6 +8,7 @@ ghost use Rattle.aml_meaning.specs.declared.flow.Flow.TheVariants as flows;
 ghost use Rattle.aml_objects.specs.declared.value.Value.TheVariants as values;
 ghost use Rattle.aml_frames.specs.Follow.{turn_items};
 ghost use Rattle.aml_frames.specs.Uses.{optional};
+ghost use Rattle.aml_frames.specs.Stack.{Waits};
 
 use aml_frames::{
     Access, Activation, Boxed, Control, Entry, Frame, Items, Loop, MethodPath, Package, Target,
@@ -41,10 +41,8 @@ impl Stack {
     /// The term that stands next, and the frame that waits for it.
     #[inline(always)]
     pub(crate) fn wait_for_term(&mut self, levels: u8, frame: Frame) -> Result<Control>
-        ensures act { OnOk result (self.new.act ≡ self.old.act) }
-        ensures pushed { OnOk result (self.new.entries.items ≡ self.old.entries.items ++ entry.Frame frame ∷ []) }
-        ensures next { IfOk result (λ c. c ≡ control.Term levels) }
-        ensures memory { IfErr result (λ e. e ≡ OutOfMemory) }
+        ensures { Waits result self.new.act self.new.entries.items (entry.Frame frame) (control.Term levels)
+            self.old.act self.old.entries.items }
     {
         self.entries.push(Entry::Frame(frame))?;
         Ok(Control::Term(levels))
@@ -53,11 +51,8 @@ impl Stack {
     /// The list of a While, and what is left of the While.
     #[inline(always)]
     pub(crate) fn wait_for_turn(&mut self, turn: Loop) -> Result<Control>
-        ensures act { OnOk result (self.new.act ≡ self.old.act) }
-        ensures pushed { OnOk result (self.new.entries.items ≡ self.old.entries.items ++
-            entry.Frame (frames.Turn turn) ∷ []) }
-        ensures next { IfOk result (λ c. c ≡ control.Items (turn_items turn self.old.act)) }
-        ensures memory { IfErr result (λ e. e ≡ OutOfMemory) }
+        ensures { Waits result self.new.act self.new.entries.items (entry.Frame (frames.Turn turn))
+            (control.Items (turn_items turn self.old.act)) self.old.act self.old.entries.items }
     {
         let items = self.act.items(turn.levels, turn.outer);
         self.entries.push(Entry::Frame(Frame::Turn(turn)))?;
@@ -71,11 +66,8 @@ impl Stack {
         path: MethodPath,
         node: NodeId,
     ) -> Result<Control>
-        ensures act { OnOk result (self.new.act ≡ self.old.act) }
-        ensures pushed { OnOk result (self.new.entries.items ≡ self.old.entries.items ++
-            entry.Frame (frames.Scope path node) ∷ []) }
-        ensures next { IfOk result (λ c. c ≡ control.Items items) }
-        ensures memory { IfErr result (λ e. e ≡ OutOfMemory) }
+        ensures { Waits result self.new.act self.new.entries.items (entry.Frame (frames.Scope path node))
+            (control.Items items) self.old.act self.old.entries.items }
     {
         self.entries.push(Entry::Frame(Frame::Scope(path, node)))?;
         Ok(Control::Items(items))
@@ -88,11 +80,8 @@ impl Stack {
         remainder: Value,
         quotient: Value,
     ) -> Result<Control>
-        ensures act { OnOk result (self.new.act ≡ self.old.act) }
-        ensures pushed { OnOk result (self.new.entries.items ≡ self.old.entries.items ++
-            entry.Frame (frames.Quotient levels quotient) ∷ []) }
-        ensures next { IfOk result (λ c. c ≡ control.Target (optional levels) (uses.Store remainder)) }
-        ensures memory { IfErr result (λ e. e ≡ OutOfMemory) }
+        ensures { Waits result self.new.act self.new.entries.items (entry.Frame (frames.Quotient levels quotient))
+            (control.Target (optional levels) (uses.Store remainder)) self.old.act self.old.entries.items }
     {
         self.entries
             .push(Entry::Frame(Frame::Quotient(levels, quotient)))?;
@@ -101,12 +90,8 @@ impl Stack {
 
     /// The reference of a CondRefOf is stored.
     pub(crate) fn wait_for_reference(&mut self, levels: u8, reference: Reference) -> Result<Control>
-        ensures act { OnOk result (self.new.act ≡ self.old.act) }
-        ensures pushed { OnOk result (self.new.entries.items ≡ self.old.entries.items ++
-            entry.Frame frames.Found ∷ []) }
-        ensures next { IfOk result (λ c. c ≡ control.Target (optional levels)
-            (uses.Store (values.Reference reference))) }
-        ensures memory { IfErr result (λ e. e ≡ OutOfMemory) }
+        ensures { Waits result self.new.act self.new.entries.items (entry.Frame frames.Found) (control.Target
+            (optional levels) (uses.Store (values.Reference reference))) self.old.act self.old.entries.items }
     {
         self.entries.push(Entry::Frame(Frame::Found))?;
         Ok(Control::Target(
@@ -118,10 +103,8 @@ impl Stack {
     /// An access of a field, and the frame that waits for it.
     #[inline(always)]
     pub(crate) fn wait_for_access(&mut self, access: Boxed<Access>, frame: Frame) -> Result<Control>
-        ensures act { OnOk result (self.new.act ≡ self.old.act) }
-        ensures pushed { OnOk result (self.new.entries.items ≡ self.old.entries.items ++ entry.Frame frame ∷ []) }
-        ensures next { IfOk result (λ c. c ≡ control.Access access) }
-        ensures memory { IfErr result (λ e. e ≡ OutOfMemory) }
+        ensures { Waits result self.new.act self.new.entries.items (entry.Frame frame) (control.Access access)
+            self.old.act self.old.entries.items }
     {
         self.entries.push(Entry::Frame(frame))?;
         Ok(Control::Access(access))
@@ -129,10 +112,8 @@ impl Stack {
 
     /// An integer, and the frame that it is handed to.
     pub(crate) fn wait_for_integer(&mut self, number: u64, frame: Frame) -> Result<Control>
-        ensures act { OnOk result (self.new.act ≡ self.old.act) }
-        ensures pushed { OnOk result (self.new.entries.items ≡ self.old.entries.items ++ entry.Frame frame ∷ []) }
-        ensures next { IfOk result (λ c. c ≡ control.Flow (flows.Value (values.Integer number))) }
-        ensures memory { IfErr result (λ e. e ≡ OutOfMemory) }
+        ensures { Waits result self.new.act self.new.entries.items (entry.Frame frame)
+            (control.Flow (flows.Value (values.Integer number))) self.old.act self.old.entries.items }
     {
         self.entries.push(Entry::Frame(frame))?;
         Ok(Control::Flow(Flow::Value(Value::Integer(number))))

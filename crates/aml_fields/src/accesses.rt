@@ -1,7 +1,7 @@
 //! Reads and writes of fields, unit by unit (ACPI 6.5, 19.6.46).
 ghost use Rattle.std.specs.Prelude.{◌≡◌, ◌+◌, ◌≤◌, ◌<◌, ◌^◌};
 ghost use Rattle.ar_space.specs.Outcome.{NotMemory, seen};
-ghost use Rattle.ar_space.specs.Change.{Does};
+ghost use Rattle.ar_space.specs.Change.{Does, DoesInPlace};
 ghost use Rattle.aml_fields.specs.Regions.{read_access, read_unit, write_access, write_whole, write_unit, write_field};
 ghost use Rattle.aml_fields.specs.Regions.{read_field};
 ghost use Rattle.aml_fields.specs.UnitByUnit.{kept, kept_by, write_units, bits_read};
@@ -17,8 +17,7 @@ use std::alloc::Global;
 /// One access that reads.
 #[tactic(auto, unfolding(crate::specs::Regions::read_access))]
 fn read_access<S: Space>(space: &mut S, place: Place, width: Width) -> Result<u64>
-    ensures change { Does result space.new (read_access S.accesses place width) space.old }
-    ensures memory { NotMemory result }
+    ensures { DoesInPlace result space.new (read_access S.accesses place width) space.old }
 {
     match space.read(place, width) {
         Ok(value) => Ok(value),
@@ -34,8 +33,7 @@ pub(crate) fn write_access<S: Space>(
     width: Width,
     value: u64,
 ) -> Result<()>
-    ensures change { Does result space.new (write_access S.accesses place width value) space.old }
-    ensures memory { NotMemory result }
+    ensures { DoesInPlace result space.new (write_access S.accesses place width value) space.old }
 {
     match space.write(place, width, value) {
         Ok(()) => Ok(()),
@@ -46,8 +44,7 @@ pub(crate) fn write_access<S: Space>(
 /// Reads a unit. One that doesn't lie within the region is refused as `RegionLimit` before its access.
 #[tactic(auto, using(ar_space::proofs::Changes::changing), unfolding(crate::specs::Regions::read_unit))]
 pub fn read_unit<S: Space>(space: &mut S, region: Region, width: Width, unit: Unit) -> Result<u64>
-    ensures change { Does result space.new (read_unit S.accesses region width unit) space.old }
-    ensures memory { NotMemory result }
+    ensures { DoesInPlace result space.new (read_unit S.accesses region width unit) space.old }
 {
     let place = region.place(width, unit.offset)?;
     read_access(space, place, width)
@@ -63,8 +60,7 @@ pub fn write_whole<S: Space>(
     offset: u64,
     value: u64,
 ) -> Result<()>
-    ensures change { Does result space.new (write_whole S.accesses region width offset value) space.old }
-    ensures memory { NotMemory result }
+    ensures { DoesInPlace result space.new (write_whole S.accesses region width offset value) space.old }
 {
     let place = region.place(width, offset)?;
     write_access(space, place, width, value)
@@ -78,8 +74,7 @@ pub(crate) fn kept<S: Space>(
     unit: Unit,
     place: Place,
 ) -> Result<u64>
-    ensures change { Does result space.new (kept field unit (read_access S.accesses place field.access)) space.old }
-    ensures memory { NotMemory result }
+    ensures { DoesInPlace result space.new (kept field unit (read_access S.accesses place field.access)) space.old }
 {
     if unit.count == usize::from(field.access.bits()) {
         return Ok(0);
@@ -102,8 +97,7 @@ fn write_unit<S: Space>(
 ) -> Result<()>
     requires inside { unit.first + unit.count ≤ 64 }
     requires position { unit.position + unit.count < 2 ^ 64 }
-    ensures change { Does result space.new (write_unit S.accesses region field source.now unit) space.old }
-    ensures memory { NotMemory result }
+    ensures { DoesInPlace result space.new (write_unit S.accesses region field source.now unit) space.old }
 {
     let place = region.place(field.access, unit.offset)?;
     let old = kept(space, field, unit, place)?;

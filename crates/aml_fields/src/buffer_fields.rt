@@ -1,7 +1,7 @@
 //! Buffer fields, which are read and written in place, without accesses (ACPI 6.5, 19.6: CreateField and its like).
 ghost use Rattle.std.specs.Prelude.{◌≡◌, ◌≤◌, ◌+◌, ◌*◌, ◌<◌, ◌^◌, length, true, OnOk};
-ghost use Rattle.ar_space.specs.Change.{Does};
-ghost use Rattle.ar_space.specs.Outcome.{Answers, NotMemory, seen};
+ghost use Rattle.ar_space.specs.Change.{Does, DoesInPlace};
+ghost use Rattle.ar_space.specs.Outcome.{Answers, AnswersInPlace, NotMemory, seen};
 ghost use Rattle.aml_fields.specs.Bits.{packed, field_bits};
 ghost use Rattle.aml_fields.specs.BufferFields.{lies_within, field_within, new_buffer_field, still_within};
 ghost use Rattle.aml_fields.specs.BufferFields.{read_buffer_field, with_field, write_buffer_field};
@@ -21,8 +21,7 @@ pub fn new_buffer_field(
     bits: u32,
 ) -> Result<BufferField>
     requires { bit_offset + bits < 2 ^ 128 }
-    ensures answer { Does result heap.now (new_buffer_field object bit_offset bits) heap.now }
-    ensures memory { NotMemory result }
+    ensures { DoesInPlace result heap.now (new_buffer_field object bit_offset bits) heap.now }
 {
     let bytes = heap.buffer_bytes(object)?;
     field_within(object, bit_offset, bits, bytes)
@@ -69,8 +68,7 @@ pub fn write_buffer_field(
 
 fn field_within(buffer: u32, bit_offset: u128, bits: u32, bytes: &[u8]) -> Result<BufferField>
     requires { bit_offset + bits < 2 ^ 128 }
-    ensures answer { Answers result (field_within buffer bit_offset bits bytes.now) }
-    ensures memory { NotMemory result }
+    ensures { AnswersInPlace result (field_within buffer bit_offset bits bytes.now) }
 {
     if lies_within(bit_offset, bits, bytes) {
         Ok(BufferField {

@@ -1,6 +1,6 @@
 //! Operation regions, and the places of the units in them (ACPI 6.5, 5.5.2.4).
 ghost use Rattle.std.specs.Prelude.{◌≡◌};
-ghost use Rattle.ar_space.specs.Outcome.{Answers, NotMemory};
+ghost use Rattle.ar_space.specs.Outcome.{AnswersInPlace};
 ghost use Rattle.aml_fields.specs.Regions.{place_in, unit_place};
 
 use ar_space::{FieldFault, Place, Refusal, Result, Width};
@@ -71,8 +71,7 @@ impl Region {
     /// `RegionLimit`.
     #[tactic(auto, unfolding(crate::specs::Regions::unit_place))]
     pub fn place(self, width: Width, offset: u64) -> Result<Place>
-        ensures answer { Answers result (unit_place self width offset) }
-        ensures memory { NotMemory result }
+        ensures { AnswersInPlace result (unit_place self width offset) }
     {
         if u128::from(offset) + u128::from(width.bytes()) > u128::from(self.length) {
             return Err(Refusal::Field(FieldFault::RegionLimit));

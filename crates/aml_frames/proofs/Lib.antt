@@ -6,6 +6,7 @@ pub mod Declaring
 pub mod Forming
 pub mod Indexing
 pub mod Knowing
+pub mod Lent
 pub mod MatchShapes
 pub mod OperandShapes
 pub mod PassedItems

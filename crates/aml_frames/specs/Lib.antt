@@ -5,11 +5,13 @@ pub mod Entering
 pub mod Declarations
 pub mod Follow
 pub mod Indexed
+pub mod Known
 pub mod Matching
 pub mod Operands
 pub mod Places
 pub mod RegionTerms
 pub mod Stack
+pub mod Steps
 pub mod Uses
 pub mod Weights
 pub mod ShortNames

@@ -1,16 +1,18 @@
 -- The machine: what is on its stack means what is still to do.
-use Rattle.std.specs.Prelude.{◌≡◌, ℕ, ◌+◌, ◌-◌, List, [], ◌∷◌, length, slice_get, Some, Ok, Err}
+use Rattle.std.specs.Prelude.{◌≡◌, ℕ, ◌+◌, ◌-◌, ◌<◌, ◌≤◌, List, [], ◌∷◌, ◌++◌, length, slice_get, true, Some, Ok, Err, OnOk, IfOk, IfErr}
 use Rattle.ar_space.specs.Accesses.{Accesses}
 use Rattle.ar_space.specs.Outcome.{Outcome, NotMemory, seen}
 use Rattle.ar_space.specs.Change.{give, stop, settle, go_on}
+use Rattle.ar_space.specs.declared.refusal.Refusal.TheVariants.{OutOfMemory}
 use Rattle.aml_marked.specs.Marked.{walk_levels}
 use Rattle.aml_meaning.specs.declared.flow.Flow.{Flow}
-use Rattle.aml_meaning.specs.declared.flow.Flow.TheVariants as flow
 use Rattle.aml_meaning.specs.State.{State}
 use Rattle.aml_meaning.specs.Run.{Run}
+use Rattle.aml_meaning.specs.PassedOver.{is_passable}
 use Rattle.aml_meaning.specs.Passing.{item_done}
 use Rattle.aml_meaning.specs.Tasks.{Task}
 use Rattle.aml_meaning.specs.Invocations.{left, returned_by}
+use Rattle.aml_meaning.specs.Meaning.{meaning}
 use Rattle.aml_frames.specs.declared.frames.Control.{Control}
 use Rattle.aml_frames.specs.declared.frames.Control.TheVariants as control
 use Rattle.aml_frames.specs.declared.frames.Entry.{Entry}
@@ -24,9 +26,9 @@ use Rattle.aml_frames.specs.declared.frames.Next.{Next}
 use Rattle.aml_frames.specs.declared.frames.Next.TheVariants as next
 use Rattle.aml_frames.specs.Places.{Site, behind_term}
 use Rattle.aml_frames.specs.Data.{package_run}
-use Rattle.aml_frames.specs.Follow.{at_position, ends, term_run, items_run, resumed}
+use Rattle.aml_frames.specs.Follow.{at_position, ends, term_run, items_run, resumed, next_run, next_ends}
 use Rattle.aml_frames.specs.Uses.{target_ends, target_run, access_run}
-use Rattle.aml_frames.specs.Weights.{weight, access_weight, target_weight}
+use Rattle.aml_frames.specs.Weights.{weight, access_weight, target_weight, charged}
 
 -- what goes on with an outcome, where evaluation stands
 abbrev pub Rest : Type 0 → Type 0
@@ -129,3 +131,27 @@ control_weight (control.Package k) = 4
 control_weight (control.Target t u) = target_weight u
 control_weight (control.Access a) = access_weight a
 control_weight (control.Flow f) = 3
+
+-- ---- what steps of the machine promise
+
+-- a step of the machine: what waits on the stack after it and is done next weighs less than the limit and what the steps may pay for that it
+-- took, also where it is refused and the machine goes on behind an item that is passed over; what is to do after it is what was to do before
+pub record Turns {S : Type 0} (ac : Accesses S) (limit : ℕ) (r : Outcome Control) (c : Site) (xs : List Entry) (after : State S × ℕ) (m : Run S Flow) (before : State S × ℕ) : Type 0 where
+  pub falls : IfOk r (λ x. charged after.1 + (stack_weight xs + control_weight x) < charged before.1 + limit)
+  pub refused : IfErr r (λ e. is_passable e ≡ true → charged after.1 + (stack_weight xs + 1) < charged before.1 + limit)
+  pub means : Goes ac (meaning ac) r c xs after m before
+
+-- what a step of a rule left to do is put on the stack, or is done next: both weigh no more than the limit and what the steps may pay for
+-- that were taken; where memory runs out for the stack, a call ends that the step has begun, and nothing else is refused
+pub record Follows {S : Type 0} (ac : Accesses S) (limit : ℕ) (r : Outcome Control) (c : Site) (xs : List Entry) (after : State S × ℕ) (n : Next) (d : Site) (ys : List Entry) (before : State S × ℕ) : Type 0 where
+  pub falls : IfOk r (λ x. charged after.1 + (stack_weight xs + control_weight x) ≤ charged before.1 + limit)
+  pub ended : IfErr r (λ e. after ≡ given_up n before)
+  pub memory : IfErr r (λ e. e ≡ OutOfMemory)
+  pub means : Goes ac (meaning ac) r c xs after (then_all ac (meaning ac) (next_run ac (meaning ac) n d) (next_ends n d) ys) before
+
+-- an entry is put on the stack, and this is done next; it is refused only where memory runs out
+pub record Waits (r : Outcome Control) (c : Site) (xs : List Entry) (x : Entry) (y : Control) (d : Site) (ys : List Entry) : Type 0 where
+  pub act : OnOk r (c ≡ d)
+  pub pushed : OnOk r (xs ≡ ys ++ x ∷ [])
+  pub goes : IfOk r (λ z. z ≡ y)
+  pub memory : IfErr r (λ e. e ≡ OutOfMemory)

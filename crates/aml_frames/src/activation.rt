@@ -22,7 +22,7 @@ use aml_meaning::{TargetKind, target_kind};
 use aml_namespace::Scope;
 use aml_objects::{Body, NodeId};
 use aml_path::NameString;
-use aml_terms::{At, Cursor, Marks, RowPlace};
+use aml_terms::{At, Cursor, Marks, RowPlace, term_at};
 use ar_space::{NameFault, Refusal, Result};
 use std::alloc::Global;
 use std::marker::Model;
@@ -33,7 +33,7 @@ use std::mem;
 /// the term began that is told where evaluation is refused: no contract sees it.
 #[derive(Drop)]
 pub struct Activation {
-    bytes: Body,
+    pub(crate) bytes: Body,
     marks: Marks,
     scope: MethodPath,
     node: NodeId,
@@ -90,7 +90,10 @@ impl Activation {
           marks = marks;
           scope = scope;
           depth = depth;
-          place = record { at = 0; rest = bytes };
+          place = record {
+            at = 0;
+            rest = bytes;
+          };
         } }
     {
         let end = bytes.as_slice().len();
@@ -143,11 +146,6 @@ impl Activation {
     /// Where the term begins that the trace of a refusal names.
     pub(crate) fn start(&self) -> usize {
         self.start
-    }
-
-    /// All bytes of the table or of the body.
-    pub(crate) fn bytes(&self) -> &[u8] {
-        self.bytes.as_slice()
     }
 
     /// The scope that names stand in.
@@ -220,9 +218,8 @@ impl Activation {
     #[tactic(auto, using(crate::proofs::Between::moving))]
     pub fn take_opcode(&mut self, levels: u8) -> Option<RowPlace>
         ensures some { (place : RowPlace) → result ≡ Some place → 0 < levels }
-        ensures term { (place : RowPlace) → (count : ℕ → ℕ) → (element : Bool) → result ≡ Some place →
-            a_term count levels element self.old.place ≡ with_row (a_term count (levels - 1))
-            (row_at place) self.new.place }
+        ensures term { (place : RowPlace) → (count : ℕ → ℕ) → (element : Bool) → result ≡ Some place → a_term count
+            levels element self.old.place ≡ with_row (a_term count (levels - 1)) (row_at place) self.new.place }
         ensures none { result ≡ None → self.new ≡ self.old }
         ensures moves { self.new ≡ at_place self.old self.new.place }
         ensures uncoded { (count : ℕ → ℕ) → (element : Bool) → (opcode : Opcode) → result ≡ None →
@@ -339,7 +336,7 @@ impl Activation {
     pub fn target_kind(&self, levels: u8) -> TargetKind
         ensures { result ≡ target_kind (code_of (next_term self.now levels)) }
     {
-        target_kind(self.cursor().term(&self.marks, levels).code())
+        target_kind(term_at(&self.cursor(), &self.marks, levels, false).code())
     }
 
     /// The number that is the operand of a term, by the place of its row.
@@ -416,11 +413,10 @@ impl Activation {
     /// Goes into the package whose length stands next, and gives what stands behind it.
     #[tactic(auto, using(crate::proofs::Between::moving))]
     pub fn open(&mut self) -> Position
-        ensures inside { self.new ≡
-            at_place self.old (record (a_size self.old.place).1 {
-              rest =
-                  take (a_size self.old.place).0 (a_size self.old.place).1.rest;
-            }) }
+        ensures inside { self.new ≡ at_place self.old (record (a_size self.old.place).1 {
+          rest = take (a_size
+              self.old.place).0 (a_size self.old.place).1.rest;
+        }) }
         ensures outer { place_between self.old.bytes result.at result.end ≡
             over (a_size self.old.place).0 (a_size self.old.place).1 }
     {

@@ -1,16 +1,14 @@
 //! What is there already when a term needs it: operands that are integers, and targets that take or hold one. They
 //! are read and stored to at once. Where these functions answer none, nothing has changed, and the caller tries
 //! something else or makes a frame.
-ghost use Rattle.std.specs.Prelude.{◌≡◌, ◌≤◌, ◌<◌, None, Ok, Err, true, false, IfOk, IfErr, IfSome};
+ghost use Rattle.std.specs.Prelude.{◌≡◌, ◌≤◌, None, Ok, IfSome};
 ghost use Rattle.ar_space.specs.Change.{Does};
-ghost use Rattle.ar_space.specs.Outcome.{NotMemory};
 ghost use Rattle.aml_objects.specs.declared.value.Value.TheVariants as values;
 ghost use Rattle.aml_meaning.specs.declared.flow.Flow.TheVariants as flows;
 ghost use Rattle.aml_meaning.specs.Meaning.{meaning};
 ghost use Rattle.aml_frames.specs.declared.uses.TargetUse.TheVariants as uses;
-ghost use Rattle.aml_frames.specs.Follow.{term_run};
-ghost use Rattle.aml_frames.specs.Places.{behind_term};
-ghost use Rattle.aml_frames.specs.Uses.{super, behind_target, target_ends, target_run};
+ghost use Rattle.aml_frames.specs.Uses.{super, behind_target, target_run};
+ghost use Rattle.aml_frames.specs.Known.{KnownInteger, UsedTarget};
 
 use crate::activation::Activation;
 use crate::short_names::{count_at_name, integer_at_name, put_integer_at_name};
@@ -31,17 +29,7 @@ pub fn known_integer<S: Space>(
     act: &mut Activation,
     levels: u8,
 ) -> Result<Option<u64>>
-    ensures integer { IfOk result
-        (λ known. IfSome known (λ number. Does (Ok (flows.Value (values.Integer number))) run.new
-        (term_run S.accesses (meaning S.accesses) act.old levels) run.old)) }
-    ensures refused { IfErr result (λ refusal. Does (Err refusal) run.new
-        (term_run S.accesses (meaning S.accesses) act.old levels) run.old) }
-    ensures spent { run.new.1 ≤ run.old.1 }
-    ensures paid { IfOk result (λ known. IfSome known (λ number. run.new.1 < run.old.1)) }
-    ensures behind { IfOk result (λ known. IfSome known (λ number. act.new ≡ behind_term act.old levels)) }
-    ensures none { IfOk result (λ known. known ≡ None → run.new ≡ run.old) }
-    ensures stays { IfOk result (λ known. known ≡ None → act.new ≡ act.old) }
-    ensures memory { NotMemory result }
+    ensures { KnownInteger S.accesses result act.new run.new levels act.old run.old }
 {
     if let Some(number) = short_integer(run, act, levels) {
         return Ok(Some(number));
@@ -62,17 +50,7 @@ pub fn use_known<S: Space>(
     levels: u8,
     target_use: TargetUse,
 ) -> Result<Option<Value>>
-    ensures done { IfOk result
-        (λ known. IfSome known (λ value. Does (Ok (flows.Value value)) run.new
-        (target_run S.accesses (meaning S.accesses) (super levels) target_use act.old) run.old)) }
-    ensures refused { IfErr result (λ refusal. Does (Err refusal) run.new
-        (target_run S.accesses (meaning S.accesses) (super levels) target_use act.old) run.old) }
-    ensures spent { run.new.1 ≤ run.old.1 }
-    ensures behind { IfOk result (λ known. IfSome known (λ value. act.new ≡
-        target_ends (super levels) target_use act.old)) }
-    ensures none { IfOk result (λ known. known ≡ None → run.new ≡ run.old) }
-    ensures stays { IfOk result (λ known. known ≡ None → act.new ≡ act.old) }
-    ensures memory { NotMemory result }
+    ensures { UsedTarget S.accesses result act.new run.new target_use levels act.old run.old }
 {
     match target_use {
         TargetUse::Store(Value::Integer(number)) => put_known(run, act, levels, number),
@@ -89,18 +67,7 @@ fn put_known<S: Space>(
     levels: u8,
     number: u64,
 ) -> Result<Option<Value>>
-    ensures done { IfOk result
-        (λ known. IfSome known (λ value. Does (Ok (flows.Value value)) run.new
-        (target_run S.accesses (meaning S.accesses) (super levels)
-        (uses.Store (values.Integer number)) act.old) run.old)) }
-    ensures refused { IfErr result (λ refusal. Does (Err refusal) run.new
-        (target_run S.accesses (meaning S.accesses) (super levels)
-        (uses.Store (values.Integer number)) act.old) run.old) }
-    ensures spent { run.new.1 ≤ run.old.1 }
-    ensures behind { IfOk result (λ known. IfSome known (λ value. act.new ≡ behind_target (super levels) act.old)) }
-    ensures none { IfOk result (λ known. known ≡ None → run.new ≡ run.old) }
-    ensures stays { IfOk result (λ known. known ≡ None → act.new ≡ act.old) }
-    ensures memory { NotMemory result }
+    ensures { UsedTarget S.accesses result act.new run.new (uses.Store (values.Integer number)) levels act.old run.old }
 {
     if put_integer_to_slot(run, act, levels, number) {
         return Ok(Some(Value::Integer(number)));

@@ -1,18 +1,19 @@
 //! The state of evaluation (`activation`), the frames that wait for a part of a term (`frames`), and terms that are
 //! evaluated at once, without a frame (`known`, `short_terms` and its like).
 //!
-//! Begin with `activation` and `frames`. Evaluation is one loop over a stack of frames in memory (`aml_evaluation`), in
-//! place of functions that call themselves. A step (`begin_x`, `resume_x`) takes a term up to the first part that is
-//! evaluated, and answers what is left to do (`Next`); what waits for that part is a `Frame`. Steps of fields and calls
-//! are in `aml_accesses`, of data and declarations in `aml_declarations`, of operators and statements in
-//! `aml_operators`. A frame here is one of this stack; the locals and arguments of a call are in a frame of slots
-//! (`aml_meaning`). What frames and steps mean is in `specs/Follow`, and for single terms in the other files of `specs/`.
+//! Begin with `activation` and `frames`. Evaluation is one loop over a stack of frames in memory (`aml_evaluation`),
+//! in place of functions that call themselves. A step (`begin_x`, `resume_x`) takes a term up to the first part that
+//! is evaluated, and answers what is left to do (`Next`); what waits for that part is a `Frame`. Steps of fields and
+//! calls are in `aml_accesses`, of data and declarations in `aml_declarations`, of targets in `aml_targets`, of
+//! statements in `aml_statements`, of operators and names in `aml_operators`. A frame here is one of this stack; the
+//! locals and arguments of a call are in a frame of slots (`aml_meaning`). What frames and steps mean is in
+//! `specs/Follow`, and for single terms in the other files of `specs/`.
 //!
 //! What needs no frame is tried first: an item of a list by `short_items`; an operand by `known`, where it gives an
 //! integer, and an operand of an operator then by `short_values` of `aml_operators`; a target by `known`.
 //!
-//! In all functions `run` is the world with the steps that are left, `act` the activation: the bytes and the position of
-//! the next one, and `levels` how deep terms may still nest. docs/ARCHITECTURE.md explains their clauses (`means`,
+//! In all functions `run` is the world with the steps that are left, `act` the activation: the bytes and the position
+//! of the next one, and `levels` how deep terms may still nest. docs/ARCHITECTURE.md explains their clauses (`means`,
 //! `ends`, `falls`), docs/WORDS.md the words.
 //!
 //! `#[inline(always)]` marks common paths, `#[cold]` and `#[inline(never)]` rare ones; they change speed only.

@@ -7,16 +7,15 @@
 //!
 //! Names aren't tried here: `begin_operator` reads an operand that is a name, and stores to a target that is one
 //! (`known`).
-ghost use Rattle.std.specs.Prelude.{◌≡◌, ◌≤◌, ◌<◌, Ok, None, IfSome};
-ghost use Rattle.ar_space.specs.Change.{Does};
+ghost use Rattle.std.specs.Prelude.{◌≡◌, ◌≤◌, Ok, None, IfSome};
 ghost use Rattle.aml_objects.specs.declared.value.Value.TheVariants as values;
 ghost use Rattle.aml_meaning.specs.declared.flow.Flow.TheVariants as flows;
 ghost use Rattle.aml_meaning.specs.declared.term_kind.OperatorKind.TheVariants as operators;
 ghost use Rattle.aml_meaning.specs.declared.term_kind.TwoOperands.TheVariants as two;
 ghost use Rattle.aml_meaning.specs.Meaning.{meaning};
 ghost use Rattle.aml_frames.specs.declared.frames.Next.TheVariants as next;
-ghost use Rattle.aml_frames.specs.Follow.{term_run, operator_run, behind_operator_at, Leads};
-ghost use Rattle.aml_frames.specs.Places.{at_place, behind_term};
+ghost use Rattle.aml_frames.specs.Follow.{operator_run, behind_operator_at, Leads};
+ghost use Rattle.aml_frames.specs.Known.{ShortInteger, ShortOperator};
 
 use crate::activation::Activation;
 use crate::short_operations::operation_integer;
@@ -69,14 +68,9 @@ fn binary_to_slot<S: Space>(
     levels: u8,
     operator: BinaryOperator,
 ) -> Option<u64>
-    ensures integer { IfSome result (λ n. Leads S.accesses (meaning S.accesses)
-        (Ok (next.Flow (flows.Value (values.Integer n)))) act.new run.new
-        (operator_run S.accesses (meaning S.accesses) (operators.Two (two.Integers operator)) act.old levels) run.old) }
-    ensures behind { IfSome result (λ n. act.new ≡ behind_operator_at
-        (operators.Two (two.Integers operator)) act.old levels) }
-    ensures spent { run.new.1 ≤ run.old.1 }
+    ensures operator { ShortOperator S.accesses result act.new run.new (operators.Two (two.Integers operator)) levels
+        act.old run.old }
     ensures kept { result ≡ None → run.new.0 ≡ run.old.0 }
-    ensures moves { act.new ≡ at_place act.old act.new.place }
 {
     let Some(x) = operand_integer(run, act, levels) else {
         return None;
@@ -102,13 +96,7 @@ fn binary_to_slot<S: Space>(
 /// The integer of an operand that is there already, or that an operator without a target gives.
 #[inline(always)]
 fn operand_integer<S: Space>(run: &mut Running<S>, act: &mut Activation, levels: u8) -> Option<u64>
-    ensures integer { IfSome result (λ n. Does (Ok (flows.Value (values.Integer n))) run.new
-        (term_run S.accesses (meaning S.accesses) act.old levels) run.old) }
-    ensures behind { IfSome result (λ n. act.new ≡ behind_term act.old levels) }
-    ensures kept { run.new.0 ≡ run.old.0 }
-    ensures paid { IfSome result (λ n. run.new.1 < run.old.1) }
-    ensures none { result ≡ None → run.new ≡ run.old }
-    ensures stays { result ≡ None → act.new ≡ act.old }
+    ensures { ShortInteger S.accesses result act.new run.new levels act.old run.old }
 {
     match short_integer(run, act, levels) {
         Some(number) => Some(number),
@@ -121,13 +109,8 @@ fn operand_integer<S: Space>(run: &mut Running<S>, act: &mut Activation, levels:
 #[inline(always)]
 #[tactic(auto, using(crate::proofs::ShortItems::items))]
 fn store_to_slot<S: Space>(run: &mut Running<S>, act: &mut Activation, levels: u8) -> Option<u64>
-    ensures integer { IfSome result (λ n. Leads S.accesses (meaning S.accesses)
-        (Ok (next.Flow (flows.Value (values.Integer n)))) act.new run.new
-        (operator_run S.accesses (meaning S.accesses) operators.Store act.old levels) run.old) }
-    ensures behind { IfSome result (λ n. act.new ≡ behind_operator_at operators.Store act.old levels) }
-    ensures spent { run.new.1 ≤ run.old.1 }
+    ensures operator { ShortOperator S.accesses result act.new run.new operators.Store levels act.old run.old }
     ensures kept { result ≡ None → run.new.0 ≡ run.old.0 }
-    ensures moves { act.new ≡ at_place act.old act.new.place }
 {
     let Some(number) = short_integer(run, act, levels) else {
         return None;

@@ -10,10 +10,9 @@ ghost use Rattle.aml_objects.specs.declared.value.Value.TheVariants as values;
 ghost use Rattle.aml_meaning.specs.declared.flow.Flow.TheVariants as flows;
 ghost use Rattle.aml_meaning.specs.Meaning.{meaning};
 ghost use Rattle.aml_frames.specs.declared.uses.TargetUse.TheVariants as uses;
-ghost use Rattle.aml_frames.specs.Follow.{term_run};
-ghost use Rattle.aml_frames.specs.Places.{behind_term};
 ghost use Rattle.aml_frames.specs.ShortNames.{IsSegmentAt, FindsAt, Reads, Puts};
-ghost use Rattle.aml_frames.specs.Uses.{super, behind_target, target_ends, target_run};
+ghost use Rattle.aml_frames.specs.Uses.{super, behind_target, target_run};
+ghost use Rattle.aml_frames.specs.Known.{CountedTarget, KnownInteger, TakenTarget};
 
 use crate::activation::Activation;
 use aml_meaning::{Count, Running, WorldState};
@@ -72,9 +71,8 @@ fn node_of_value<S>(world: &WorldState<S>, act: &Activation, levels: u8) -> Opti
 /// The integer that a name holds which is the node with an id, if it holds one, or the bits of a field unit that are
 /// read at once.
 fn read_node<S: Space>(world: &mut WorldState<S>, id: NodeId) -> Result<Option<u64>>
-    ensures read { IfOk result
-        (λ read. IfSome read (λ number. Reads S.accesses id.number (Ok (flows.Value (values.Integer number)))
-        world.new world.old)) }
+    ensures read { IfOk result (λ read. IfSome read (λ number. Reads S.accesses id.number (Ok (flows.Value
+        (values.Integer number))) world.new world.old)) }
     ensures refused { IfErr result (λ refusal. Reads S.accesses id.number (Err refusal) world.new world.old) }
     ensures none { IfOk result (λ read. read ≡ None → world.new ≡ world.old) }
     ensures memory { NotMemory result }
@@ -96,17 +94,7 @@ pub(crate) fn integer_at_name<S: Space>(
     act: &mut Activation,
     levels: u8,
 ) -> Result<Option<u64>>
-    ensures integer { IfOk result
-        (λ read. IfSome read (λ number. Does (Ok (flows.Value (values.Integer number))) run.new
-        (term_run S.accesses (meaning S.accesses) act.old levels) run.old)) }
-    ensures refused { IfErr result (λ refusal. Does (Err refusal) run.new
-        (term_run S.accesses (meaning S.accesses) act.old levels) run.old) }
-    ensures spent { run.new.1 ≤ run.old.1 }
-    ensures paid { IfOk result (λ read. IfSome read (λ number. run.new.1 < run.old.1)) }
-    ensures behind { IfOk result (λ read. IfSome read (λ number. act.new ≡ behind_term act.old levels)) }
-    ensures none { IfOk result (λ read. read ≡ None → run.new ≡ run.old) }
-    ensures stays { IfOk result (λ read. read ≡ None → act.new ≡ act.old) }
-    ensures memory { NotMemory result }
+    ensures { KnownInteger S.accesses result act.new run.new levels act.old run.old }
 {
     let Some(id) = node_of_value(&run.world, act, levels) else {
         return Ok(None);
@@ -159,9 +147,8 @@ pub(crate) fn put_integer_at_name<S: Space>(
     ensures done { IfOk result (λ done. done ≡ true → Does (Ok (flows.Value (values.Integer number))) run.new
         (target_run S.accesses (meaning S.accesses) (super levels)
         (uses.Store (values.Integer number)) act.old) run.old) }
-    ensures refused { IfErr result (λ refusal. Does (Err refusal) run.new
-        (target_run S.accesses (meaning S.accesses) (super levels)
-        (uses.Store (values.Integer number)) act.old) run.old) }
+    ensures refused { IfErr result (λ refusal. Does (Err refusal) run.new (target_run S.accesses (meaning S.accesses)
+        (super levels) (uses.Store (values.Integer number)) act.old) run.old) }
     ensures spent { run.new.1 ≤ run.old.1 }
     ensures behind { IfOk result (λ done. done ≡ true → act.new ≡ behind_target (super levels) act.old) }
     ensures none { IfOk result (λ done. done ≡ false → run.new ≡ run.old) }
@@ -186,12 +173,7 @@ pub(crate) fn count_at_name<S: Space>(
     levels: u8,
     kind: Count,
 ) -> Option<u64>
-    ensures counted { IfSome result (λ number. Does (Ok (flows.Value (values.Integer number))) run.new
-        (target_run S.accesses (meaning S.accesses) (super levels) (uses.Count kind) act.old) run.old) }
-    ensures spent { run.new.1 ≤ run.old.1 }
-    ensures behind { IfSome result (λ number. act.new ≡ behind_target (super levels) act.old) }
-    ensures none { result ≡ None → run.new ≡ run.old }
-    ensures stays { result ≡ None → act.new ≡ act.old }
+    ensures { CountedTarget S.accesses result act.new run.new kind levels act.old run.old }
 {
     let Some(id) = node_at(&run.world, act) else {
         return None;
@@ -211,12 +193,8 @@ pub(crate) fn count_at_name<S: Space>(
 /// it names none, or one that is acquired as often as can be counted, it answers no, and nothing changes.
 #[tactic(auto, using(crate::proofs::ShortNames::short_mutexes))]
 pub fn acquire_at_name<S: Space>(run: &mut Running<S>, act: &mut Activation, levels: u8) -> bool
-    ensures done { result ≡ true → Does (Ok (flows.Value (values.Integer 0))) run.new
-        (target_run S.accesses (meaning S.accesses) (super levels) uses.Acquire act.old) run.old }
-    ensures spent { run.new.1 ≤ run.old.1 }
-    ensures behind { result ≡ true → act.new ≡ target_ends (super levels) uses.Acquire act.old }
-    ensures none { result ≡ false → run.new ≡ run.old }
-    ensures stays { result ≡ false → act.new ≡ act.old }
+    ensures { TakenTarget S.accesses result (flows.Value (values.Integer 0)) act.new run.new uses.Acquire levels act.old
+        run.old }
 {
     let Some(id) = node_at(&run.world, act) else {
         return false;
@@ -233,12 +211,7 @@ pub fn acquire_at_name<S: Space>(run: &mut Running<S>, act: &mut Activation, lev
 /// has acquired, it answers no, and nothing changes.
 #[tactic(auto, using(crate::proofs::ShortNames::short_mutexes))]
 pub fn release_at_name<S: Space>(run: &mut Running<S>, act: &mut Activation, levels: u8) -> bool
-    ensures done { result ≡ true → Does (Ok flows.Next) run.new
-        (target_run S.accesses (meaning S.accesses) (super levels) uses.Release act.old) run.old }
-    ensures spent { run.new.1 ≤ run.old.1 }
-    ensures behind { result ≡ true → act.new ≡ target_ends (super levels) uses.Release act.old }
-    ensures none { result ≡ false → run.new ≡ run.old }
-    ensures stays { result ≡ false → act.new ≡ act.old }
+    ensures { TakenTarget S.accesses result flows.Next act.new run.new uses.Release levels act.old run.old }
 {
     let Some(id) = node_at(&run.world, act) else {
         return false;

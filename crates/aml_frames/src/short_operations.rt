@@ -3,16 +3,10 @@
 //!
 //! Where a function answers none, steps may have been taken and the place may have moved, and nothing else has changed.
 //! `operation_integer` restores both.
-ghost use Rattle.std.specs.Prelude.{◌≡◌, ◌≤◌, ◌<◌, Ok, None, IfSome};
-ghost use Rattle.ar_space.specs.Change.{Does};
-ghost use Rattle.aml_objects.specs.declared.value.Value.TheVariants as values;
-ghost use Rattle.aml_meaning.specs.declared.flow.Flow.TheVariants as flows;
+ghost use Rattle.std.specs.Prelude.{◌≡◌};
 ghost use Rattle.aml_meaning.specs.declared.term_kind.OperatorKind.TheVariants as operators;
 ghost use Rattle.aml_meaning.specs.declared.term_kind.TwoOperands.TheVariants as two;
-ghost use Rattle.aml_meaning.specs.Meaning.{meaning};
-ghost use Rattle.aml_frames.specs.declared.frames.Next.TheVariants as next;
-ghost use Rattle.aml_frames.specs.Follow.{term_run, operator_run, behind_operator_at, Leads};
-ghost use Rattle.aml_frames.specs.Places.{at_place, behind_term};
+ghost use Rattle.aml_frames.specs.Known.{ShortInteger, ShortOperator};
 
 use crate::activation::Activation;
 use crate::short_opcodes::take_operator;
@@ -29,13 +23,7 @@ pub(crate) fn operation_integer<S: Space>(
     act: &mut Activation,
     levels: u8,
 ) -> Option<u64>
-    ensures integer { IfSome result (λ n. Does (Ok (flows.Value (values.Integer n))) run.new
-        (term_run S.accesses (meaning S.accesses) act.old levels) run.old) }
-    ensures behind { IfSome result (λ n. act.new ≡ behind_term act.old levels) }
-    ensures kept { run.new.0 ≡ run.old.0 }
-    ensures paid { IfSome result (λ n. run.new.1 < run.old.1) }
-    ensures none { result ≡ None → run.new ≡ run.old }
-    ensures stays { result ≡ None → act.new ≡ act.old }
+    ensures { ShortInteger S.accesses result act.new run.new levels act.old run.old }
 {
     let steps = run.steps;
     let position = act.position();
@@ -59,13 +47,8 @@ fn operator_integer<S: Space>(
     levels: u8,
     kind: OperatorKind,
 ) -> Option<u64>
-    ensures integer { IfSome result (λ n. Leads S.accesses (meaning S.accesses)
-        (Ok (next.Flow (flows.Value (values.Integer n)))) act.new run.new
-        (operator_run S.accesses (meaning S.accesses) kind act.old levels) run.old) }
-    ensures behind { IfSome result (λ n. act.new ≡ behind_operator_at kind act.old levels) }
-    ensures spent { run.new.1 ≤ run.old.1 }
+    ensures operator { ShortOperator S.accesses result act.new run.new kind levels act.old run.old }
     ensures kept { run.new.0 ≡ run.old.0 }
-    ensures moves { act.new ≡ at_place act.old act.new.place }
 {
     match kind {
         OperatorKind::Two(TwoOperands::Integers(operator)) => {
@@ -86,14 +69,9 @@ fn binary_without_target<S: Space>(
     levels: u8,
     operator: BinaryOperator,
 ) -> Option<u64>
-    ensures integer { IfSome result (λ n. Leads S.accesses (meaning S.accesses)
-        (Ok (next.Flow (flows.Value (values.Integer n)))) act.new run.new
-        (operator_run S.accesses (meaning S.accesses) (operators.Two (two.Integers operator)) act.old levels) run.old) }
-    ensures behind { IfSome result (λ n. act.new ≡ behind_operator_at
-        (operators.Two (two.Integers operator)) act.old levels) }
-    ensures spent { run.new.1 ≤ run.old.1 }
+    ensures operator { ShortOperator S.accesses result act.new run.new (operators.Two (two.Integers operator)) levels
+        act.old run.old }
     ensures kept { run.new.0 ≡ run.old.0 }
-    ensures moves { act.new ≡ at_place act.old act.new.place }
 {
     let Some(x) = short_integer(run, act, levels) else {
         return None;
@@ -122,13 +100,8 @@ fn test_of_integers<S: Space>(
     levels: u8,
     test: Test,
 ) -> Option<u64>
-    ensures integer { IfSome result (λ n. Leads S.accesses (meaning S.accesses)
-        (Ok (next.Flow (flows.Value (values.Integer n)))) act.new run.new
-        (operator_run S.accesses (meaning S.accesses) (operators.Test test) act.old levels) run.old) }
-    ensures behind { IfSome result (λ n. act.new ≡ behind_operator_at (operators.Test test) act.old levels) }
-    ensures spent { run.new.1 ≤ run.old.1 }
+    ensures operator { ShortOperator S.accesses result act.new run.new (operators.Test test) levels act.old run.old }
     ensures kept { run.new.0 ≡ run.old.0 }
-    ensures moves { act.new ≡ at_place act.old act.new.place }
 {
     let Some(x) = short_integer(run, act, levels) else {
         return None;
@@ -143,13 +116,8 @@ fn test_of_integers<S: Space>(
 #[inline(always)]
 #[tactic(auto, using(crate::proofs::ShortOperations::integers))]
 fn not_of_integer<S: Space>(run: &mut Running<S>, act: &mut Activation, levels: u8) -> Option<u64>
-    ensures integer { IfSome result (λ n. Leads S.accesses (meaning S.accesses)
-        (Ok (next.Flow (flows.Value (values.Integer n)))) act.new run.new
-        (operator_run S.accesses (meaning S.accesses) operators.LogicalNot act.old levels) run.old) }
-    ensures behind { IfSome result (λ n. act.new ≡ behind_operator_at operators.LogicalNot act.old levels) }
-    ensures spent { run.new.1 ≤ run.old.1 }
+    ensures operator { ShortOperator S.accesses result act.new run.new operators.LogicalNot levels act.old run.old }
     ensures kept { run.new.0 ≡ run.old.0 }
-    ensures moves { act.new ≡ at_place act.old act.new.place }
 {
     let Some(x) = short_integer(run, act, levels) else {
         return None;

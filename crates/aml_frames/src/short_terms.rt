@@ -3,7 +3,7 @@
 //!
 //! `short_integer`, `put_integer_to_slot` and `count_slot` act at once, or change nothing: then the term is evaluated as
 //! any other is. `slot_value` does the same of a local or an argument that holds any value.
-ghost use Rattle.std.specs.Prelude.{◌≡◌, ◌≤◌, ◌<◌, ℕ, Ok, None, true, false, take, IfSome};
+ghost use Rattle.std.specs.Prelude.{◌≡◌, ◌≤◌, ◌<◌, ℕ, Ok, None, take, IfSome};
 ghost use Rattle.ar_space.specs.Change.{Does};
 ghost use Rattle.aml_grammar.specs.State.{little_endian};
 ghost use Rattle.aml_marked.specs.Marked.{an_integer};
@@ -15,7 +15,7 @@ ghost use Rattle.aml_frames.specs.declared.uses.TargetUse.TheVariants as uses;
 ghost use Rattle.aml_frames.specs.Follow.{term_run};
 ghost use Rattle.aml_frames.specs.Places.{behind_term};
 ghost use Rattle.aml_frames.specs.ShortTerms.{row_alone, IsShort};
-ghost use Rattle.aml_frames.specs.Uses.{super, behind_target, target_run};
+ghost use Rattle.aml_frames.specs.Known.{CountedTarget, ShortInteger, TakenTarget};
 
 use crate::activation::Activation;
 use aml_convert::truncate_integer;
@@ -80,13 +80,7 @@ pub fn short_integer<S: Space>(
     act: &mut Activation,
     levels: u8,
 ) -> Option<u64>
-    ensures integer { IfSome result (λ n. Does (Ok (flows.Value (values.Integer n))) run.new
-        (term_run S.accesses (meaning S.accesses) act.old levels) run.old) }
-    ensures behind { IfSome result (λ n. act.new ≡ behind_term act.old levels) }
-    ensures kept { run.new.0 ≡ run.old.0 }
-    ensures paid { IfSome result (λ n. run.new.1 < run.old.1) }
-    ensures none { result ≡ None → run.new ≡ run.old }
-    ensures stays { result ≡ None → act.new ≡ act.old }
+    ensures { ShortInteger S.accesses result act.new run.new levels act.old run.old }
 {
     if levels == 0 || run.steps == 0 {
         return None;
@@ -202,13 +196,8 @@ pub(crate) fn put_integer_to_slot<S: Space>(
     levels: u8,
     number: u64,
 ) -> bool
-    ensures done { result ≡ true → Does (Ok (flows.Value (values.Integer number))) run.new
-        (target_run S.accesses (meaning S.accesses) (super levels)
-        (uses.Store (values.Integer number)) act.old) run.old }
-    ensures behind { result ≡ true → act.new ≡ behind_target (super levels) act.old }
-    ensures spent { run.new.1 ≤ run.old.1 }
-    ensures none { result ≡ false → run.new ≡ run.old }
-    ensures stays { result ≡ false → act.new ≡ act.old }
+    ensures { TakenTarget S.accesses result (flows.Value (values.Integer number)) act.new run.new
+        (uses.Store (values.Integer number)) levels act.old run.old }
 {
     if levels == 0 {
         return false;
@@ -232,12 +221,7 @@ pub(crate) fn count_slot<S: Space>(
     levels: u8,
     kind: Count,
 ) -> Option<u64>
-    ensures counted { IfSome result (λ n. Does (Ok (flows.Value (values.Integer n))) run.new
-        (target_run S.accesses (meaning S.accesses) (super levels) (uses.Count kind) act.old) run.old) }
-    ensures behind { IfSome result (λ n. act.new ≡ behind_target (super levels) act.old) }
-    ensures spent { run.new.1 ≤ run.old.1 }
-    ensures none { result ≡ None → run.new ≡ run.old }
-    ensures stays { result ≡ None → act.new ≡ act.old }
+    ensures { CountedTarget S.accesses result act.new run.new kind levels act.old run.old }
 {
     if levels == 0 {
         return None;

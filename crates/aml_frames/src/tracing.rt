@@ -41,7 +41,7 @@ pub fn tell_last<S>(run: &mut Running<S>, act: &Activation, outer: &Option<Metho
 pub fn tell_place<S>(run: &mut Running<S>, act: &Activation, outer: &Option<MethodPath>)
     ensures { run.new ≡ run.old }
 {
-    if act.bytes().is_empty() {
+    if act.bytes.as_slice().is_empty() {
         return;
     }
     let place = place_of(run.world.alloc, act, outer);
@@ -60,7 +60,7 @@ fn place_of(alloc: Global, act: &Activation, outer: &Option<MethodPath>) -> Resu
         scope: scope.copy(alloc)?,
         is_body,
         at: act.start(),
-        code: code_at(act.bytes(), act.start()),
+        code: code_at(act.bytes.as_slice(), act.start()),
     })
 }
 
@@ -176,7 +176,7 @@ pub fn told_turn(act: &mut Activation, turn: Loop, outcome: Result<Next>) -> Res
 fn tell_loop(act: &mut Activation, turn: Loop)
     ensures { act.new ≡ act.old }
 {
-    let start = loop_start(act.bytes(), turn.predicate.at, turn.outer.at);
+    let start = loop_start(act.bytes.as_slice(), turn.predicate.at, turn.outer.at);
     act.tell_from(start);
 }
 

@@ -8,13 +8,13 @@ ghost use Rattle.aml_meaning.specs.Invocations.{invocation_found};
 ghost use Rattle.aml_meaning.specs.Calling.{called, counted, evaluated, with_rest, with_steps, answer_exported};
 ghost use Rattle.aml_meaning.specs.Calling.{answered, invocation_exported, value_of};
 
-use crate::export::{MAX_NESTING, value_exported};
+use crate::export::value_exported;
 use crate::fields::{field_given, field_value};
 use aml_evaluation::call_method;
 use aml_meaning::{Datum, Invocation, Running, World, WorldState};
 use aml_objects::Value;
 use aml_path::{NameString, Path, Prefix};
-use ar_space::{Result, Space};
+use ar_space::{MAX_NESTING, Result, Space};
 use std::alloc::Global;
 
 /// How many calls the address of a field may make one inside another: reading the field counts as one.

@@ -9,7 +9,7 @@ ghost use Rattle.aml_meaning.specs.Fields.{bank_selected, bank_unit, bank_bits};
 ghost use Rattle.aml_frames.specs.Uses.{asking};
 
 use crate::fields::{located, region_written};
-use aml_fields::{Region, Unit, bytes_for, bytes_of, copy_from_unit, units};
+use aml_fields::{Region, Unit, bytes_for, bytes_of, copy_from_unit, read_unit, units};
 use aml_frames::Selector;
 use aml_meaning::Running;
 use aml_objects::{Bank, FieldUnit};
@@ -56,7 +56,7 @@ fn bank_reads<S: Space>(
 }
 
 /// One unit is read: the bank is selected, and the unit with a width is read in the region.
-#[tactic(auto, using(aml_meaning::proofs::Runs::running), unfolding(aml_meaning::specs::Fields::bank_unit))]
+#[tactic(auto, using(aml_meaning::proofs::Runs::running, crate::proofs::Lent::lent), unfolding(aml_meaning::specs::Fields::bank_unit))]
 fn bank_unit<S: Space>(
     run: &mut Running<S>,
     calls: usize,
@@ -69,7 +69,7 @@ fn bank_unit<S: Space>(
 {
     let (region, width) = lies_in;
     select(run, calls, bank)?;
-    run.world.read_unit(region, width, unit)
+    read_unit(&mut run.world.space, region, width, unit)
 }
 
 /// The bank is selected: its value is written to the bank field. A value that the bank field can't hold is refused.

@@ -7,7 +7,7 @@ ghost use Rattle.aml_meaning.specs.Fields.{bus_behind, bus_behind_all};
 ghost use Rattle.aml_frames.specs.Uses.{asking};
 
 use aml_evaluation::ask_integer;
-use aml_meaning::{Running, adr};
+use aml_meaning::{Running, adr, secondary_bus};
 use aml_path::Path;
 use ar_space::{Result, Space};
 use std::collections::VecDeque;
@@ -32,7 +32,7 @@ pub(crate) fn bus_behind_all<S: Space>(
 }
 
 /// The bus behind one bridge: its address is asked for, and its secondary bus is read.
-#[tactic(auto, using(aml_meaning::proofs::Runs::running), unfolding(aml_meaning::specs::Fields::bus_behind))]
+#[tactic(auto, using(aml_meaning::proofs::Runs::running, crate::proofs::Lent::lent), unfolding(aml_meaning::specs::Fields::bus_behind))]
 fn bus_behind<S: Space>(
     run: &mut Running<S>,
     calls: usize,
@@ -45,5 +45,5 @@ fn bus_behind<S: Space>(
 {
     let object = bridge.child(run.world.alloc, adr())?;
     let address = ask_integer(run, calls, &object)?;
-    run.world.secondary_bus(segment, bus, address)
+    secondary_bus(&mut run.world.space, segment, bus, address)
 }

@@ -15,9 +15,6 @@ use aml_objects::{Element, Reference, Value};
 use aml_path::{NameString, Path};
 use ar_space::{EvaluationFault, Refusal, Result, Space};
 
-/// How deep packages may nest that are handed out.
-pub(crate) const MAX_NESTING: usize = 64;
-
 /// The value of a package with these elements.
 fn package(list: Vec<Datum>) -> Datum
     ensures { given.given_of result ≡ given.Package (given.givens (map given.given_of list.items)) }
@@ -25,19 +22,19 @@ fn package(list: Vec<Datum>) -> Datum
     Datum::Package(list)
 }
 
-#[tactic(auto, using(aml_meaning::proofs::Exports::exporting), unfolding(aml_meaning::specs::Exporting::text_exported))]
+#[tactic(auto, using(aml_meaning::proofs::Exports::exporting, crate::proofs::Lent::lent), unfolding(aml_meaning::specs::Exporting::text_exported))]
 fn text_exported<S: Space>(run: &Running<S>, object: u32) -> Result<Datum>
     ensures { Does (seen given.given_of result) run.now (text_exported object) run.now }
 {
-    let bytes = run.world.string(object)?;
+    let bytes = run.world.objects().string(run.world.alloc, object)?;
     Ok(Datum::Text(bytes))
 }
 
-#[tactic(auto, using(aml_meaning::proofs::Exports::exporting), unfolding(aml_meaning::specs::Exporting::bytes_exported))]
+#[tactic(auto, using(aml_meaning::proofs::Exports::exporting, crate::proofs::Lent::lent), unfolding(aml_meaning::specs::Exporting::bytes_exported))]
 fn bytes_exported<S: Space>(run: &Running<S>, object: u32) -> Result<Datum>
     ensures { Does (seen given.given_of result) run.now (bytes_exported object) run.now }
 {
-    let bytes = run.world.buffer(object)?;
+    let bytes = run.world.objects().buffer(run.world.alloc, object)?;
     Ok(Datum::Bytes(bytes))
 }
 
@@ -88,12 +85,13 @@ fn package_exported<S: Space>(run: &mut Running<S>, levels: usize, object: u32) 
 /// The elements are those that the package has when its turn comes. What the address of a field stores into it
 /// meanwhile doesn't show.
 #[cycle(exporting)]
-#[tactic(auto, using(aml_meaning::proofs::Exports::exporting), unfolding(aml_meaning::specs::Exporting::elements_exported))]
+#[tactic(auto, using(aml_meaning::proofs::Exports::exporting, crate::proofs::Lent::lent), unfolding(aml_meaning::specs::Exporting::elements_exported))]
 fn elements_exported<S: Space>(run: &mut Running<S>, levels: usize, object: u32) -> Result<Datum>
     ensures { Does (seen given.given_of result) run.new (elements_exported S.accesses
         (package_exported S.accesses levels) object) run.old }
 {
-    let elements = run.world.elements(object)?;
+    let alloc = run.world.alloc;
+    let elements = run.world.objects().elements(alloc, object)?;
     let list = each_exported(run, levels, elements.as_slice())?;
     Ok(package(list))
 }

@@ -12,7 +12,7 @@ use crate::bank_fields::bank_bits;
 use crate::bridges::bus_behind_all;
 use crate::index_fields::index_bits;
 use aml_evaluation::ask_integer;
-use aml_fields::{AddressSpace, Region};
+use aml_fields::{AddressSpace, Region, read_buffer_field, read_field, write_field};
 use aml_meaning::{
     Datum, RegionField, RegionSpace, Running, Sought, adr, base_bus, pci_space, segment_group,
     space_numbered,
@@ -51,7 +51,7 @@ pub(crate) fn field_given<S: Space>(
         .datum_of_bits(field.bits(), Octets::from_vec(bytes))
 }
 
-#[tactic(auto, using(aml_meaning::proofs::Runs::running))]
+#[tactic(auto, using(aml_meaning::proofs::Runs::running, crate::proofs::Lent::lent))]
 fn bits_in<S: Space>(run: &mut Running<S>, calls: usize, field: Field) -> Result<Vec<u8>>
     ensures { Does (seen (λ v. v.items) result) run.new (bits_in S.accesses
         (asking S.accesses (meaning S.accesses) calls) field) run.old }
@@ -62,12 +62,12 @@ fn bits_in<S: Space>(run: &mut Running<S>, calls: usize, field: Field) -> Result
             FieldSource::Index(index, behind) => { index_bits(run, calls, index, behind, unit) }
             FieldSource::Bank(region, bank) => bank_bits(run, calls, region, bank, unit),
         },
-        Field::Buffer(field) => run.world.read_buffer_field(field),
+        Field::Buffer(field) => read_buffer_field(run.world.alloc, run.world.objects(), field),
     }
 }
 
 /// The bits of a field of a region.
-#[tactic(auto, using(aml_meaning::proofs::Runs::running), unfolding(aml_meaning::specs::Fields::region_bits))]
+#[tactic(auto, using(aml_meaning::proofs::Runs::running, crate::proofs::Lent::lent), unfolding(aml_meaning::specs::Fields::region_bits))]
 pub(crate) fn region_bits<S: Space>(
     run: &mut Running<S>,
     calls: usize,
@@ -77,11 +77,11 @@ pub(crate) fn region_bits<S: Space>(
         (asking S.accesses (meaning S.accesses) calls) field) run.old }
 {
     let region = located(run, calls, field.region)?;
-    run.world.read_field(region, field.unit)
+    read_field(run.world.alloc, &mut run.world.space, region, field.unit)
 }
 
 /// Writes a field of a region.
-#[tactic(auto, using(aml_meaning::proofs::Runs::running), unfolding(aml_meaning::specs::Fields::region_written))]
+#[tactic(auto, using(aml_meaning::proofs::Runs::running, crate::proofs::Lent::lent), unfolding(aml_meaning::specs::Fields::region_written))]
 pub(crate) fn region_written<S: Space>(
     run: &mut Running<S>,
     calls: usize,
@@ -92,7 +92,7 @@ pub(crate) fn region_written<S: Space>(
         field bytes.now) run.old }
 {
     let region = located(run, calls, field.region)?;
-    run.world.write_field(region, field.unit, bytes)
+    write_field(&mut run.world.space, region, field.unit, bytes)
 }
 
 /// Where the region with the number of a declaration is; its address is asked for.

@@ -41,9 +41,8 @@ fn index_reads<S: Space>(
     behind: RegionField,
     field: FieldUnit,
 ) -> Result<Vec<u8>>
-    ensures { Does (seen (λ v. v.items) result) run.new (bits_read
-        (index_unit S.accesses (asking S.accesses (meaning S.accesses) calls) index behind field.access) field)
-        run.old }
+    ensures { Does (seen (λ v. v.items) result) run.new (bits_read (index_unit S.accesses (asking S.accesses (meaning
+        S.accesses) calls) index behind field.access) field) run.old }
 {
     let mut bits = vec![in run.world.alloc; 0; bytes_for(field.bits as usize)]?;
     for unit in units(field.bit_offset, field.bits, field.access) {

@@ -1,5 +1,5 @@
 -- A change of a part of the world is a change of the world.
-use Rattle.std.specs.Prelude.{◌≡◌, ℕ, List, Bool, true, false, Ok, Err, IsErr, IsErrAnd}
+use Rattle.std.specs.Prelude.{◌≡◌, ℕ, List, Bool, true, false, Ok, Err, IsErr, IsErrAnd, nat_lt}
 use Rattle.std.proofs.Common.{ap, refl, subst, sym, ◌∙◌}
 use Rattle.ar_space.specs.declared.integer_width.IntegerWidth.{IntegerWidth}
 use Rattle.ar_space.specs.Outcome.{Outcome}
@@ -8,13 +8,16 @@ use Rattle.ar_space.specs.Change.{Change, Does, give, ◌>>=◌}
 use Rattle.ar_space.proofs.Changes.{does_ok, does_err, does_give, changing}
 use Rattle.aml_path.specs.declared.segment.Seg.{Seg}
 use Rattle.aml_grammar.specs.declared.arities.Arity.{Arity}
-use Rattle.aml_objects.specs.Objects.{Objects}
+use Rattle.aml_convert.specs.Integers.{bits_of}
+use Rattle.aml_objects.specs.Objects.{Objects, make_buffer}
+use Rattle.aml_objects.specs.declared.value.Value.{Value}
 use Rattle.aml_namespace.specs.Namespace.{Namespace}
 use Rattle.aml_meaning.specs.declared.frame.Frame.{Frame}
 use Rattle.aml_meaning.specs.declared.profile.Profile.{Profile}
 use Rattle.aml_meaning.specs.declared.settings.Nesting.{Nesting}
 use Rattle.aml_meaning.specs.PassedOver.{PassedOver, is_passable}
 use Rattle.aml_meaning.specs.Passing.{noted, passed_noted, passed_over}
+use Rattle.aml_meaning.specs.Regions.{value_of_bits}
 use Rattle.aml_meaning.specs.State.{State, on_objects, on_names, on_space}
 use Rattle.aml_meaning.specs.Known.{Known, on_known}
 
@@ -72,12 +75,24 @@ module _ {S A B : Type 0} (n : Namespace) (a : List Arity) (o o1 : Objects) (f :
       → Does (Ok y) (record { names = n; arities = a; objects = o1; frames = f; started = s; space = p; osi = i; width = d; profile = g; nesting = z; passed = q }) (on_objects m >>= k) w
   written_last h e t = does_ok (on_objects m) k (objects_changed n a o o1 f s p i d g z q m w e h) (given t)
 
+  pub written_ok : {x : A} {r : Outcome B} {w1 : State S} → Does (Ok x) o1 m o → record { names = n; arities = a; objects = o; frames = f; started = s; space = p; osi = i; width = d; profile = g; nesting = z; passed = q } ≡ w
+      → Does r w1 (k x) (record { names = n; arities = a; objects = o1; frames = f; started = s; space = p; osi = i; width = d; profile = g; nesting = z; passed = q }) → Does r w1 (on_objects m >>= k) w
+  written_ok h e t = does_ok (on_objects m) k (objects_changed n a o o1 f s p i d g z q m w e h) t
+
   pub written_err : {x : Refusal} {r : Outcome B} → Does {A = A} (Err x) o1 m o → record { names = n; arities = a; objects = o; frames = f; started = s; space = p; osi = i; width = d; profile = g; nesting = z; passed = q } ≡ w → IsErr r × IsErrAnd r (λ y. y ≡ x)
       → Does r (record { names = n; arities = a; objects = o1; frames = f; started = s; space = p; osi = i; width = d; profile = g; nesting = z; passed = q }) (on_objects m >>= k) w
   written_err h e t = does_err (on_objects m) k (objects_changed n a o o1 f s p i d g z q m w e h) t
 
 -- these close a chain of `?` that writes objects at its end
 pub ruleset writing = (reading, written_last, written_err)
+
+-- these close one that makes an object at its end
+pub ruleset making = (changing, objects_changed)
+
+-- more bits than an integer has are a new buffer
+pub wide_bits : {S : Type 0} {r : Outcome Value} {w1 : State S} (v w : State S) (count : ℕ) (bytes : List ℕ) → v ≡ w → nat_lt (bits_of v.width) count ≡ true → Does r w1 (on_objects (make_buffer bytes)) v → Does r w1 (value_of_bits count bytes) w
+unfolding value_of_bits
+wide_bits {r = r} {w1 = w1} v w count bytes same wide h = subst (λ (s : State _). Does r w1 (value_of_bits count bytes) s) same (record { is = λ ne. rw wide (h.is ne) })
 
 pub ruleset parts = (objects_changed, objects_read, known_changed, space_changed)
 

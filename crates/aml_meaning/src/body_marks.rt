@@ -97,11 +97,7 @@ impl ScannedBody {
     /// What is kept of a scan: shares of the body and of its marks. It is refused as `OutOfMemory` where no more shares
     /// can be counted.
     fn shared(levels: usize, body: &Body, marks: &Marks) -> Result<ScannedBody>
-        ensures { Answers result (Ok (record {
-          body = body.now;
-          levels = levels;
-          marks = marks.now;
-        })) }
+        ensures { Answers result (Ok (record { body = body.now; levels = levels; marks = marks.now })) }
     {
         Ok(ScannedBody {
             body: body.share()?,

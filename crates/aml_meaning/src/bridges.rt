@@ -3,14 +3,13 @@
 ghost use Rattle.std.specs.Prelude.{◌≡◌, ◌≤◌, Some, IfOk, IfErr, OnOk, length, take};
 ghost use Rattle.ar_space.specs.declared.refusal.Refusal.TheVariants.{OutOfMemory};
 ghost use Rattle.ar_space.specs.declared.space.Width.TheVariants.{W8};
-ghost use Rattle.ar_space.specs.Change.{Does};
-ghost use Rattle.ar_space.specs.Outcome.{Answers, NotMemory, seen};
+ghost use Rattle.ar_space.specs.Change.{Does, DoesInPlace};
+ghost use Rattle.ar_space.specs.Outcome.{AnswersInPlace, seen};
 ghost use Rattle.aml_fields.specs.Regions.{read_access};
 ghost use Rattle.aml_namespace.specs.Namespace.{numbered};
 ghost use Rattle.aml_namespace.specs.Search.{Found};
 ghost use Rattle.aml_meaning.specs.Bridges.{with_scope, bridges_to, bridges_above, header_of, bridge_header};
 ghost use Rattle.aml_meaning.specs.Bridges.{header_byte, secondary_bus};
-ghost use Rattle.aml_meaning.specs.State.{on_space};
 
 use crate::pci_functions::{base_bus, has, is_bridge};
 use crate::regions::pci_space;
@@ -37,18 +36,6 @@ impl<S> WorldState<S> {
         ensures { Does (seen (λ v. v.items) result) self.now (bridges_above device.now) self.now }
     {
         bridges_to(self.alloc, self.names(), device)
-    }
-}
-
-impl<S: Space> WorldState<S> {
-    /// The bus behind the bridge at a segment group, bus and address (device in the high word, function in the low
-    /// one). An address that is out of range is refused as `RegionLimit`, a function that is no bridge as `DeepPci`.
-    #[tactic(auto, using(crate::proofs::Lifted::parts))]
-    pub fn secondary_bus(&mut self, segment: u64, bus: u64, address: u64) -> Result<u64>
-        ensures change { Does result self.new (on_space (secondary_bus S.accesses segment bus address)) self.old }
-        ensures memory { NotMemory result }
-    {
-        secondary_bus(&mut self.space, segment, bus, address)
     }
 }
 
@@ -99,11 +86,11 @@ fn pass_scope(
     Ok(())
 }
 
-/// The bus behind a bridge.
+/// The bus behind the bridge at a segment group, bus and address (device in the high word, function in the low
+/// one). An address that is out of range is refused as `RegionLimit`, a function that is no bridge as `DeepPci`.
 #[tactic(auto, using(ar_space::proofs::Changes::changing), unfolding(crate::specs::Bridges::secondary_bus))]
-fn secondary_bus<S: Space>(space: &mut S, segment: u64, bus: u64, address: u64) -> Result<u64>
-    ensures change { Does result space.new (secondary_bus S.accesses segment bus address) space.old }
-    ensures memory { NotMemory result }
+pub fn secondary_bus<S: Space>(space: &mut S, segment: u64, bus: u64, address: u64) -> Result<u64>
+    ensures { DoesInPlace result space.new (secondary_bus S.accesses segment bus address) space.old }
 {
     let function = pci_space(segment, bus, address)?;
     let kind = header_byte(space, function, HEADER_TYPE)?;
@@ -114,8 +101,7 @@ fn secondary_bus<S: Space>(space: &mut S, segment: u64, bus: u64, address: u64) 
 /// The byte at an offset in the configuration header of a function.
 #[tactic(auto, using(ar_space::proofs::Changes::changing), unfolding(aml_fields::specs::Regions::read_unit))]
 fn header_byte<S: Space>(space: &mut S, function: AddressSpace, at: u64) -> Result<u64>
-    ensures change { Does result space.new (header_byte S.accesses function at) space.old }
-    ensures memory { NotMemory result }
+    ensures { DoesInPlace result space.new (header_byte S.accesses function at) space.old }
 {
     let place = header_of(function).place(Width::W8, at)?;
     read_byte(space, place)
@@ -135,8 +121,7 @@ fn header_of(function: AddressSpace) -> Region
 /// One access that reads a byte.
 #[tactic(auto, unfolding(aml_fields::specs::Regions::read_access))]
 fn read_byte<S: Space>(space: &mut S, place: Place) -> Result<u64>
-    ensures change { Does result space.new (read_access S.accesses place W8) space.old }
-    ensures memory { NotMemory result }
+    ensures { DoesInPlace result space.new (read_access S.accesses place W8) space.old }
 {
     match space.read(place, Width::W8) {
         Ok(value) => Ok(value),
@@ -146,8 +131,7 @@ fn read_byte<S: Space>(space: &mut S, place: Place) -> Result<u64>
 
 /// Whether a header type is that of a bridge; another one is refused as `DeepPci`.
 fn bridge_header(kind: u64) -> Result<()>
-    ensures answer { Answers result (bridge_header kind) }
-    ensures memory { NotMemory result }
+    ensures { AnswersInPlace result (bridge_header kind) }
 {
     let layout = kind % 128;
     if layout == 1 || layout == 2 {

@@ -1,7 +1,7 @@
 //! Declarations in the world's namespace (ACPI 6.5, 5.3 and 19.6).
 ghost use Rattle.std.specs.Prelude.{◌≡◌, OnErr};
+ghost use Rattle.ar_space.specs.Outcome.{AnswersInPlace};
 ghost use Rattle.ar_space.specs.Change.{Does};
-ghost use Rattle.ar_space.specs.Outcome.{Answers, NotMemory};
 ghost use Rattle.aml_namespace.specs.Namespace.{declared, without_below};
 ghost use Rattle.aml_meaning.specs.State.{on_names};
 ghost use Rattle.aml_meaning.specs.Declaring.{not_in_method, no_method, new_name, new_method};
@@ -81,8 +81,7 @@ impl<S> WorldState<S> {
 }
 
 fn no_method(object: &NamedObject) -> Result<()>
-    ensures answer { Answers result (no_method object.now) }
-    ensures memory { NotMemory result }
+    ensures { AnswersInPlace result (no_method object.now) }
 {
     match object {
         NamedObject::Method(_) => Err(Refusal::Namespace(NamespaceFault::NotFound)),

@@ -1,8 +1,8 @@
 //! What references refer to, one step on, and references to what targets name (ACPI 6.5, 19.6: DerefOf, RefOf,
 //! CondRefOf).
 ghost use Rattle.std.specs.Prelude.{◌≡◌, option_map};
-ghost use Rattle.ar_space.specs.Change.{Does};
-ghost use Rattle.ar_space.specs.Outcome.{Answers, NotMemory, seen};
+ghost use Rattle.ar_space.specs.Change.{DoesInPlace};
+ghost use Rattle.ar_space.specs.Outcome.{AnswersInPlace, seen};
 ghost use Rattle.aml_namespace.specs.Search.{found};
 ghost use Rattle.aml_meaning.specs.StoreTargets.{name_tested, frame_tested, byte_tested, tested, once, declared_once};
 ghost use Rattle.aml_meaning.specs.StoreTargets.{value_once, slot_once, named_once, name_once, element_once, held_once};
@@ -26,8 +26,7 @@ impl<S> WorldState<S> {
     /// `DeadReference`.
     #[tactic(auto, using(crate::proofs::Lifted::reading))]
     pub fn test_reference(&self, reference: Reference) -> Result<()>
-        ensures answer { Does result self.now (tested reference) self.now }
-        ensures memory { NotMemory result }
+        ensures { DoesInPlace result self.now (tested reference) self.now }
     {
         match reference {
             Reference::Name(number) => self.test_name(number),
@@ -39,8 +38,7 @@ impl<S> WorldState<S> {
 
     #[tactic(auto, using(ar_space::proofs::Changes::changing, crate::proofs::Declared::declared), unfolding(crate::specs::StoreTargets::name_tested))]
     pub(crate) fn test_name(&self, number: u64) -> Result<()>
-        ensures answer { Does result self.now (name_tested number) self.now }
-        ensures memory { NotMemory result }
+        ensures { DoesInPlace result self.now (name_tested number) self.now }
     {
         self.declaration(number)?;
         Ok(())
@@ -48,8 +46,7 @@ impl<S> WorldState<S> {
 
     #[tactic(auto, using(ar_space::proofs::Changes::changing), unfolding(crate::specs::StoreTargets::frame_tested))]
     fn test_frame(&self, number: u64) -> Result<()>
-        ensures answer { Does result self.now (frame_tested number) self.now }
-        ensures memory { NotMemory result }
+        ensures { DoesInPlace result self.now (frame_tested number) self.now }
     {
         self.frame_found(number)?;
         Ok(())
@@ -57,8 +54,7 @@ impl<S> WorldState<S> {
 
     #[tactic(auto, using(crate::proofs::Lifted::reading), unfolding(crate::specs::StoreTargets::byte_tested))]
     fn test_byte(&self, object: u32, index: usize) -> Result<()>
-        ensures answer { Does result self.now (byte_tested object index) self.now }
-        ensures memory { NotMemory result }
+        ensures { DoesInPlace result self.now (byte_tested object index) self.now }
     {
         self.objects().byte(object, index)?;
         Ok(())
@@ -69,8 +65,7 @@ impl<S> WorldState<S> {
     /// `NoValue`, and a name in a package that isn't found as `NotFound`.
     #[tactic(auto, using(ar_space::proofs::Changes::changing))]
     pub fn dereference(&self, reference: Reference) -> Result<Held>
-        ensures answer { Does result self.now (dereferenced reference) self.now }
-        ensures memory { NotMemory result }
+        ensures { DoesInPlace result self.now (dereferenced reference) self.now }
     {
         match reference {
             Reference::Name(number) => self.declared_once(number),
@@ -82,8 +77,7 @@ impl<S> WorldState<S> {
 
     #[tactic(auto, using(ar_space::proofs::Changes::changing, crate::proofs::Declared::declared), unfolding(crate::specs::StoreTargets::declared_once))]
     fn declared_once(&self, number: u64) -> Result<Held>
-        ensures answer { Does result self.now (declared_once number) self.now }
-        ensures memory { NotMemory result }
+        ensures { DoesInPlace result self.now (declared_once number) self.now }
     {
         let entry = self.declaration(number)?;
         Ok(once(number, &entry.object))
@@ -91,8 +85,7 @@ impl<S> WorldState<S> {
 
     #[tactic(auto, using(ar_space::proofs::Changes::changing), unfolding(crate::specs::StoreTargets::value_once))]
     fn value_once(&self, value: Value) -> Result<Held>
-        ensures answer { Does result self.now (value_once value) self.now }
-        ensures memory { NotMemory result }
+        ensures { DoesInPlace result self.now (value_once value) self.now }
     {
         let value = initialized(value)?;
         Ok(Held::Value(value))
@@ -100,8 +93,7 @@ impl<S> WorldState<S> {
 
     #[tactic(auto, using(ar_space::proofs::Changes::changing), unfolding(crate::specs::StoreTargets::slot_once))]
     fn slot_once(&self, number: u64, slot: Slot) -> Result<Held>
-        ensures answer { Does result self.now (slot_once number slot) self.now }
-        ensures memory { NotMemory result }
+        ensures { DoesInPlace result self.now (slot_once number slot) self.now }
     {
         let index = self.frame_found(number)?;
         let value = self.slot_held(index, slot)?;
@@ -110,8 +102,7 @@ impl<S> WorldState<S> {
 
     #[tactic(auto, using(crate::proofs::Lifted::reading), unfolding(crate::specs::StoreTargets::held_once))]
     fn held_once(&self, object: u32, index: usize) -> Result<Held>
-        ensures answer { Does result self.now (held_once object index) self.now }
-        ensures memory { NotMemory result }
+        ensures { DoesInPlace result self.now (held_once object index) self.now }
     {
         let element = self.objects().element(object, index)?;
         self.element_once(element)
@@ -119,8 +110,7 @@ impl<S> WorldState<S> {
 
     #[tactic(auto, using(ar_space::proofs::Changes::changing))]
     fn element_once(&self, element: &Element) -> Result<Held>
-        ensures answer { Does result self.now (element_once element.now) self.now }
-        ensures memory { NotMemory result }
+        ensures { DoesInPlace result self.now (element_once element.now) self.now }
     {
         match element {
             Element::Value(value) => self.value_once(*value),
@@ -130,8 +120,7 @@ impl<S> WorldState<S> {
 
     #[tactic(auto, using(ar_space::proofs::Changes::changing), unfolding(crate::specs::StoreTargets::name_once))]
     fn name_once(&self, name: &NameString, scope: &Path) -> Result<Held>
-        ensures answer { Does result self.now (name_once name.now scope.now) self.now }
-        ensures memory { NotMemory result }
+        ensures { DoesInPlace result self.now (name_once name.now scope.now) self.now }
     {
         let entry = self.entry(scope, name)?;
         Ok(named_once(entry.number, &entry.object))
@@ -139,8 +128,7 @@ impl<S> WorldState<S> {
 
     #[tactic(auto, using(crate::proofs::Lifted::reading), unfolding(crate::specs::StoreTargets::byte_once))]
     fn byte_once(&self, object: u32, index: usize) -> Result<Held>
-        ensures answer { Does result self.now (byte_once object index) self.now }
-        ensures memory { NotMemory result }
+        ensures { DoesInPlace result self.now (byte_once object index) self.now }
     {
         let byte = self.objects().byte(object, index)?;
         Ok(Held::Value(Value::Integer(u64::from(byte))))
@@ -149,8 +137,7 @@ impl<S> WorldState<S> {
     /// A reference to what a target names; Debug has none, which is refused as `WrongType`.
     #[tactic(auto, using(ar_space::proofs::Changes::changing))]
     pub fn reference_of(&self, target: &StoreTarget) -> Result<Reference>
-        ensures answer { Does result self.now (reference_of target.now) self.now }
-        ensures memory { NotMemory result }
+        ensures { DoesInPlace result self.now (reference_of target.now) self.now }
     {
         match target {
             StoreTarget::Nowhere => Err(Refusal::Value(ValueFault::WrongType)),
@@ -162,8 +149,7 @@ impl<S> WorldState<S> {
 
     #[tactic(auto, using(ar_space::proofs::Changes::changing), unfolding(crate::specs::StoreTargets::slot_reference))]
     fn slot_reference(&self, slot: Slot) -> Result<Reference>
-        ensures answer { Does result self.now (slot_reference slot) self.now }
-        ensures memory { NotMemory result }
+        ensures { DoesInPlace result self.now (slot_reference slot) self.now }
     {
         let index = self.latest_frame()?;
         let number = self.frame_number(index)?;
@@ -173,8 +159,7 @@ impl<S> WorldState<S> {
     /// The number of the frame at an index.
     #[tactic(auto, unfolding(crate::specs::StoreTargets::frame_number))]
     fn frame_number(&self, index: usize) -> Result<u64>
-        ensures answer { Does result self.now (frame_number index) self.now }
-        ensures memory { NotMemory result }
+        ensures { DoesInPlace result self.now (frame_number index) self.now }
     {
         match self.frames.get(index) {
             None => Err(Refusal::Evaluation(EvaluationFault::DeadReference)),
@@ -184,8 +169,7 @@ impl<S> WorldState<S> {
 
     #[tactic(auto, using(ar_space::proofs::Changes::changing), unfolding(crate::specs::StoreTargets::name_reference))]
     fn name_reference(&self, path: &Located) -> Result<Reference>
-        ensures answer { Does result self.now (name_reference path.now) self.now }
-        ensures memory { NotMemory result }
+        ensures { DoesInPlace result self.now (name_reference path.now) self.now }
     {
         let number = self.declared_number(path)?;
         Ok(Reference::Name(number))
@@ -194,8 +178,7 @@ impl<S> WorldState<S> {
     /// The number of the declaration at a path.
     #[tactic(auto, unfolding(crate::specs::StoreTargets::declared_number))]
     pub(crate) fn declared_number(&self, path: &Located) -> Result<u64>
-        ensures answer { Does result self.now (declared_number path.now) self.now }
-        ensures memory { NotMemory result }
+        ensures { DoesInPlace result self.now (declared_number path.now) self.now }
     {
         match self.names().get_located(path) {
             None => Err(Refusal::Namespace(NamespaceFault::NotFound)),
@@ -207,8 +190,7 @@ impl<S> WorldState<S> {
     /// where what it refers to is gone.
     #[tactic(auto, using(ar_space::proofs::Changes::changing))]
     pub fn if_initialized(&self, reference: Reference) -> Result<Option<Reference>>
-        ensures answer { Does result self.now (if_initialized reference) self.now }
-        ensures memory { NotMemory result }
+        ensures { DoesInPlace result self.now (if_initialized reference) self.now }
     {
         match reference {
             Reference::Name(number) => Ok(Some(Reference::Name(number))),
@@ -220,8 +202,7 @@ impl<S> WorldState<S> {
 
     #[tactic(auto, using(ar_space::proofs::Changes::changing), unfolding(crate::specs::StoreTargets::slot_initialized))]
     fn slot_initialized(&self, number: u64, slot: Slot) -> Result<Option<Reference>>
-        ensures answer { Does result self.now (slot_initialized number slot) self.now }
-        ensures memory { NotMemory result }
+        ensures { DoesInPlace result self.now (slot_initialized number slot) self.now }
     {
         let index = self.frame_found(number)?;
         let value = self.slot_held(index, slot)?;
@@ -230,8 +211,7 @@ impl<S> WorldState<S> {
 
     #[tactic(auto, using(crate::proofs::Lifted::reading), unfolding(crate::specs::StoreTargets::element_initialized))]
     fn element_initialized(&self, object: u32, index: usize) -> Result<Option<Reference>>
-        ensures answer { Does result self.now (element_initialized object index) self.now }
-        ensures memory { NotMemory result }
+        ensures { DoesInPlace result self.now (element_initialized object index) self.now }
     {
         let element = self.objects().element(object, index)?;
         Ok(unless_empty_element(element, Reference::Element(object, index)))
@@ -244,8 +224,7 @@ impl<S> WorldState<S> {
         scope: Scope<'_>,
         name: &NameString,
     ) -> Result<Option<Reference>>
-        ensures answer { Does result self.now (reference_if_found scope.entry.path.now name.now) self.now }
-        ensures memory { NotMemory result }
+        ensures { DoesInPlace result self.now (reference_if_found scope.entry.path.now name.now) self.now }
     {
         match self.names().lookup_in(scope, name) {
             Ok(entry) => Ok(Some(Reference::Name(entry.number))),
@@ -257,8 +236,7 @@ impl<S> WorldState<S> {
 
 /// The reference that a value is; any other value is refused as `WrongType`.
 pub fn reference_in(value: Value) -> Result<Reference>
-    ensures answer { Answers result (reference_in value) }
-    ensures memory { NotMemory result }
+    ensures { AnswersInPlace result (reference_in value) }
 {
     match value {
         Value::Reference(reference) => Ok(reference),

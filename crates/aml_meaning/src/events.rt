@@ -1,7 +1,7 @@
 //! Events (ACPI 6.5, 19.6: Signal, Reset, Wait). The signals that no Wait has taken are counted; nobody else signals.
 ghost use Rattle.std.specs.Prelude.{◌≡◌};
-ghost use Rattle.ar_space.specs.Change.{Does};
-ghost use Rattle.ar_space.specs.Outcome.{Answers, NotMemory};
+ghost use Rattle.ar_space.specs.Change.{DoesInPlace};
+ghost use Rattle.ar_space.specs.Outcome.{AnswersInPlace};
 ghost use Rattle.aml_meaning.specs.Events.{name_referred, named_by_reference, named_by_value, named_by_argument};
 ghost use Rattle.aml_meaning.specs.Events.{named_by_slot, name_at, event_named, named_or_not, signals_of};
 ghost use Rattle.aml_meaning.specs.Events.{signals_under, put_signals, signals_after, event_changed};
@@ -21,8 +21,7 @@ impl<S> WorldState<S> {
     /// as `DeadReference`.
     #[tactic(auto, using(ar_space::proofs::Changes::changing))]
     pub fn event_named(&self, target: &StoreTarget) -> Result<Option<u64>>
-        ensures answer { Does result self.now (event_named target.now) self.now }
-        ensures memory { NotMemory result }
+        ensures { DoesInPlace result self.now (event_named target.now) self.now }
     {
         match target {
             StoreTarget::Nowhere => Ok(None),
@@ -36,8 +35,7 @@ impl<S> WorldState<S> {
     /// `WrongType`, one that is gone as `DeadReference`, and a signal more than 2^64 - 1 as `ObjectLimit`.
     #[tactic(auto, using(ar_space::proofs::Changes::changing), unfolding(crate::specs::Events::event_changed))]
     pub fn change_event(&mut self, change: EventChange, event: Option<u64>) -> Result<()>
-        ensures change { Does result self.new (event_changed change event) self.old }
-        ensures memory { NotMemory result }
+        ensures { DoesInPlace result self.new (event_changed change event) self.old }
     {
         let number = named_or_not(event)?;
         let count = self.signals_under(number)?;
@@ -49,8 +47,7 @@ impl<S> WorldState<S> {
     /// is no event as `WrongType`, one that is gone as `DeadReference`, and then a timeout that is no integer.
     #[tactic(auto, using(ar_space::proofs::Changes::changing), unfolding(crate::specs::Events::waited))]
     pub fn wait(&mut self, event: Option<u64>, timeout: Value) -> Result<Value>
-        ensures change { Does result self.new (waited event timeout) self.old }
-        ensures memory { NotMemory result }
+        ensures { DoesInPlace result self.new (waited event timeout) self.old }
     {
         let number = named_or_not(event)?;
         let count = self.signals_under(number)?;
@@ -60,8 +57,7 @@ impl<S> WorldState<S> {
 
     #[tactic(auto, using(ar_space::proofs::Changes::changing))]
     fn named_by_slot(&self, slot: Slot) -> Result<Option<u64>>
-        ensures answer { Does result self.now (named_by_slot slot) self.now }
-        ensures memory { NotMemory result }
+        ensures { DoesInPlace result self.now (named_by_slot slot) self.now }
     {
         match slot {
             Slot::Local(_) => Ok(None),
@@ -71,8 +67,7 @@ impl<S> WorldState<S> {
 
     #[tactic(auto, using(ar_space::proofs::Changes::changing), unfolding(crate::specs::Events::named_by_argument))]
     fn named_by_argument(&self, index: u8) -> Result<Option<u64>>
-        ensures answer { Does result self.now (named_by_argument index) self.now }
-        ensures memory { NotMemory result }
+        ensures { DoesInPlace result self.now (named_by_argument index) self.now }
     {
         let value = self.own_slot(Slot::Argument(index))?;
         self.named_by_value(value)
@@ -80,8 +75,7 @@ impl<S> WorldState<S> {
 
     #[tactic(auto, using(ar_space::proofs::Changes::changing))]
     fn named_by_value(&self, value: Value) -> Result<Option<u64>>
-        ensures answer { Does result self.now (named_by_value value) self.now }
-        ensures memory { NotMemory result }
+        ensures { DoesInPlace result self.now (named_by_value value) self.now }
     {
         match value {
             Value::Reference(reference) => self.named_by_reference(reference),
@@ -95,8 +89,7 @@ impl<S> WorldState<S> {
 
     #[tactic(auto, using(ar_space::proofs::Changes::changing))]
     fn named_by_reference(&self, reference: Reference) -> Result<Option<u64>>
-        ensures answer { Does result self.now (named_by_reference reference) self.now }
-        ensures memory { NotMemory result }
+        ensures { DoesInPlace result self.now (named_by_reference reference) self.now }
     {
         match reference {
             Reference::Name(number) => self.name_referred(number),
@@ -106,8 +99,7 @@ impl<S> WorldState<S> {
 
     #[tactic(auto, using(ar_space::proofs::Changes::changing), unfolding(crate::specs::Events::name_referred))]
     fn name_referred(&self, number: u64) -> Result<Option<u64>>
-        ensures answer { Does result self.now (name_referred number) self.now }
-        ensures memory { NotMemory result }
+        ensures { DoesInPlace result self.now (name_referred number) self.now }
     {
         self.test_name(number)?;
         Ok(Some(number))
@@ -115,8 +107,7 @@ impl<S> WorldState<S> {
 
     #[tactic(auto, using(ar_space::proofs::Changes::changing), unfolding(crate::specs::Events::name_at))]
     fn name_at(&self, path: &Located) -> Result<Option<u64>>
-        ensures answer { Does result self.now (name_at path.now) self.now }
-        ensures memory { NotMemory result }
+        ensures { DoesInPlace result self.now (name_at path.now) self.now }
     {
         let number = self.declared_number(path)?;
         Ok(Some(number))
@@ -125,8 +116,7 @@ impl<S> WorldState<S> {
     /// How many signals the event under a number has.
     #[tactic(auto, using(ar_space::proofs::Changes::changing, crate::proofs::Declared::declared), unfolding(crate::specs::Events::signals_under))]
     fn signals_under(&self, number: u64) -> Result<u64>
-        ensures answer { Does result self.now (signals_under number) self.now }
-        ensures memory { NotMemory result }
+        ensures { DoesInPlace result self.now (signals_under number) self.now }
     {
         let entry = self.declaration(number)?;
         signals_of(&entry.object)
@@ -135,8 +125,7 @@ impl<S> WorldState<S> {
     /// Puts so many signals to the event under a number. It takes no memory.
     #[tactic(auto, using(ar_space::proofs::Changes::changing, crate::proofs::Declared::declared), unfolding(crate::specs::Events::put_signals))]
     fn put_signals(&mut self, number: u64, count: u64) -> Result<()>
-        ensures change { Does result self.new (put_signals number count) self.old }
-        ensures memory { NotMemory result }
+        ensures { DoesInPlace result self.new (put_signals number count) self.old }
     {
         self.declaration(number)?;
         self.declarations
@@ -146,8 +135,7 @@ impl<S> WorldState<S> {
 
     #[tactic(auto, using(ar_space::proofs::Changes::changing))]
     fn take_signal(&mut self, number: u64, count: u64) -> Result<Value>
-        ensures change { Does result self.new (taken_or_not number count) self.old }
-        ensures memory { NotMemory result }
+        ensures { DoesInPlace result self.new (taken_or_not number count) self.old }
     {
         if count == 0 {
             return self.integer_kept(u64::MAX);
@@ -157,8 +145,7 @@ impl<S> WorldState<S> {
 
     #[tactic(auto, using(ar_space::proofs::Changes::changing), unfolding(crate::specs::Events::signal_taken))]
     fn signal_taken(&mut self, number: u64, fewer: u64) -> Result<Value>
-        ensures change { Does result self.new (signal_taken number fewer) self.old }
-        ensures memory { NotMemory result }
+        ensures { DoesInPlace result self.new (signal_taken number fewer) self.old }
     {
         self.put_signals(number, fewer)?;
         Ok(Value::Integer(0))
@@ -167,8 +154,7 @@ impl<S> WorldState<S> {
 
 /// The number of what is named, if anything is.
 fn named_or_not(event: Option<u64>) -> Result<u64>
-    ensures answer { Answers result (named_or_not event) }
-    ensures memory { NotMemory result }
+    ensures { AnswersInPlace result (named_or_not event) }
 {
     match event {
         None => Err(Refusal::Value(ValueFault::WrongType)),
@@ -178,8 +164,7 @@ fn named_or_not(event: Option<u64>) -> Result<u64>
 
 /// How many signals an event has.
 fn signals_of(object: &NamedObject) -> Result<u64>
-    ensures answer { Answers result (signals_of object.now) }
-    ensures memory { NotMemory result }
+    ensures { AnswersInPlace result (signals_of object.now) }
 {
     match object {
         NamedObject::Event(count) => Ok(*count),
@@ -189,8 +174,7 @@ fn signals_of(object: &NamedObject) -> Result<u64>
 
 /// How many signals an event has after a change.
 fn signals_after(change: EventChange, count: u64) -> Result<u64>
-    ensures answer { Answers result (signals_after change count) }
-    ensures memory { NotMemory result }
+    ensures { AnswersInPlace result (signals_after change count) }
 {
     match change {
         EventChange::Signal => once_more(count),

@@ -1,7 +1,7 @@
 //! Declarations of fields (ACPI 6.5, 19.6: Field, IndexField, BankField; 20.2.5.2: FieldFlags, FieldList).
 ghost use Rattle.std.specs.Prelude.{◌≡◌};
-ghost use Rattle.ar_space.specs.Change.{Does};
-ghost use Rattle.ar_space.specs.Outcome.{Answers, NotMemory};
+ghost use Rattle.ar_space.specs.Outcome.{AnswersInPlace};
+ghost use Rattle.ar_space.specs.Change.{Does, DoesInPlace};
 ghost use Rattle.aml_meaning.specs.FieldTerms.{width_numbered, access_width, rule_numbered, update_rule, sized};
 ghost use Rattle.aml_meaning.specs.FieldTerms.{further, new_field, region_number, region_found, in_region};
 ghost use Rattle.aml_meaning.specs.FieldTerms.{field_number, field_found, connection_buffer, connection_found};
@@ -34,8 +34,7 @@ pub struct FieldLayout {
 impl FieldLayout {
     /// So many bits further on; an offset of 2^64 and more is refused as `FieldLimit`.
     pub fn further(self, count: u64) -> Result<FieldLayout>
-        ensures answer { Answers result (further self count) }
-        ensures memory { NotMemory result }
+        ensures { AnswersInPlace result (further self count) }
     {
         match self.bit_offset.checked_add(count) {
             Some(bit_offset) => Ok(FieldLayout {
@@ -120,8 +119,7 @@ impl<S> WorldState<S> {
     /// `WrongType`, and a name that isn't found as `Names::lookup` refuses it.
     #[tactic(auto, using(ar_space::proofs::Changes::changing), unfolding(crate::specs::FieldTerms::region_found))]
     pub fn region_found(&self, scope: Scope<'_>, name: &NameString) -> Result<u64>
-        ensures answer { Does result self.now (region_found scope.entry.path.now name.now) self.now }
-        ensures memory { NotMemory result }
+        ensures { DoesInPlace result self.now (region_found scope.entry.path.now name.now) self.now }
     {
         let entry = self.entry_in(scope, name)?;
         region_number(entry.number, &entry.object)
@@ -131,8 +129,7 @@ impl<S> WorldState<S> {
     /// as `WrongType`, and a name that isn't found as `Names::lookup` refuses it.
     #[tactic(auto, using(ar_space::proofs::Changes::changing), unfolding(crate::specs::FieldTerms::field_found))]
     pub fn field_found(&self, scope: Scope<'_>, name: &NameString) -> Result<u64>
-        ensures answer { Does result self.now (field_found scope.entry.path.now name.now) self.now }
-        ensures memory { NotMemory result }
+        ensures { DoesInPlace result self.now (field_found scope.entry.path.now name.now) self.now }
     {
         let entry = self.entry_in(scope, name)?;
         field_number(entry.number, &entry.object)
@@ -142,8 +139,7 @@ impl<S> WorldState<S> {
     /// found as `Names::lookup` refuses it.
     #[tactic(auto, using(ar_space::proofs::Changes::changing), unfolding(crate::specs::FieldTerms::connection_found))]
     pub fn connection_found(&self, scope: Scope<'_>, name: &NameString) -> Result<u32>
-        ensures answer { Does result self.now (connection_found scope.entry.path.now name.now) self.now }
-        ensures memory { NotMemory result }
+        ensures { DoesInPlace result self.now (connection_found scope.entry.path.now name.now) self.now }
     {
         let entry = self.entry_in(scope, name)?;
         connection_buffer(&entry.object)
@@ -152,8 +148,7 @@ impl<S> WorldState<S> {
 
 /// How many bits a named field has: 1 to 8,388,608; any other number is refused as `FieldLimit`.
 pub fn field_size(count: u64) -> Result<u32>
-    ensures answer { Answers result (sized count) }
-    ensures memory { NotMemory result }
+    ensures { AnswersInPlace result (sized count) }
 {
     if count == 0 || MAX_BITS < count {
         Err(Refusal::Field(FieldFault::FieldLimit))
@@ -163,8 +158,7 @@ pub fn field_size(count: u64) -> Result<u32>
 }
 
 fn region_number(number: u64, object: &NamedObject) -> Result<u64>
-    ensures answer { Answers result (region_number number object.now) }
-    ensures memory { NotMemory result }
+    ensures { AnswersInPlace result (region_number number object.now) }
 {
     match object {
         NamedObject::OperationRegion(_) => Ok(number),
@@ -173,8 +167,7 @@ fn region_number(number: u64, object: &NamedObject) -> Result<u64>
 }
 
 fn connection_buffer(object: &NamedObject) -> Result<u32>
-    ensures answer { Answers result (connection_buffer object.now) }
-    ensures memory { NotMemory result }
+    ensures { AnswersInPlace result (connection_buffer object.now) }
 {
     match object {
         NamedObject::Data(value) => buffer_of(*value),
@@ -183,8 +176,7 @@ fn connection_buffer(object: &NamedObject) -> Result<u32>
 }
 
 fn field_number(number: u64, object: &NamedObject) -> Result<u64>
-    ensures answer { Answers result (field_number number object.now) }
-    ensures memory { NotMemory result }
+    ensures { AnswersInPlace result (field_number number object.now) }
 {
     match object {
         NamedObject::FieldUnit(unit) => in_region(number, unit.source),
@@ -193,8 +185,7 @@ fn field_number(number: u64, object: &NamedObject) -> Result<u64>
 }
 
 fn in_region(number: u64, source: FieldSource) -> Result<u64>
-    ensures answer { Answers result (in_region number source) }
-    ensures memory { NotMemory result }
+    ensures { AnswersInPlace result (in_region number source) }
 {
     match source {
         FieldSource::Region(_) => Ok(number),

@@ -1,6 +1,6 @@
 //! What a term that was evaluated leaves.
 ghost use Rattle.std.specs.Prelude.{◌≡◌};
-ghost use Rattle.ar_space.specs.Outcome.{Answers, NotMemory};
+ghost use Rattle.ar_space.specs.Outcome.{AnswersInPlace};
 ghost use Rattle.aml_meaning.specs.Readings.{value_in};
 ghost use Rattle.aml_meaning.specs.Tasks.{goes_on};
 ghost use Rattle.aml_meaning.specs.StatementTerms.{loop_end};
@@ -30,8 +30,7 @@ const _: () = prove!(size_of::<Flow>() == 32);
 impl Flow {
     /// The value of a term, where one is wanted; a term without one is refused as `NoValue`.
     pub fn value(self) -> Result<Value>
-        ensures answer { Answers result (value_in self) }
-        ensures memory { NotMemory result }
+        ensures { AnswersInPlace result (value_in self) }
     {
         match self {
             Flow::Value(value) => Ok(value),

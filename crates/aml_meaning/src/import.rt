@@ -14,11 +14,8 @@ use crate::datum::Datum;
 use crate::world_state::WorldState;
 use aml_objects::{Draft, Element, Elements, Octets, Reference, Value};
 use aml_path::{NameString, Path, Prefix};
-use ar_space::{EvaluationFault, Refusal, Result, ValueFault};
+use ar_space::{EvaluationFault, MAX_NESTING, Refusal, Result, ValueFault};
 use std::alloc::Global;
-
-/// How deep packages may nest that are handed in.
-const MAX_NESTING: usize = 64;
 
 impl<S> WorldState<S> {
     /// A value that is handed in, as a value of this world.

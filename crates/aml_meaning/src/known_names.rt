@@ -1,7 +1,7 @@
 //! The names that are declared, and how many arguments they take.
 ghost use Rattle.std.specs.Prelude.{◌≡◌, ◌++◌, ◌∷◌, ℕ, List, [], Ok, None, Some, true, false, OnErr, option_map};
-ghost use Rattle.ar_space.specs.Change.{Does};
-ghost use Rattle.ar_space.specs.Outcome.{Answers, NotMemory, seen};
+ghost use Rattle.ar_space.specs.Change.{Does, DoesInPlace};
+ghost use Rattle.ar_space.specs.Outcome.{Answers, seen};
 ghost use Rattle.aml_path.specs.declared.segment.Seg.{Seg as Segment};
 ghost use Rattle.aml_objects.specs.declared.entry.Entry.{Entry};
 ghost use Rattle.aml_objects.specs.declared.entry.NamedObject.TheVariants.{Data};
@@ -92,14 +92,10 @@ impl Declarations {
     /// A path takes so many arguments from now on, as `Arities::add` has it.
     #[tactic(auto, using(crate::proofs::BodyMarks::forgotten))]
     pub(crate) fn add_arity(&mut self, path: Path, count: u8) -> Result<()>
-        ensures change { Answers (seen (λ _. self.new) result) (Ok
-            (record self.old {
-              arities = self.old.arities ++ record {
-                path = path;
-                count = count;
-                external = false;
-              } ∷ [];
-            })) }
+        ensures change { Answers (seen (λ _. self.new) result) (Ok (record self.old {
+          arities = self.old.arities ++
+              record { path = path; count = count; external = false } ∷ [];
+        })) }
         ensures refused { OnErr result (self.new ≡ self.old) }
     {
         forget(&mut self.kept);
@@ -107,23 +103,14 @@ impl Declarations {
         Ok(())
     }
 
-    /// Hands out the arguments that names take, and keeps none. It takes no memory.
+    /// Takes over the arguments that names take from now on, and hands out those before. It takes no memory.
     #[tactic(auto, using(crate::proofs::BodyMarks::forgotten))]
-    pub(crate) fn take_arities(&mut self, alloc: Global) -> Arities
-        ensures arities { result ≡ self.old.arities }
-        ensures none { self.new ≡ record self.old { arities = [] } }
+    pub(crate) fn replace_arities(&mut self, arities: Arities) -> Arities
+        ensures before { result ≡ self.old.arities }
+        ensures after { self.new ≡ record self.old { arities = arities } }
     {
         forget(&mut self.kept);
-        mem::replace(&mut self.arities, Arities::new(alloc))
-    }
-
-    /// Takes over the arguments that names take from now on. It takes no memory.
-    #[tactic(auto, using(crate::proofs::BodyMarks::forgotten))]
-    pub(crate) fn set_arities(&mut self, arities: Arities)
-        ensures { self.new ≡ record self.old { arities = arities } }
-    {
-        forget(&mut self.kept);
-        self.arities = arities;
+        mem::replace(&mut self.arities, arities)
     }
 
     /// Releases every mutex, as `Names::release_mutexes` does. A mutex takes no arguments, so what is kept stays.
@@ -168,8 +155,7 @@ impl Declarations {
     /// alias, what is kept stays.
     #[tactic(auto, using(crate::proofs::KnownNames::keeping))]
     pub(crate) fn replace_located(&mut self, located: &Located, object: NamedObject) -> Result<()>
-        ensures change { Does result self.new (on_known (replaced located.now object)) self.old }
-        ensures memory { NotMemory result }
+        ensures { DoesInPlace result self.new (on_known (replaced located.now object)) self.old }
     {
         let plain = both_plain(&object, self.names.get_located(located));
         keep_where(&mut self.kept, plain);

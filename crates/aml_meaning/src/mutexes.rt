@@ -1,7 +1,7 @@
 //! Mutexes (ACPI 6.5, 19.6: Acquire, Release). How often each is acquired is counted; nothing else holds one.
 ghost use Rattle.std.specs.Prelude.{◌≡◌, List, Some, None, Ok, true, false, IfSome};
-ghost use Rattle.ar_space.specs.Change.{Does};
-ghost use Rattle.ar_space.specs.Outcome.{Answers, NotMemory};
+ghost use Rattle.ar_space.specs.Outcome.{AnswersInPlace};
+ghost use Rattle.ar_space.specs.Change.{Does, DoesInPlace};
 ghost use Rattle.aml_path.specs.declared.segment.Seg.{Seg as Segment};
 ghost use Rattle.aml_objects.specs.declared.entry.Entry.{Entry};
 ghost use Rattle.aml_objects.specs.declared.entry.NamedObject.TheVariants as object;
@@ -93,8 +93,7 @@ impl<S> WorldState<S> {
 
     #[tactic(auto, using(ar_space::proofs::Changes::changing), unfolding(crate::specs::Mutexes::acquired))]
     fn acquire_at(&mut self, path: &Located) -> Result<()>
-        ensures change { Does result self.new (acquired path.now) self.old }
-        ensures memory { NotMemory result }
+        ensures { DoesInPlace result self.new (acquired path.now) self.old }
     {
         let count = self.mutex_count(path)?;
         let more = once_more(count)?;
@@ -103,8 +102,7 @@ impl<S> WorldState<S> {
 
     #[tactic(auto, using(ar_space::proofs::Changes::changing), unfolding(crate::specs::Mutexes::given_back))]
     fn release_at(&mut self, path: &Located) -> Result<()>
-        ensures change { Does result self.new (given_back path.now) self.old }
-        ensures memory { NotMemory result }
+        ensures { DoesInPlace result self.new (given_back path.now) self.old }
     {
         let count = self.mutex_count(path)?;
         let less = once_less(count)?;
@@ -163,8 +161,7 @@ impl<S> WorldState<S> {
 
     #[tactic(auto, using(crate::proofs::Lifted::parts))]
     fn put_count(&mut self, path: &Located, count: u64) -> Result<()>
-        ensures change { Does result self.new (on_names (replaced path.now (object.Mutex count))) self.old }
-        ensures memory { NotMemory result }
+        ensures { DoesInPlace result self.new (on_names (replaced path.now (object.Mutex count))) self.old }
     {
         self.declarations
             .replace_located(path, NamedObject::Mutex(count))
@@ -173,8 +170,7 @@ impl<S> WorldState<S> {
     /// How often the mutex at a path is acquired.
     #[tactic(auto, unfolding(crate::specs::Mutexes::mutex_count))]
     fn mutex_count(&self, path: &Located) -> Result<u64>
-        ensures answer { Does result self.now (mutex_count path.now) self.now }
-        ensures memory { NotMemory result }
+        ensures { DoesInPlace result self.now (mutex_count path.now) self.now }
     {
         match self.names().get_located(path) {
             None => Err(Refusal::Namespace(NamespaceFault::NotFound)),
@@ -194,8 +190,7 @@ fn count_held(held: &NamedObject) -> Option<u64>
 }
 
 fn count_of(object: &NamedObject) -> Result<u64>
-    ensures answer { Answers result (count_of_object object.now) }
-    ensures memory { NotMemory result }
+    ensures { AnswersInPlace result (count_of_object object.now) }
 {
     match object {
         NamedObject::Mutex(count) => Ok(*count),
@@ -204,8 +199,7 @@ fn count_of(object: &NamedObject) -> Result<u64>
 }
 
 pub(crate) fn once_more(count: u64) -> Result<u64>
-    ensures answer { Answers result (once_more count) }
-    ensures memory { NotMemory result }
+    ensures { AnswersInPlace result (once_more count) }
 {
     if count == u64::MAX {
         return Err(Refusal::Evaluation(EvaluationFault::ObjectLimit));
@@ -214,8 +208,7 @@ pub(crate) fn once_more(count: u64) -> Result<u64>
 }
 
 fn once_less(count: u64) -> Result<u64>
-    ensures answer { Answers result (once_less count) }
-    ensures memory { NotMemory result }
+    ensures { AnswersInPlace result (once_less count) }
 {
     if count == 0 {
         return Err(Refusal::Evaluation(EvaluationFault::NotAcquired));

@@ -1,7 +1,7 @@
 //! Objects that terms form (ACPI 6.5, 19.6: Buffer, Package, VarPackage).
 ghost use Rattle.std.specs.Prelude.{◌≡◌, Ok};
-ghost use Rattle.ar_space.specs.Change.{Does};
-ghost use Rattle.ar_space.specs.Outcome.{Answers, NotMemory};
+ghost use Rattle.ar_space.specs.Change.{Does, DoesInPlace};
+ghost use Rattle.ar_space.specs.Outcome.{Answers};
 ghost use Rattle.aml_objects.specs.Objects.{make_buffer};
 ghost use Rattle.aml_meaning.specs.State.{on_objects};
 ghost use Rattle.aml_meaning.specs.NewObjects.{within, sized, filled, new_buffer, new_package};
@@ -14,7 +14,7 @@ use ar_space::{EvaluationFault, Refusal, Result};
 const MAX_BYTES: u64 = 1_048_576;
 
 /// How many elements a package may have.
-const MAX_ELEMENTS: u64 = 65_535;
+pub const MAX_ELEMENTS: u64 = 65_535;
 
 impl<S> WorldState<S> {
     /// A new buffer as long as its size says, or as its bytes where they are more, zero-filled; refused as
@@ -27,25 +27,18 @@ impl<S> WorldState<S> {
         self.make_sized(size, bytes)
     }
 
+    #[tactic(auto, using(crate::proofs::Lifted::making))]
     fn make_sized(&mut self, size: u64, bytes: Octets) -> Result<Value>
         ensures { Does result self.new (on_objects (make_buffer (sized size bytes))) self.old }
     {
         let bytes = sized(size, bytes)?;
-        self.make_buffer(bytes)
+        self.heap.make_buffer(bytes)
     }
 
-    /// A package may have so many elements; more are refused as `ObjectLimit`.
-    pub fn few_elements(&self, count: u64) -> Result<()>
-        ensures answer { Does result self.now (within 65535 count) self.now }
-        ensures memory { NotMemory result }
-    {
-        self.within(MAX_ELEMENTS, count)
-    }
-
+    /// An object may have so many bytes or elements; more than `most` are refused as `ObjectLimit`.
     #[tactic(auto, unfolding(crate::specs::NewObjects::within))]
-    fn within(&self, most: u64, count: u64) -> Result<()>
-        ensures answer { Does result self.now (within most count) self.now }
-        ensures memory { NotMemory result }
+    pub fn within(&self, most: u64, count: u64) -> Result<()>
+        ensures { DoesInPlace result self.now (within most count) self.now }
     {
         if most < count {
             return Err(Refusal::Evaluation(EvaluationFault::ObjectLimit));
@@ -55,12 +48,12 @@ impl<S> WorldState<S> {
 
     /// A new package with as many elements as it says; those that are left out are uninitialized. Refused as
     /// `ObjectLimit` where it has too many, or one object too many.
-    #[tactic(auto, unfolding(crate::specs::NewObjects::new_package))]
+    #[tactic(auto, using(crate::proofs::Lifted::making), unfolding(crate::specs::NewObjects::new_package))]
     pub fn new_package(&mut self, count: usize, elements: Elements) -> Result<Value>
         ensures { Does result self.new (new_package count elements) self.old }
     {
         let elements = filled(count, elements)?;
-        self.make_package(elements)
+        self.heap.make_package(elements)
     }
 }
 

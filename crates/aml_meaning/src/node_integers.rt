@@ -46,9 +46,8 @@ impl<S> WorldState<S> {
     pub fn node_integer(&self, id: NodeId) -> Option<u64>
         ensures held { IfSome result (λ number. (f : List Segment × Entry) →
             numbered id.number self.now.names.map ≡ Some f → f.1.object ≡ Data (Integer number)) }
-        ensures used { IfSome result (λ number. (f : List Segment × Entry) →
-            numbered id.number self.now.names.map ≡ Some f → Does (Ok (invocation.Value (Integer number))) self.now
-            (use_found f 0) self.now) }
+        ensures used { IfSome result (λ number. (f : List Segment × Entry) → numbered id.number self.now.names.map ≡
+            Some f → Does (Ok (invocation.Value (Integer number))) self.now (use_found f 0) self.now) }
         ensures gone { numbered id.number self.now.names.map ≡ None → result ≡ None }
     {
         match self.names().node(id) {
@@ -61,9 +60,8 @@ impl<S> WorldState<S> {
     /// store to it leads to.
     #[inline]
     pub fn node_unit(&self, id: NodeId) -> Option<FieldUnit>
-        ensures used { IfSome result (λ unit. (f : List Segment × Entry) →
-            numbered id.number self.now.names.map ≡ Some f → Does (Ok (invocation.Field (field.Unit unit))) self.now
-            (use_found f 0) self.now) }
+        ensures used { IfSome result (λ unit. (f : List Segment × Entry) → numbered id.number self.now.names.map ≡ Some
+            f → Does (Ok (invocation.Field (field.Unit unit))) self.now (use_found f 0) self.now) }
         ensures written { IfSome result (λ unit. (f : List Segment × Entry) →
             numbered id.number self.now.names.map ≡ Some f → (value : AnyValue) →
             Does (Ok (Field (field.Unit unit))) self.now (stored (targets.Name f.0) value) self.now) }

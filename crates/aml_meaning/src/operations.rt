@@ -1,7 +1,7 @@
 //! Operators over the values of a world (ACPI 6.5, 19.6).
 ghost use Rattle.std.specs.Prelude.{◌≡◌, option_map};
-ghost use Rattle.ar_space.specs.Change.{Does};
-ghost use Rattle.ar_space.specs.Outcome.{Answers, NotMemory, seen};
+ghost use Rattle.ar_space.specs.Change.{Does, DoesInPlace};
+ghost use Rattle.ar_space.specs.Outcome.{AnswersInPlace, NotMemory, seen};
 ghost use Rattle.aml_convert.specs.Formed.{formed_content};
 ghost use Rattle.aml_objects.specs.Contents as held;
 ghost use Rattle.aml_meaning.specs.State.{on_objects};
@@ -75,8 +75,7 @@ impl<S> WorldState<S> {
     #[inline(never)]
     #[tactic(auto, using(ar_space::proofs::Changes::changing), unfolding(crate::specs::Operations::divided_in))]
     pub fn divide(&self, first: Value, second: Value) -> Result<Division>
-        ensures answer { Does result self.now (divided_in first second) self.now }
-        ensures memory { NotMemory result }
+        ensures { DoesInPlace result self.now (divided_in first second) self.now }
     {
         let x = self.integer_in(first)?;
         let y = self.integer_in(second)?;
@@ -86,8 +85,7 @@ impl<S> WorldState<S> {
     /// True where a value is 0, converted to an integer first and refused as that is.
     #[tactic(auto, using(ar_space::proofs::Changes::changing), unfolding(crate::specs::Operations::turned))]
     pub fn logical_not(&self, value: Value) -> Result<Value>
-        ensures answer { Does result self.now (turned value) self.now }
-        ensures memory { NotMemory result }
+        ensures { DoesInPlace result self.now (turned value) self.now }
     {
         let x = self.integer_in(value)?;
         self.integer_turned(x)
@@ -96,8 +94,7 @@ impl<S> WorldState<S> {
     /// The next integer, or the one before.
     #[tactic(auto, using(ar_space::proofs::Changes::changing))]
     pub fn count(&self, count: Count, number: u64) -> Result<Value>
-        ensures answer { Does result self.now (counted_by count number) self.now }
-        ensures memory { NotMemory result }
+        ensures { DoesInPlace result self.now (counted_by count number) self.now }
     {
         match count {
             Count::Up => self.next_integer(number),
@@ -109,8 +106,7 @@ impl<S> WorldState<S> {
     /// among it, is refused as `WrongType`, and what is uninitialized as `NoValue`.
     #[tactic(auto, unfolding(crate::specs::Operations::size_in))]
     pub fn size(&self, referent: Referent) -> Result<Value>
-        ensures answer { Does result self.now (size_in referent) self.now }
-        ensures memory { NotMemory result }
+        ensures { DoesInPlace result self.now (size_in referent) self.now }
     {
         match self.size_of(referent) {
             Ok(size) => Ok(Value::Integer(size)),
@@ -122,8 +118,7 @@ impl<S> WorldState<S> {
     /// `WrongType`, and an index past the end as `IndexLimit`.
     #[tactic(auto, using(ar_space::proofs::Changes::changing))]
     fn index(&self, source: Value, index: Value) -> Result<Value>
-        ensures answer { Does result self.now (indexed source index) self.now }
-        ensures memory { NotMemory result }
+        ensures { DoesInPlace result self.now (indexed source index) self.now }
     {
         match source {
             Value::Package(object) => self.index_element(object, index),
@@ -137,8 +132,7 @@ impl<S> WorldState<S> {
 
     #[tactic(auto, using(ar_space::proofs::Changes::changing), unfolding(crate::specs::Operations::element_indexed))]
     fn index_element(&self, object: u32, index: Value) -> Result<Value>
-        ensures answer { Does result self.now (element_indexed object index) self.now }
-        ensures memory { NotMemory result }
+        ensures { DoesInPlace result self.now (element_indexed object index) self.now }
     {
         let index = self.integer_in(index)?;
         let count = self.size_of_value(Value::Package(object))?;
@@ -147,8 +141,7 @@ impl<S> WorldState<S> {
 
     #[tactic(auto, using(ar_space::proofs::Changes::changing), unfolding(crate::specs::Operations::byte_indexed))]
     fn index_byte(&self, source: Value, object: u32, index: Value) -> Result<Value>
-        ensures answer { Does result self.now (byte_indexed source object index) self.now }
-        ensures memory { NotMemory result }
+        ensures { DoesInPlace result self.now (byte_indexed source object index) self.now }
     {
         let index = self.integer_in(index)?;
         let count = self.size_of_value(source)?;
@@ -157,8 +150,7 @@ impl<S> WorldState<S> {
 
     #[tactic(auto, using(crate::proofs::IntegerOperations::operating), unfolding(crate::specs::Operations::operated))]
     fn operate(&self, operator: BinaryOperator, first: Value, second: Value) -> Result<Value>
-        ensures answer { Does result self.now (operated operator first second) self.now }
-        ensures memory { NotMemory result }
+        ensures { DoesInPlace result self.now (operated operator first second) self.now }
     {
         let x = self.integer_in(first)?;
         let y = self.integer_in(second)?;
@@ -168,8 +160,7 @@ impl<S> WorldState<S> {
 
     #[tactic(auto, using(ar_space::proofs::Changes::changing), unfolding(crate::specs::Operations::operated_on_one))]
     fn operate_on_integer(&self, operator: UnaryOperator, value: Value) -> Result<Value>
-        ensures answer { Does result self.now (operated_on_one operator value) self.now }
-        ensures memory { NotMemory result }
+        ensures { DoesInPlace result self.now (operated_on_one operator value) self.now }
     {
         let x = self.integer_in(value)?;
         self.integer_operated(operator, x)
@@ -177,8 +168,7 @@ impl<S> WorldState<S> {
 
     #[tactic(auto, unfolding(crate::specs::Operations::integer_operated))]
     fn integer_operated(&self, operator: UnaryOperator, x: u64) -> Result<Value>
-        ensures answer { Does result self.now (integer_operated operator x) self.now }
-        ensures memory { NotMemory result }
+        ensures { DoesInPlace result self.now (integer_operated operator x) self.now }
     {
         Ok(Value::Integer(operate_on_one(operator, self.width, x)))
     }
@@ -190,8 +180,7 @@ impl<S> WorldState<S> {
         first: Value,
         second: Value,
     ) -> Result<Value>
-        ensures answer { Does result self.now (operated_logically operator first second) self.now }
-        ensures memory { NotMemory result }
+        ensures { DoesInPlace result self.now (operated_logically operator first second) self.now }
     {
         let x = self.integer_in(first)?;
         let y = self.integer_in(second)?;
@@ -200,32 +189,28 @@ impl<S> WorldState<S> {
 
     #[tactic(auto, unfolding(crate::specs::Operations::integers_tested))]
     fn integers_tested(&self, operator: LogicalOperator, x: u64, y: u64) -> Result<Value>
-        ensures answer { Does result self.now (integers_tested operator x y) self.now }
-        ensures memory { NotMemory result }
+        ensures { DoesInPlace result self.now (integers_tested operator x y) self.now }
     {
         Ok(Value::Integer(operate_logically(operator, self.width, x, y)))
     }
 
     #[tactic(auto, unfolding(crate::specs::Operations::integer_turned))]
     fn integer_turned(&self, x: u64) -> Result<Value>
-        ensures answer { Does result self.now (integer_turned x) self.now }
-        ensures memory { NotMemory result }
+        ensures { DoesInPlace result self.now (integer_turned x) self.now }
     {
         Ok(Value::Integer(logical_not(self.width, x)))
     }
 
     #[tactic(auto, unfolding(crate::specs::Operations::next_integer))]
     fn next_integer(&self, x: u64) -> Result<Value>
-        ensures answer { Does result self.now (next_integer x) self.now }
-        ensures memory { NotMemory result }
+        ensures { DoesInPlace result self.now (next_integer x) self.now }
     {
         Ok(Value::Integer(truncate(self.width, u128::from(x) + 1)))
     }
 
     #[tactic(auto, unfolding(crate::specs::Operations::integer_before))]
     fn integer_before(&self, x: u64) -> Result<Value>
-        ensures answer { Does result self.now (integer_before x) self.now }
-        ensures memory { NotMemory result }
+        ensures { DoesInPlace result self.now (integer_before x) self.now }
     {
         integer(operate(BinaryOperator::Subtract, self.width, x, 1))
     }
@@ -265,21 +250,22 @@ impl<S> WorldState<S> {
         )
     }
 
+    #[tactic(auto, using(crate::proofs::Lifted::making))]
     pub(crate) fn make_formed(&mut self, contents: Formed) -> Result<Value>
         ensures { Does result self.new (on_objects (made_of (formed_content contents))) self.old }
     {
         match contents {
-            Formed::String(bytes) => self.make_string(bytes),
-            Formed::Buffer(bytes) => self.make_buffer(bytes),
+            Formed::String(bytes) => self.heap.make_string(bytes),
+            Formed::Buffer(bytes) => self.heap.make_buffer(bytes),
         }
     }
 
-    #[tactic(auto, using(ar_space::proofs::Changes::changing), unfolding(crate::specs::Operations::joined_resources))]
+    #[tactic(auto, using(crate::proofs::Lifted::making), unfolding(crate::specs::Operations::joined_resources))]
     fn join_resources(&mut self, first: Value, second: Value) -> Result<Value>
         ensures { Does result self.new (joined_resources first second) self.old }
     {
         let bytes = self.joined_items(first, second)?;
-        self.make_buffer(bytes)
+        self.heap.make_buffer(bytes)
     }
 
     #[tactic(auto, unfolding(crate::specs::Operations::joined_items))]
@@ -295,8 +281,7 @@ impl<S> WorldState<S> {
 
     #[tactic(auto, unfolding(crate::specs::Operations::to_integer_in))]
     fn to_integer(&self, value: Value) -> Result<Value>
-        ensures answer { Does result self.now (to_integer_in value) self.now }
-        ensures memory { NotMemory result }
+        ensures { DoesInPlace result self.now (to_integer_in value) self.now }
     {
         integer(explicit_integer(self.width, self.heap.content(value)))
     }
@@ -315,12 +300,12 @@ impl<S> WorldState<S> {
         }
     }
 
-    #[tactic(auto, using(ar_space::proofs::Changes::changing), unfolding(crate::specs::Operations::new_buffer_of))]
+    #[tactic(auto, using(crate::proofs::Lifted::making), unfolding(crate::specs::Operations::new_buffer_of))]
     fn new_buffer_of(&mut self, value: Value) -> Result<Value>
         ensures { Does result self.new (new_buffer_of value) self.old }
     {
         let bytes = self.buffer_bytes(value)?;
-        self.make_buffer(bytes)
+        self.heap.make_buffer(bytes)
     }
 
     #[tactic(auto, unfolding(crate::specs::Operations::buffer_bytes))]
@@ -362,8 +347,7 @@ impl<S> WorldState<S> {
 
 /// A reference whose index is below a count; another is refused as `IndexLimit`.
 fn below(count: u64, index: u64, reference: Reference) -> Result<Value>
-    ensures answer { Answers result (below count index reference) }
-    ensures memory { NotMemory result }
+    ensures { AnswersInPlace result (below count index reference) }
 {
     if index < count {
         Ok(Value::Reference(reference))

@@ -1,7 +1,7 @@
 //! The predefined control method `\_OSI` (ACPI 6.5, 5.7.2).
 ghost use Rattle.std.specs.Prelude.{◌≡◌};
-ghost use Rattle.ar_space.specs.Change.{Does};
-ghost use Rattle.ar_space.specs.Outcome.{Answers, NotMemory};
+ghost use Rattle.ar_space.specs.Change.{DoesInPlace};
+ghost use Rattle.ar_space.specs.Outcome.{AnswersInPlace};
 ghost use Rattle.aml_objects.specs.Contents.{content_of};
 ghost use Rattle.aml_meaning.specs.Osi.{same_text, is_known, osi_answer, osi_answered};
 
@@ -16,8 +16,7 @@ impl<S> WorldState<S> {
     /// knows, False where it is another string. Anything but a string is refused as `WrongType`. It takes no memory.
     #[tactic(auto, unfolding(crate::specs::Osi::osi_answered))]
     pub fn osi(&self, arguments: &[Value]) -> Result<Value>
-        ensures answer { Does result self.now (osi_answered arguments.now) self.now }
-        ensures memory { NotMemory result }
+        ensures { DoesInPlace result self.now (osi_answered arguments.now) self.now }
     {
         let asked = self.heap.content(value_at(arguments, 0));
         answer_of(self.width, &self.osi, asked)
@@ -25,8 +24,7 @@ impl<S> WorldState<S> {
 }
 
 fn answer_of(width: IntegerWidth, texts: &[Octets], asked: Content<'_>) -> Result<Value>
-    ensures answer { Answers result (osi_answer width texts.now (content_of asked.entry)) }
-    ensures memory { NotMemory result }
+    ensures { AnswersInPlace result (osi_answer width texts.now (content_of asked.entry)) }
 {
     match asked {
         Content::String(text) => Ok(Value::Integer(truth(width, is_known(texts, text)))),

@@ -65,12 +65,13 @@ impl<S> WorldState<S> {
     }
 
     /// The value of `\\_OS_`.
+    #[tactic(auto, using(crate::proofs::Lifted::making))]
     fn operating_system(&mut self) -> Result<Value>
         ensures world { Does result self.new (on_objects (make_string (codes "Microsoft Windows NT"))) self.old }
         ensures space { self.new.space ≡ self.old.space }
     {
         let name = Octets::from_vec(Vec::from_slice(self.alloc, b"Microsoft Windows NT")?);
-        self.make_string(name)
+        self.heap.make_string(name)
     }
 }
 

@@ -1,7 +1,7 @@
 //! What names find, and what values are, in a world (ACPI 6.5, 5.3 and 19.3.5).
 ghost use Rattle.std.specs.Prelude.{◌≡◌};
-ghost use Rattle.ar_space.specs.Change.{Does};
-ghost use Rattle.ar_space.specs.Outcome.{Answers, NotMemory, seen};
+ghost use Rattle.ar_space.specs.Change.{Does, DoesInPlace};
+ghost use Rattle.ar_space.specs.Outcome.{AnswersInPlace, NotMemory, seen};
 ghost use Rattle.aml_meaning.specs.Readings.{integer_kept, integer_in, entry_found, path_found, is_scope, scope_or_not};
 ghost use Rattle.aml_meaning.specs.Readings.{scope_found, arguments_of, arguments_found, as_many, read_as};
 
@@ -16,8 +16,7 @@ impl<S> WorldState<S> {
     /// A number as an integer keeps it: its lowest 32 or 64 bits.
     #[tactic(auto, unfolding(crate::specs::Readings::integer_kept))]
     pub fn integer_kept(&self, number: u64) -> Result<Value>
-        ensures answer { Does result self.now (integer_kept number) self.now }
-        ensures memory { NotMemory result }
+        ensures { DoesInPlace result self.now (integer_kept number) self.now }
     {
         Ok(Value::Integer(truncate_integer(self.width, number)))
     }
@@ -25,8 +24,7 @@ impl<S> WorldState<S> {
     /// A value where an integer is wanted, converted to one; it is refused as conversions are.
     #[tactic(auto, unfolding(crate::specs::Readings::integer_in))]
     pub fn integer_in(&self, value: Value) -> Result<u64>
-        ensures answer { Does result self.now (integer_in value) self.now }
-        ensures memory { NotMemory result }
+        ensures { DoesInPlace result self.now (integer_in value) self.now }
     {
         to_integer(self.width, self.heap.content(value))
     }
@@ -79,8 +77,7 @@ impl<S> WorldState<S> {
     /// Refused as `Names::lookup` refuses it.
     #[tactic(auto, using(ar_space::proofs::Changes::changing), unfolding(crate::specs::Readings::arguments_found))]
     pub fn arguments(&self, scope: Scope<'_>, name: &NameString) -> Result<u8>
-        ensures answer { Does result self.now (arguments_found scope.entry.path.now name.now) self.now }
-        ensures memory { NotMemory result }
+        ensures { DoesInPlace result self.now (arguments_found scope.entry.path.now name.now) self.now }
     {
         let entry = self.entry_in(scope, name)?;
         Ok(arguments_of(&entry.object))
@@ -88,8 +85,7 @@ impl<S> WorldState<S> {
 }
 
 fn scope_or_not(object: &NamedObject) -> Result<()>
-    ensures answer { Answers result (scope_or_not object.now) }
-    ensures memory { NotMemory result }
+    ensures { AnswersInPlace result (scope_or_not object.now) }
 {
     if is_scope(object) {
         Ok(())
@@ -113,8 +109,7 @@ fn is_scope(object: &NamedObject) -> bool
 }
 
 pub(crate) fn as_many(wanted: u8, count: usize) -> Result<()>
-    ensures answer { Answers result (as_many wanted count) }
-    ensures memory { NotMemory result }
+    ensures { AnswersInPlace result (as_many wanted count) }
 {
     if usize::from(wanted) == count {
         Ok(())

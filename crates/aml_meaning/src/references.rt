@@ -1,7 +1,7 @@
 //! Storing values to what references refer to (ACPI 6.5, 19.3.5.8).
 ghost use Rattle.std.specs.Prelude.{◌≡◌};
-ghost use Rattle.ar_space.specs.Change.{Does};
-ghost use Rattle.ar_space.specs.Outcome.{Answers, NotMemory};
+ghost use Rattle.ar_space.specs.Outcome.{AnswersInPlace};
+ghost use Rattle.ar_space.specs.Change.{Does, DoesInPlace};
 ghost use Rattle.aml_objects.specs.Contents.{content_of};
 ghost use Rattle.aml_meaning.specs.Stores.{first_byte, byte_of, byte_in, store_byte, copy_into_element};
 ghost use Rattle.aml_meaning.specs.Stores.{copy_into_declared, store_in_declared, store_to, store_over_slot};
@@ -120,7 +120,7 @@ impl<S> WorldState<S> {
         ensures { Does result self.new (copy_into_element object index value) self.old }
     {
         self.objects().element_there(object, index)?;
-        let copy = self.copy(value)?;
+        let copy = self.heap.copy(self.alloc, value)?;
         self.heap
             .write_element(object, index, Element::Value(copy))?;
         Ok(Stored::Done)
@@ -128,8 +128,7 @@ impl<S> WorldState<S> {
 
     #[tactic(auto, using(crate::proofs::Lifted::writing), unfolding(crate::specs::Stores::store_byte))]
     fn store_byte(&mut self, object: u32, index: usize, value: Value) -> Result<Stored>
-        ensures change { Does result self.new (store_byte object index value) self.old }
-        ensures memory { NotMemory result }
+        ensures { DoesInPlace result self.new (store_byte object index value) self.old }
     {
         self.objects().byte(object, index)?;
         let byte = self.byte_in(value)?;
@@ -165,16 +164,14 @@ impl<S> WorldState<S> {
     /// What a byte of a string or a buffer takes of a value.
     #[tactic(auto, unfolding(crate::specs::Stores::byte_in))]
     fn byte_in(&self, value: Value) -> Result<u8>
-        ensures answer { Does result self.now (byte_in value) self.now }
-        ensures memory { NotMemory result }
+        ensures { DoesInPlace result self.now (byte_in value) self.now }
     {
         byte_of(self.heap.content(value))
     }
 }
 
 fn byte_of(content: Content<'_>) -> Result<u8>
-    ensures answer { Answers result (byte_of (content_of content.entry)) }
-    ensures memory { NotMemory result }
+    ensures { AnswersInPlace result (byte_of (content_of content.entry)) }
 {
     match content {
         Content::Integer(number) => Ok((number % 256) as u8),
@@ -185,8 +182,7 @@ fn byte_of(content: Content<'_>) -> Result<u8>
 }
 
 fn first_byte(bytes: &[u8]) -> Result<u8>
-    ensures answer { Answers result (first_byte bytes.now) }
-    ensures memory { NotMemory result }
+    ensures { AnswersInPlace result (first_byte bytes.now) }
 {
     match bytes {
         [] => Err(Refusal::Value(ValueFault::EmptyValue)),

@@ -1,7 +1,6 @@
 //! What references refer to in the end (ACPI 6.5, 19.6: SizeOf, ObjectType).
 ghost use Rattle.std.specs.Prelude.{◌≡◌};
-ghost use Rattle.ar_space.specs.Change.{Does};
-ghost use Rattle.ar_space.specs.Outcome.{NotMemory};
+ghost use Rattle.ar_space.specs.Change.{DoesInPlace};
 ghost use Rattle.aml_meaning.specs.StoreTargets.{referent_of, element_named, value_followed, referent_followed};
 ghost use Rattle.aml_meaning.specs.StoreTargets.{declared_followed, slot_followed, name_followed, element_followed};
 ghost use Rattle.aml_meaning.specs.StoreTargets.{held_followed, byte_followed, reference_followed, followed};
@@ -26,8 +25,7 @@ impl<S> WorldState<S> {
     /// `DeadReference`.
     #[tactic(auto, using(ar_space::proofs::Changes::changing))]
     pub fn target_referent(&self, target: &StoreTarget) -> Result<Referent>
-        ensures answer { Does result self.now (target_referent target.now) self.now }
-        ensures memory { NotMemory result }
+        ensures { DoesInPlace result self.now (target_referent target.now) self.now }
     {
         match target {
             StoreTarget::Nowhere => Ok(Referent::Object(ObjectType::DebugObject)),
@@ -39,16 +37,14 @@ impl<S> WorldState<S> {
 
     /// What a value refers to when references are followed, at most 64 of them; itself where it is no reference.
     pub fn value_referent(&self, value: Value) -> Result<Referent>
-        ensures answer { Does result self.now (value_followed (followed most_references) value) self.now }
-        ensures memory { NotMemory result }
+        ensures { DoesInPlace result self.now (value_followed (followed most_references) value) self.now }
     {
         value_followed(self, MOST_REFERENCES, value)
     }
 
     #[tactic(auto, using(ar_space::proofs::Changes::changing), unfolding(crate::specs::StoreTargets::slot_referent))]
     fn slot_referent(&self, slot: Slot) -> Result<Referent>
-        ensures answer { Does result self.now (slot_referent slot) self.now }
-        ensures memory { NotMemory result }
+        ensures { DoesInPlace result self.now (slot_referent slot) self.now }
     {
         let value = self.own_slot(slot)?;
         value_followed(self, MOST_REFERENCES, value)
@@ -56,8 +52,7 @@ impl<S> WorldState<S> {
 
     #[tactic(auto, using(ar_space::proofs::Changes::changing), unfolding(crate::specs::StoreTargets::name_referent))]
     fn name_referent(&self, path: &Located) -> Result<Referent>
-        ensures answer { Does result self.now (name_referent path.now) self.now }
-        ensures memory { NotMemory result }
+        ensures { DoesInPlace result self.now (name_referent path.now) self.now }
     {
         let referent = self.declared_referent(path)?;
         referent_followed(self, MOST_REFERENCES, referent)
@@ -65,8 +60,7 @@ impl<S> WorldState<S> {
 
     #[tactic(auto, unfolding(crate::specs::StoreTargets::declared_referent))]
     fn declared_referent(&self, path: &Located) -> Result<Referent>
-        ensures answer { Does result self.now (declared_referent path.now) self.now }
-        ensures memory { NotMemory result }
+        ensures { DoesInPlace result self.now (declared_referent path.now) self.now }
     {
         match self.names().get_located(path) {
             None => Err(Refusal::Namespace(NamespaceFault::NotFound)),
@@ -98,8 +92,7 @@ fn referent_of(object: &NamedObject) -> Referent
 #[cycle(following)]
 #[tactic(auto, using(ar_space::proofs::Changes::changing))]
 fn value_followed<S>(world: &WorldState<S>, levels: usize, value: Value) -> Result<Referent>
-    ensures answer { Does result world.now (value_followed (followed levels) value) world.now }
-    ensures memory { NotMemory result }
+    ensures { DoesInPlace result world.now (value_followed (followed levels) value) world.now }
 {
     match value {
         Value::Uninitialized => Ok(Referent::Value(Value::Uninitialized)),
@@ -118,8 +111,7 @@ fn referent_followed<S>(
     levels: usize,
     referent: Referent,
 ) -> Result<Referent>
-    ensures answer { Does result world.now (referent_followed (followed levels) referent) world.now }
-    ensures memory { NotMemory result }
+    ensures { DoesInPlace result world.now (referent_followed (followed levels) referent) world.now }
 {
     match referent {
         Referent::Value(value) => value_followed(world, levels, value),
@@ -133,8 +125,7 @@ fn referent_followed<S>(
 #[cycle(following)]
 #[tactic(auto, using(crate::proofs::Following::following))]
 fn follow<S>(world: &WorldState<S>, levels: usize, reference: Reference) -> Result<Referent>
-    ensures answer { Does result world.now (followed levels reference) world.now }
-    ensures memory { NotMemory result }
+    ensures { DoesInPlace result world.now (followed levels reference) world.now }
 {
     if levels == 0 {
         return Err(Refusal::Evaluation(EvaluationFault::DeadReference));
@@ -149,8 +140,7 @@ fn reference_followed<S>(
     levels: usize,
     reference: Reference,
 ) -> Result<Referent>
-    ensures answer { Does result world.now (reference_followed (followed levels) reference) world.now }
-    ensures memory { NotMemory result }
+    ensures { DoesInPlace result world.now (reference_followed (followed levels) reference) world.now }
 {
     match reference {
         Reference::Name(number) => declared_followed(world, levels, number),
@@ -163,8 +153,7 @@ fn reference_followed<S>(
 #[cycle(following)]
 #[tactic(auto, using(ar_space::proofs::Changes::changing, crate::proofs::Declared::declared), unfolding(crate::specs::StoreTargets::declared_followed))]
 fn declared_followed<S>(world: &WorldState<S>, levels: usize, number: u64) -> Result<Referent>
-    ensures answer { Does result world.now (declared_followed (followed levels) number) world.now }
-    ensures memory { NotMemory result }
+    ensures { DoesInPlace result world.now (declared_followed (followed levels) number) world.now }
 {
     let entry = world.declaration(number)?;
     referent_followed(world, levels, referent_of(&entry.object))
@@ -178,8 +167,7 @@ fn slot_followed<S>(
     number: u64,
     slot: Slot,
 ) -> Result<Referent>
-    ensures answer { Does result world.now (slot_followed (followed levels) number slot) world.now }
-    ensures memory { NotMemory result }
+    ensures { DoesInPlace result world.now (slot_followed (followed levels) number slot) world.now }
 {
     let index = world.frame_found(number)?;
     let value = world.slot_held(index, slot)?;
@@ -194,8 +182,7 @@ fn held_followed<S>(
     object: u32,
     index: usize,
 ) -> Result<Referent>
-    ensures answer { Does result world.now (held_followed (followed levels) object index) world.now }
-    ensures memory { NotMemory result }
+    ensures { DoesInPlace result world.now (held_followed (followed levels) object index) world.now }
 {
     let element = world.objects().element(object, index)?;
     element_followed(world, levels, element)
@@ -204,8 +191,7 @@ fn held_followed<S>(
 #[cycle(following)]
 #[tactic(auto, using(ar_space::proofs::Changes::changing))]
 fn element_followed<S>(world: &WorldState<S>, levels: usize, element: &Element) -> Result<Referent>
-    ensures answer { Does result world.now (element_followed (followed levels) element.now) world.now }
-    ensures memory { NotMemory result }
+    ensures { DoesInPlace result world.now (element_followed (followed levels) element.now) world.now }
 {
     match element {
         Element::Value(value) => value_followed(world, levels, *value),
@@ -221,8 +207,7 @@ fn name_followed<S>(
     name: &NameString,
     scope: &Path,
 ) -> Result<Referent>
-    ensures answer { Does result world.now (name_followed (followed levels) name.now scope.now) world.now }
-    ensures memory { NotMemory result }
+    ensures { DoesInPlace result world.now (name_followed (followed levels) name.now scope.now) world.now }
 {
     let entry = world.entry(scope, name)?;
     element_named(world, levels, entry.number, &entry.object)
@@ -238,8 +223,7 @@ fn element_named<S>(
     number: u64,
     object: &NamedObject,
 ) -> Result<Referent>
-    ensures answer { Does result world.now (element_named (followed levels) number object.now) world.now }
-    ensures memory { NotMemory result }
+    ensures { DoesInPlace result world.now (element_named (followed levels) number object.now) world.now }
 {
     match object {
         NamedObject::Data(value) => value_followed(world, levels, read_as(number, *value)),
@@ -251,8 +235,7 @@ fn element_named<S>(
 
 #[tactic(auto, using(crate::proofs::Lifted::reading), unfolding(crate::specs::StoreTargets::byte_followed))]
 fn byte_followed<S>(world: &WorldState<S>, object: u32, index: usize) -> Result<Referent>
-    ensures answer { Does result world.now (byte_followed object index) world.now }
-    ensures memory { NotMemory result }
+    ensures { DoesInPlace result world.now (byte_followed object index) world.now }
 {
     world.objects().byte(object, index)?;
     Ok(Referent::Object(ObjectType::BufferField))

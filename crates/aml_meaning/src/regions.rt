@@ -1,12 +1,9 @@
-//! Operation regions and the field units in them, as they were declared, and accesses of their registers (ACPI 6.5,
-//! 5.5.2.4).
+//! Operation regions and the field units in them, as they were declared (ACPI 6.5, 5.5.2.4).
 ghost use Rattle.std.specs.Prelude.{◌≡◌, nat_lt};
-ghost use Rattle.ar_space.specs.Change.{Does};
-ghost use Rattle.ar_space.specs.Outcome.{Answers, NotMemory, seen};
+ghost use Rattle.ar_space.specs.Change.{Does, DoesInPlace};
+ghost use Rattle.ar_space.specs.Outcome.{AnswersInPlace, NotMemory, seen};
 ghost use Rattle.aml_convert.specs.Integers.{bits_of};
-ghost use Rattle.aml_fields.specs.Regions.{read_field, write_field};
 ghost use Rattle.aml_namespace.specs.Namespace.{above};
-ghost use Rattle.aml_meaning.specs.State.{on_space};
 ghost use Rattle.aml_meaning.specs.Regions.{space_numbered, integer_only, pci_space, region_of_object, region_declared};
 ghost use Rattle.aml_meaning.specs.Regions.{region_field, field_of_object, field_declared, integer_of_bits};
 ghost use Rattle.aml_meaning.specs.Regions.{integer_value, value_of_bits, integer_alone, given_of_bits};
@@ -17,10 +14,10 @@ use crate::datum::Datum;
 use crate::object_type::Referent;
 use crate::world_state::WorldState;
 use aml_convert::to_integer;
-use aml_fields::{AddressSpace, Region, read_field, write_field};
+use aml_fields::AddressSpace;
 use aml_objects::{Content, FieldSource, FieldUnit, NamedObject, Octets, OperationRegion, Value};
 use aml_path::Path;
-use ar_space::{EvaluationFault, FieldFault, IntegerWidth, Refusal, Result, Space, ValueFault};
+use ar_space::{EvaluationFault, FieldFault, IntegerWidth, Refusal, Result, ValueFault};
 
 /// The address space of an operation region.
 #[derive(Clone, Copy, Debug, PartialEq, Eq)]
@@ -57,8 +54,7 @@ pub fn space_numbered(number: u8) -> RegionSpace
 /// What an object answers that is a part of an address: an integer. Nothing is refused as `NoValue`, anything else as
 /// `WrongType`; no value is converted.
 pub fn integer_only(value: Value) -> Result<u64>
-    ensures answer { Answers result (integer_only value) }
-    ensures memory { NotMemory result }
+    ensures { AnswersInPlace result (integer_only value) }
 {
     match value {
         Value::Uninitialized => Err(Refusal::Evaluation(EvaluationFault::NoValue)),
@@ -73,8 +69,7 @@ pub fn integer_only(value: Value) -> Result<u64>
 /// The registers of a PCI function, by its segment group, its bus, and its address (device in the high word, function
 /// in the low one). A number that is out of range is refused as `RegionLimit`.
 pub fn pci_space(segment: u64, bus: u64, address: u64) -> Result<AddressSpace>
-    ensures answer { Answers result (pci_space segment bus address) }
-    ensures memory { NotMemory result }
+    ensures { AnswersInPlace result (pci_space segment bus address) }
 {
     let device = address / 65536;
     let function = address % 65536;
@@ -105,8 +100,7 @@ impl<S> WorldState<S> {
     /// The field unit of a region with the number of a declaration; one that is gone is refused as `DeadReference`.
     #[tactic(auto, using(ar_space::proofs::Changes::changing, crate::proofs::Declared::declared), unfolding(crate::specs::Regions::field_declared))]
     pub fn field_declared(&self, number: u64) -> Result<RegionField>
-        ensures answer { Does result self.now (field_declared number) self.now }
-        ensures memory { NotMemory result }
+        ensures { DoesInPlace result self.now (field_declared number) self.now }
     {
         let entry = self.declaration(number)?;
         field_of_object(&entry.object)
@@ -119,7 +113,7 @@ impl<S> WorldState<S> {
         ensures { Does result self.new (value_of_bits count bytes) self.old }
     {
         if is_wide(self.width, count) {
-            self.make_buffer(bytes)
+            self.heap.make_buffer(bytes)
         } else {
             self.integer_value(bytes.as_slice())
         }
@@ -128,8 +122,7 @@ impl<S> WorldState<S> {
     /// The bits of a field as an integer, converted as a buffer is.
     #[tactic(auto, unfolding(crate::specs::Regions::integer_of_bits))]
     pub fn integer_of_bits(&self, bytes: &[u8]) -> Result<u64>
-        ensures answer { Does result self.now (integer_of_bits bytes.now) self.now }
-        ensures memory { NotMemory result }
+        ensures { DoesInPlace result self.now (integer_of_bits bytes.now) self.now }
     {
         to_integer(self.width, Content::Buffer(bytes))
     }
@@ -137,8 +130,7 @@ impl<S> WorldState<S> {
     /// The bits of a field as a part of an address; more than an integer has are refused as `WrongType`.
     #[tactic(auto, unfolding(crate::specs::Regions::integer_alone))]
     pub fn integer_alone(&self, count: u32, bytes: &[u8]) -> Result<u64>
-        ensures answer { Does result self.now (integer_alone count bytes.now) self.now }
-        ensures memory { NotMemory result }
+        ensures { DoesInPlace result self.now (integer_alone count bytes.now) self.now }
     {
         if is_wide(self.width, count) {
             Err(Refusal::Value(ValueFault::WrongType))
@@ -167,8 +159,7 @@ impl<S> WorldState<S> {
     /// has, else so many bytes. No object is made.
     #[tactic(auto, unfolding(crate::specs::Regions::referent_of_bits))]
     pub fn referent_of_bits(&self, count: u32, bytes: &[u8]) -> Result<Referent>
-        ensures answer { Does result self.now (referent_of_bits count bytes.now) self.now }
-        ensures memory { NotMemory result }
+        ensures { DoesInPlace result self.now (referent_of_bits count bytes.now) self.now }
     {
         if is_wide(self.width, count) {
             return Ok(Referent::Bytes(bytes.len()));
@@ -181,31 +172,10 @@ impl<S> WorldState<S> {
 
     #[tactic(auto, using(ar_space::proofs::Changes::changing), unfolding(crate::specs::Regions::integer_value))]
     fn integer_value(&self, bytes: &[u8]) -> Result<Value>
-        ensures answer { Does result self.now (integer_value bytes.now) self.now }
-        ensures memory { NotMemory result }
+        ensures { DoesInPlace result self.now (integer_value bytes.now) self.now }
     {
         let number = self.integer_of_bits(bytes)?;
         Ok(Value::Integer(number))
-    }
-}
-
-impl<S: Space> WorldState<S> {
-    /// A read of a field of a region that is located: its bits, lowest first, as bytes. Refused as
-    /// `aml_fields::read_field` refuses it.
-    #[tactic(auto, using(crate::proofs::Lifted::parts))]
-    pub fn read_field(&mut self, region: Region, field: FieldUnit) -> Result<Vec<u8>>
-        ensures { Does (seen (λ v. v.items) result) self.new (on_space (read_field S.accesses region field)) self.old }
-    {
-        read_field(self.alloc, &mut self.space, region, field)
-    }
-
-    /// A write of a field of a region that is located. Refused as `aml_fields::write_field` refuses it.
-    #[tactic(auto, using(crate::proofs::Lifted::parts))]
-    pub fn write_field(&mut self, region: Region, field: FieldUnit, bytes: &[u8]) -> Result<()>
-        ensures change { Does result self.new (on_space (write_field S.accesses region field bytes.now)) self.old }
-        ensures memory { NotMemory result }
-    {
-        write_field(&mut self.space, region, field, bytes)
     }
 }
 
@@ -236,8 +206,7 @@ fn integer_bits(width: IntegerWidth) -> u8
 }
 
 fn region_of_object(object: &NamedObject) -> Result<OperationRegion>
-    ensures answer { Answers result (region_of_object object.now) }
-    ensures memory { NotMemory result }
+    ensures { AnswersInPlace result (region_of_object object.now) }
 {
     match object {
         NamedObject::OperationRegion(region) => Ok(*region),
@@ -246,8 +215,7 @@ fn region_of_object(object: &NamedObject) -> Result<OperationRegion>
 }
 
 fn field_of_object(object: &NamedObject) -> Result<RegionField>
-    ensures answer { Answers result (field_of_object object.now) }
-    ensures memory { NotMemory result }
+    ensures { AnswersInPlace result (field_of_object object.now) }
 {
     match object {
         NamedObject::FieldUnit(unit) => region_field(unit.source, *unit),
@@ -256,8 +224,7 @@ fn field_of_object(object: &NamedObject) -> Result<RegionField>
 }
 
 fn region_field(source: FieldSource, unit: FieldUnit) -> Result<RegionField>
-    ensures answer { Answers result (region_field source unit) }
-    ensures memory { NotMemory result }
+    ensures { AnswersInPlace result (region_field source unit) }
 {
     match source {
         FieldSource::Region(region) => Ok(RegionField { region, unit }),

@@ -1,7 +1,7 @@
 //! Match: the first element of a package that meets two tests (ACPI 6.5, 19.6).
 ghost use Rattle.std.specs.Prelude.{◌≡◌, ◌≤◌, ◌<◌, Ok};
-ghost use Rattle.ar_space.specs.Change.{Does};
-ghost use Rattle.ar_space.specs.Outcome.{Answers, NotMemory};
+ghost use Rattle.ar_space.specs.Change.{Does, DoesInPlace};
+ghost use Rattle.ar_space.specs.Outcome.{Answers, AnswersInPlace};
 ghost use Rattle.aml_objects.specs.Contents.{content_in};
 ghost use Rattle.aml_convert.specs.Matching.{is_match};
 ghost use Rattle.aml_namespace.specs.Search.{found};
@@ -57,8 +57,7 @@ impl<S> WorldState<S> {
         second: (u8, Value),
         start: Value,
     ) -> Result<Searching>
-        ensures answer { Does result self.now (search_begun source first.0 first.1 second.0 second.1 start) self.now }
-        ensures memory { NotMemory result }
+        ensures { DoesInPlace result self.now (search_begun source first.0 first.1 second.0 second.1 start) self.now }
     {
         let object = package_of(source)?;
         let one = test_of(first.0, first.1)?;
@@ -78,8 +77,7 @@ impl<S> WorldState<S> {
     /// uninitialized, or a name that isn't found.
     #[tactic(auto, using(crate::proofs::Lifted::reading), unfolding(crate::specs::MatchTerms::element_held))]
     pub fn element_held(&self, object: u32, index: usize) -> Result<Option<Held>>
-        ensures answer { Does result self.now (element_held object index) self.now }
-        ensures memory { NotMemory result }
+        ensures { DoesInPlace result self.now (element_held object index) self.now }
     {
         let element = self.objects().element(object, index)?;
         self.held_by(element)
@@ -87,8 +85,7 @@ impl<S> WorldState<S> {
 
     #[tactic(auto, using(ar_space::proofs::Changes::changing))]
     fn held_by(&self, element: &Element) -> Result<Option<Held>>
-        ensures answer { Does result self.now (held_by element.now) self.now }
-        ensures memory { NotMemory result }
+        ensures { DoesInPlace result self.now (held_by element.now) self.now }
     {
         match element {
             Element::Value(value) => Ok(unless_uninitialized(*value)),
@@ -98,8 +95,7 @@ impl<S> WorldState<S> {
 
     #[tactic(auto, unfolding(crate::specs::MatchTerms::name_held))]
     fn name_held(&self, name: &NameString, scope: &Path) -> Result<Option<Held>>
-        ensures answer { Does result self.now (name_held name.now scope.now) self.now }
-        ensures memory { NotMemory result }
+        ensures { DoesInPlace result self.now (name_held name.now scope.now) self.now }
     {
         match self.names().lookup(scope, name) {
             Ok(entry) => Ok(Some(named_once(entry.number, &entry.object))),
@@ -146,8 +142,7 @@ impl<S> WorldState<S> {
 
 /// The package that a value is; any other value is refused as `WrongType`.
 fn package_of(value: Value) -> Result<u32>
-    ensures answer { Answers result (package_of value) }
-    ensures memory { NotMemory result }
+    ensures { AnswersInPlace result (package_of value) }
 {
     match value {
         Value::Package(object) => Ok(object),
@@ -161,8 +156,7 @@ fn package_of(value: Value) -> Result<u32>
 
 /// A test by the byte of its operator and its object; another byte or object is refused as `WrongType`.
 fn test_of(number: u8, object: Value) -> Result<MatchTest>
-    ensures answer { Answers result (test_of number object) }
-    ensures memory { NotMemory result }
+    ensures { AnswersInPlace result (test_of number object) }
 {
     match MatchOperator::from_number(u64::from(number)) {
         None => Err(Refusal::Value(ValueFault::WrongType)),
@@ -191,8 +185,7 @@ fn is_comparable(value: Value) -> bool
 
 /// A search that begins at an index; refused as `IndexLimit` where no element stands there.
 fn searching_from(search: Search, index: u64) -> Result<Searching>
-    ensures answer { Answers result (searching_from search index) }
-    ensures memory { NotMemory result }
+    ensures { AnswersInPlace result (searching_from search index) }
 {
     let index = index as usize;
     if index < search.count {

@@ -1,8 +1,7 @@
 //! Frames, and the slots in them (ACPI 6.5, 5.5.2.3 and 19.6: ArgX, LocalX).
 ghost use Rattle.std.specs.Prelude.{◌≡◌, ◌≢◌, ◌==◌, ◌<◌, ℕ, Ok, true, false, not, length, position, slice_index_or};
 ghost use Rattle.std.specs.Prelude.{slice_set, IfSome, IfNone, OnErr};
-ghost use Rattle.ar_space.specs.Change.{Does};
-ghost use Rattle.ar_space.specs.Outcome.{NotMemory};
+ghost use Rattle.ar_space.specs.Change.{Does, DoesInPlace};
 ghost use Rattle.aml_meaning.specs.Slots.{slot_in, with_slot, slot_of, opened, closed};
 ghost use Rattle.aml_meaning.specs.SlotIntegers.{integer_held, is_reference, takes_copy};
 ghost use Rattle.aml_meaning.specs.StoreTargets.{own_slot, slot_read};
@@ -136,8 +135,7 @@ impl<S> WorldState<S> {
     /// What a slot of the frame with a number holds; a frame that ended is refused as `DeadReference`.
     #[tactic(auto, unfolding(crate::specs::Slots::slot_of))]
     pub fn slot(&self, number: u64, slot: Slot) -> Result<Value>
-        ensures answer { Does result self.now (slot_of number slot) self.now }
-        ensures memory { NotMemory result }
+        ensures { DoesInPlace result self.now (slot_of number slot) self.now }
     {
         match frame_index(&self.frames, number) {
             None => Err(Refusal::Evaluation(EvaluationFault::DeadReference)),

@@ -1,7 +1,6 @@
 //! Storing values (ACPI 6.5, 19.3.5.8 and 19.6: Store, CopyObject).
 ghost use Rattle.std.specs.Prelude.{◌≡◌};
-ghost use Rattle.ar_space.specs.Change.{Does};
-ghost use Rattle.ar_space.specs.Outcome.{Answers, NotMemory};
+ghost use Rattle.ar_space.specs.Change.{Does, DoesInPlace};
 ghost use Rattle.aml_objects.specs.declared.entry.NamedObject.TheVariants.{Data};
 ghost use Rattle.aml_namespace.specs.Namespace.{replaced};
 ghost use Rattle.aml_meaning.specs.State.{on_names};
@@ -116,29 +115,28 @@ impl<S> WorldState<S> {
 
     #[tactic(auto, using(ar_space::proofs::Changes::changing), unfolding(crate::specs::Stores::store_integer))]
     fn store_integer(&mut self, path: &Located, value: Value) -> Result<Stored>
-        ensures change { Does result self.new (store_integer path.now value) self.old }
-        ensures memory { NotMemory result }
+        ensures { DoesInPlace result self.new (store_integer path.now value) self.old }
     {
         let number = self.integer_in(value)?;
         self.put_data(path, Value::Integer(number))?;
         Ok(Stored::Done)
     }
 
-    #[tactic(auto, using(ar_space::proofs::Changes::changing), unfolding(crate::specs::Stores::store_text))]
+    #[tactic(auto, using(crate::proofs::Lifted::writing), unfolding(crate::specs::Stores::store_text))]
     fn store_text(&mut self, object: u32, value: Value) -> Result<Stored>
         ensures { Does result self.new (store_text object value) self.old }
     {
         let bytes = self.text_in(value)?;
-        self.write_string(object, bytes)?;
+        self.heap.write_string(object, bytes)?;
         Ok(Stored::Done)
     }
 
-    #[tactic(auto, using(ar_space::proofs::Changes::changing), unfolding(crate::specs::Stores::store_bytes))]
+    #[tactic(auto, using(crate::proofs::Lifted::writing), unfolding(crate::specs::Stores::store_bytes))]
     fn store_bytes(&mut self, object: u32, value: Value) -> Result<Stored>
         ensures { Does result self.new (store_bytes object value) self.old }
     {
         let bytes = self.bytes_in(value)?;
-        self.write_buffer(object, bytes)?;
+        self.heap.write_buffer(object, bytes)?;
         Ok(Stored::Done)
     }
 
@@ -173,11 +171,11 @@ impl<S> WorldState<S> {
         }
     }
 
-    #[tactic(auto, using(ar_space::proofs::Changes::changing), unfolding(crate::specs::Stores::copy_into_name))]
+    #[tactic(auto, using(crate::proofs::Lifted::writing), unfolding(crate::specs::Stores::copy_into_name))]
     pub(crate) fn copy_into_name(&mut self, path: &Located, value: Value) -> Result<Stored>
         ensures { Does result self.new (copy_into_name path.now value) self.old }
     {
-        let copy = self.copy(value)?;
+        let copy = self.heap.copy(self.alloc, value)?;
         self.put_data(path, copy)?;
         Ok(Stored::Done)
     }
@@ -185,14 +183,13 @@ impl<S> WorldState<S> {
     /// The name at a path holds a value from now on.
     #[tactic(auto, using(crate::proofs::Lifted::parts))]
     fn put_data(&mut self, path: &Located, value: Value) -> Result<()>
-        ensures change { Does result self.new (on_names (replaced path.now (Data value))) self.old }
-        ensures memory { NotMemory result }
+        ensures { DoesInPlace result self.new (on_names (replaced path.now (Data value))) self.old }
     {
         self.declarations
             .replace_located(path, NamedObject::Data(value))
     }
 
-    #[tactic(auto, using(ar_space::proofs::Changes::changing), unfolding(crate::specs::Stores::copy_into_slot))]
+    #[tactic(auto, using(crate::proofs::Lifted::writing), unfolding(crate::specs::Stores::copy_into_slot))]
     pub(crate) fn copy_into_slot(
         &mut self,
         frame: usize,
@@ -201,7 +198,7 @@ impl<S> WorldState<S> {
     ) -> Result<Stored>
         ensures { Does result self.new (copy_into_slot frame slot value) self.old }
     {
-        let copy = self.copy(value)?;
+        let copy = self.heap.copy(self.alloc, value)?;
         self.slot_put(frame, slot, copy)?;
         Ok(Stored::Done)
     }
@@ -209,8 +206,7 @@ impl<S> WorldState<S> {
     /// A slot of the frame at an index holds a value from now on.
     #[tactic(auto, unfolding(crate::specs::Stores::slot_put))]
     fn slot_put(&mut self, frame: usize, slot: Slot, value: Value) -> Result<()>
-        ensures change { Does result self.new (slot_put frame slot value) self.old }
-        ensures memory { NotMemory result }
+        ensures { DoesInPlace result self.new (slot_put frame slot value) self.old }
     {
         if frame < self.frames.len() {
             self.frames[frame].put_slot(slot, value);

@@ -19,14 +19,14 @@ impl<S> WorldState<S> {
         ensures arities { result ≡ self.old.arities }
         ensures none { self.new ≡ record self.old { arities = [] } }
     {
-        self.declarations.take_arities(self.alloc)
+        self.declarations.replace_arities(Arities::new(self.alloc))
     }
 
     /// Takes over the arguments that names take from now on. It takes no memory.
     pub fn set_arities(&mut self, arities: Arities)
         ensures { self.new ≡ record self.old { arities = arities } }
     {
-        self.declarations.set_arities(arities);
+        self.declarations.replace_arities(arities);
     }
 
     /// Frees all mutexes, as at the end of each evaluation. It takes no memory.

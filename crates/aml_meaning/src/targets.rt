@@ -1,7 +1,7 @@
 //! What stands where values are stored (ACPI 6.5, 19.3.5).
 ghost use Rattle.std.specs.Prelude.{◌≡◌, ◌<◌, IfOk, length};
-ghost use Rattle.ar_space.specs.Change.{Does};
-ghost use Rattle.ar_space.specs.Outcome.{Answers, NotMemory, seen};
+ghost use Rattle.ar_space.specs.Change.{Does, DoesInPlace};
+ghost use Rattle.ar_space.specs.Outcome.{AnswersInPlace, NotMemory, seen};
 ghost use Rattle.aml_meaning.specs.StoreTargets.{holding_of, held_at, latest_frame, frame_found, slot_held, own_slot};
 ghost use Rattle.aml_meaning.specs.StoreTargets.{initialized, slot_read, held_in, held_in_slot, name_read, target_read};
 ghost use Rattle.aml_meaning.specs.StoreTargets.{declaration, entry_declared};
@@ -28,8 +28,7 @@ impl<S> WorldState<S> {
     /// What the name at a path holds; refused as `NotFound` where none stands there.
     #[tactic(auto, unfolding(crate::specs::StoreTargets::held_at))]
     pub(crate) fn held_at(&self, path: &Located) -> Result<Holding>
-        ensures answer { Does result self.now (held_at path.now) self.now }
-        ensures memory { NotMemory result }
+        ensures { DoesInPlace result self.now (held_at path.now) self.now }
     {
         match self.names().get_located(path) {
             None => Err(Refusal::Namespace(NamespaceFault::NotFound)),
@@ -40,8 +39,7 @@ impl<S> WorldState<S> {
     /// The index of the frame of the control method that runs.
     #[tactic(auto, unfolding(crate::specs::StoreTargets::latest_frame))]
     pub(crate) fn latest_frame(&self) -> Result<usize>
-        ensures answer { Does result self.now latest_frame self.now }
-        ensures memory { NotMemory result }
+        ensures { DoesInPlace result self.now latest_frame self.now }
     {
         match self.frames.len() {
             0 => Err(Refusal::Evaluation(EvaluationFault::DeadReference)),
@@ -52,8 +50,7 @@ impl<S> WorldState<S> {
     /// The index of the frame with a number; one that ended is refused as `DeadReference`.
     #[tactic(auto, unfolding(crate::specs::StoreTargets::frame_found))]
     pub(crate) fn frame_found(&self, number: u64) -> Result<usize>
-        ensures answer { Does result self.now (frame_found number) self.now }
-        ensures memory { NotMemory result }
+        ensures { DoesInPlace result self.now (frame_found number) self.now }
     {
         match frame_index(&self.frames, number) {
             None => Err(Refusal::Evaluation(EvaluationFault::DeadReference)),
@@ -64,8 +61,7 @@ impl<S> WorldState<S> {
     /// What a slot of the frame at an index holds.
     #[tactic(auto, unfolding(crate::specs::StoreTargets::slot_held))]
     pub(crate) fn slot_held(&self, index: usize, slot: Slot) -> Result<Value>
-        ensures answer { Does result self.now (slot_held index slot) self.now }
-        ensures memory { NotMemory result }
+        ensures { DoesInPlace result self.now (slot_held index slot) self.now }
     {
         match self.frames.get(index) {
             None => Err(Refusal::Evaluation(EvaluationFault::DeadReference)),
@@ -76,8 +72,7 @@ impl<S> WorldState<S> {
     /// What a slot of the control method that runs holds.
     #[tactic(auto, using(ar_space::proofs::Changes::changing), unfolding(crate::specs::StoreTargets::own_slot))]
     pub(crate) fn own_slot(&self, slot: Slot) -> Result<Value>
-        ensures answer { Does result self.now (own_slot slot) self.now }
-        ensures memory { NotMemory result }
+        ensures { DoesInPlace result self.now (own_slot slot) self.now }
     {
         let index = self.latest_frame()?;
         self.slot_held(index, slot)
@@ -86,8 +81,7 @@ impl<S> WorldState<S> {
     /// The value of a local or an argument; one that is uninitialized is refused as `NoValue`.
     #[tactic(auto, using(ar_space::proofs::Changes::changing), unfolding(crate::specs::StoreTargets::slot_read))]
     pub fn slot_read(&self, slot: Slot) -> Result<Value>
-        ensures answer { Does result self.now (slot_read slot) self.now }
-        ensures memory { NotMemory result }
+        ensures { DoesInPlace result self.now (slot_read slot) self.now }
     {
         let value = self.own_slot(slot)?;
         initialized(value)
@@ -97,8 +91,7 @@ impl<S> WorldState<S> {
     /// and an uninitialized slot as `NoValue`.
     #[tactic(auto, using(ar_space::proofs::Changes::changing))]
     pub fn target_read(&self, target: &StoreTarget) -> Result<Held>
-        ensures answer { Does result self.now (target_read target.now) self.now }
-        ensures memory { NotMemory result }
+        ensures { DoesInPlace result self.now (target_read target.now) self.now }
     {
         match target {
             StoreTarget::Nowhere => Err(Refusal::Value(ValueFault::WrongType)),
@@ -110,8 +103,7 @@ impl<S> WorldState<S> {
 
     #[tactic(auto, using(ar_space::proofs::Changes::changing), unfolding(crate::specs::StoreTargets::held_in_slot))]
     fn held_in_slot(&self, slot: Slot) -> Result<Held>
-        ensures answer { Does result self.now (held_in_slot slot) self.now }
-        ensures memory { NotMemory result }
+        ensures { DoesInPlace result self.now (held_in_slot slot) self.now }
     {
         let value = self.slot_read(slot)?;
         Ok(Held::Value(value))
@@ -119,8 +111,7 @@ impl<S> WorldState<S> {
 
     #[tactic(auto, using(ar_space::proofs::Changes::changing), unfolding(crate::specs::StoreTargets::name_read))]
     fn name_read(&self, path: &Located) -> Result<Held>
-        ensures answer { Does result self.now (name_read path.now) self.now }
-        ensures memory { NotMemory result }
+        ensures { DoesInPlace result self.now (name_read path.now) self.now }
     {
         let held = self.held_at(path)?;
         held_in(held)
@@ -166,8 +157,7 @@ pub(crate) fn holding_of(object: &NamedObject) -> Holding
 }
 
 pub(crate) fn initialized(value: Value) -> Result<Value>
-    ensures answer { Answers result (initialized value) }
-    ensures memory { NotMemory result }
+    ensures { AnswersInPlace result (initialized value) }
 {
     match value {
         Value::Uninitialized => Err(Refusal::Evaluation(EvaluationFault::NoValue)),
@@ -180,8 +170,7 @@ pub(crate) fn initialized(value: Value) -> Result<Value>
 }
 
 fn held_in(held: Holding) -> Result<Held>
-    ensures answer { Answers result (held_in held) }
-    ensures memory { NotMemory result }
+    ensures { AnswersInPlace result (held_in held) }
 {
     match held {
         Holding::Value(value) => Ok(Held::Value(value)),

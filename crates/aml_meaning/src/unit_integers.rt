@@ -41,10 +41,9 @@ impl<S: Space> WorldState<S> {
     /// has no more bits than an integer, unless the unit is of an IndexField or a BankField. No clause says for which
     /// units it answers one.
     pub fn unit_integer(&mut self, unit: FieldUnit) -> Result<Option<u64>>
-        ensures read { IfOk result (λ read. MatchOption read (self.new ≡ self.old)
-            (λ number. (call : List Segment → Run S ℕ) (steps : ℕ) →
-            Does (Ok (Integer number)) (self.new, steps) (field_value S.accesses call (field.Unit unit))
-            (self.old, steps))) }
+        ensures read { IfOk result (λ read. MatchOption read (self.new ≡ self.old) (λ number. (call : List Segment → Run
+            S ℕ) (steps : ℕ) → Does (Ok (Integer number)) (self.new, steps) (field_value S.accesses call (field.Unit
+            unit)) (self.old, steps))) }
         ensures refused { IfErr result (λ refusal. (call : List Segment → Run S ℕ) (steps : ℕ) →
             Does (Err refusal) (self.new, steps) (field_value S.accesses call (field.Unit unit)) (self.old, steps)) }
         ensures memory { NotMemory result }
@@ -65,9 +64,8 @@ impl<S: Space> WorldState<S> {
         ensures written { IfOk result (λ done. MatchBool done ((call : List Segment → Run S ℕ) (steps : ℕ) →
             Does (Ok tt) (self.new, steps) (field_stored S.accesses call (field.Unit unit) (Integer number))
             (self.old, steps)) (self.new ≡ self.old)) }
-        ensures refused { IfErr result (λ refusal. (call : List Segment → Run S ℕ) (steps : ℕ) →
-            Does (Err refusal) (self.new, steps) (field_stored S.accesses call (field.Unit unit)
-            (Integer number)) (self.old, steps)) }
+        ensures refused { IfErr result (λ refusal. (call : List Segment → Run S ℕ) (steps : ℕ) → Does (Err refusal)
+            (self.new, steps) (field_stored S.accesses call (field.Unit unit) (Integer number)) (self.old, steps)) }
         ensures memory { NotMemory result }
     {
         if is_wide(self.width, unit.bits) {

@@ -1,7 +1,7 @@
 //! Terms of the wide profile: whether a world evaluates them, and what they form of values (ACPI 6.5, 19.6).
 ghost use Rattle.std.specs.Prelude.{◌≡◌};
-ghost use Rattle.ar_space.specs.Change.{Does};
-ghost use Rattle.ar_space.specs.Outcome.{NotMemory, seen};
+ghost use Rattle.ar_space.specs.Change.{Does, DoesInPlace};
+ghost use Rattle.ar_space.specs.Outcome.{seen};
 ghost use Rattle.aml_convert.specs.Formed.{formed_content};
 ghost use Rattle.aml_meaning.specs.Profiles.{asked_for};
 ghost use Rattle.aml_meaning.specs.WideOperations.{decoded_in, number_coded, coded_in, decimal_text};
@@ -26,8 +26,7 @@ impl<S> WorldState<S> {
     /// `Unsupported`.
     #[tactic(auto, unfolding(crate::specs::Profiles::asked_for, crate::specs::Profiles::evaluated_in))]
     pub fn ask_for(&self, opcode: Opcode) -> Result<()>
-        ensures answer { Does result self.now (asked_for opcode) self.now }
-        ensures memory { NotMemory result }
+        ensures { DoesInPlace result self.now (asked_for opcode) self.now }
     {
         match self.profile {
             Profile::Wide => Ok(()),
@@ -53,12 +52,12 @@ impl<S> WorldState<S> {
 
     /// ToString: a new string of the bytes of a value before the first zero, at most as many as are asked for.
     #[inline(never)]
-    #[tactic(auto, using(ar_space::proofs::Changes::changing), unfolding(crate::specs::WideOperations::string_in))]
+    #[tactic(auto, using(crate::proofs::Lifted::making), unfolding(crate::specs::WideOperations::string_in))]
     pub fn to_string(&mut self, source: Value, count: Value) -> Result<Value>
         ensures { Does result self.new (string_in source count) self.old }
     {
         let text = self.string_text(source, count)?;
-        self.make_string(text)
+        self.heap.make_string(text)
     }
 
     /// Mid: a part of a value, from a place on, at most as many bytes as are asked for.
@@ -85,12 +84,12 @@ impl<S> WorldState<S> {
         }
     }
 
-    #[tactic(auto, using(ar_space::proofs::Changes::changing), unfolding(crate::specs::WideOperations::new_decimal_string))]
+    #[tactic(auto, using(crate::proofs::Lifted::making), unfolding(crate::specs::WideOperations::new_decimal_string))]
     fn new_decimal_string(&mut self, value: Value) -> Result<Value>
         ensures { Does result self.new (new_decimal_string value) self.old }
     {
         let text = self.decimal_text(value)?;
-        self.make_string(text)
+        self.heap.make_string(text)
     }
 
     #[tactic(auto, unfolding(crate::specs::WideOperations::decimal_text))]
@@ -116,12 +115,12 @@ impl<S> WorldState<S> {
         }
     }
 
-    #[tactic(auto, using(ar_space::proofs::Changes::changing), unfolding(crate::specs::WideOperations::new_hexadecimal_string))]
+    #[tactic(auto, using(crate::proofs::Lifted::making), unfolding(crate::specs::WideOperations::new_hexadecimal_string))]
     fn new_hexadecimal_string(&mut self, value: Value) -> Result<Value>
         ensures { Does result self.new (new_hexadecimal_string value) self.old }
     {
         let text = self.hexadecimal_text(value)?;
-        self.make_string(text)
+        self.heap.make_string(text)
     }
 
     #[tactic(auto, unfolding(crate::specs::WideOperations::hexadecimal_text))]
@@ -133,8 +132,7 @@ impl<S> WorldState<S> {
 
     #[tactic(auto, using(ar_space::proofs::Changes::changing), unfolding(crate::specs::WideOperations::decoded_in))]
     fn decode_decimal(&self, value: Value) -> Result<Value>
-        ensures answer { Does result self.now (decoded_in value) self.now }
-        ensures memory { NotMemory result }
+        ensures { DoesInPlace result self.now (decoded_in value) self.now }
     {
         let number = self.integer_in(value)?;
         integer(decode_decimal(number))
@@ -142,8 +140,7 @@ impl<S> WorldState<S> {
 
     #[tactic(auto, using(ar_space::proofs::Changes::changing), unfolding(crate::specs::WideOperations::coded_in))]
     fn code_decimal(&self, value: Value) -> Result<Value>
-        ensures answer { Does result self.now (coded_in value) self.now }
-        ensures memory { NotMemory result }
+        ensures { DoesInPlace result self.now (coded_in value) self.now }
     {
         let number = self.integer_in(value)?;
         self.number_coded(number)
@@ -151,8 +148,7 @@ impl<S> WorldState<S> {
 
     #[tactic(auto, unfolding(crate::specs::WideOperations::number_coded))]
     fn number_coded(&self, number: u64) -> Result<Value>
-        ensures answer { Does result self.now (number_coded number) self.now }
-        ensures memory { NotMemory result }
+        ensures { DoesInPlace result self.now (number_coded number) self.now }
     {
         integer(code_decimal(self.width, number))
     }

@@ -1,8 +1,6 @@
 //! A world, as callers have it (ACPI 6.5, 5.3 and 5.5).
 ghost use Rattle.std.specs.Prelude.{◌≡◌, ◌≢◌, Ok, Err, IfOk, IfErr};
 ghost use Rattle.ar_space.specs.declared.refusal.Refusal.TheVariants.{OutOfMemory};
-ghost use Rattle.ar_space.specs.Change.{Does};
-ghost use Rattle.aml_meaning.specs.Passing.{passed_over};
 ghost use Rattle.aml_meaning.specs.Predefined.{fresh, fresh_as, predefined};
 
 use crate::passed_over::PassedOver;
@@ -13,7 +11,6 @@ use crate::trace::Trace;
 use crate::world_state::WorldState;
 use aml_namespace::Names;
 use aml_objects::Octets;
-use aml_path::Path;
 use ar_space::{IntegerWidth, Refusal, Result};
 use std::alloc::Global;
 use std::marker::Model;
@@ -21,7 +18,8 @@ use std::marker::Model;
 /// A world: the namespace with its objects, and the register space under it, which evaluation changes.
 ///
 /// Tables are loaded into it, and its objects are evaluated, by the calls of `aml_interp`. What changes it without
-/// evaluating are calls of its state, `world.running.world`.
+/// evaluating are calls of its state, `world.running.world`, and of the parts of that: its objects (`heap`) and its
+/// register space (`space`).
 #[derive(Drop)]
 pub struct World<S> {
     /// The world's state, and the steps of the evaluation in progress.
@@ -117,13 +115,6 @@ impl<S> World<S> {
         ensures { result.now ≡ self.now.names }
     {
         &self.running.world.declarations.names
-    }
-
-    /// Passes over a refusal, as `WorldState::pass_over` does.
-    pub fn pass_over(&mut self, scope: &Path, refusal: Refusal) -> Result<()>
-        ensures { Does result self.new (passed_over scope.now refusal) self.old }
-    {
-        self.running.world.pass_over(scope, refusal)
     }
 
     /// How wide integers are.

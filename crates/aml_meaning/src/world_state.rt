@@ -22,10 +22,12 @@ use std::marker::Model;
 #[derive(Drop)]
 pub struct WorldState<S> {
     pub(crate) declarations: Declarations,
-    pub(crate) heap: Heap,
+    /// The objects. Whoever puts others in their place takes what names and slots hold from under them.
+    pub heap: Heap,
     pub(crate) frames: Vec<Frame>,
     pub(crate) started: u64,
-    pub(crate) space: S,
+    /// The register space.
+    pub space: S,
     pub(crate) osi: Vec<Octets>,
     pub(crate) width: IntegerWidth,
     pub(crate) profile: Profile,
@@ -98,6 +100,13 @@ impl<S> WorldState<S> {
         ensures { result.now ≡ self.now.names }
     {
         &self.declarations.names
+    }
+
+    /// The objects, to be read.
+    pub fn objects(&self) -> &Heap
+        ensures { result.now ≡ self.now.objects }
+    {
+        &self.heap
     }
 
     /// How wide integers are, which nothing changes.

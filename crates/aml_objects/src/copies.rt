@@ -7,11 +7,8 @@ ghost use Rattle.aml_objects.specs.Copies.{whole_copy, package_copy, copied};
 use crate::heap::Heap;
 use crate::object::{Element, Elements, Object};
 use crate::value::Value;
-use ar_space::{EvaluationFault, Refusal, Result};
+use ar_space::{EvaluationFault, MAX_NESTING, Refusal, Result};
 use std::alloc::Global;
-
-/// How deep packages may nest where one is copied.
-const MAX_NESTING: usize = 64;
 
 impl Heap {
     /// A copy of a value, packages deeply. A refused one makes no object.

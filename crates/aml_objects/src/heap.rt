@@ -3,7 +3,7 @@ ghost use Rattle.std.specs.Prelude.{◌≡◌, ◌<◌, ◌++◌, ◌∷◌, [],
 ghost use Rattle.std.specs.Prelude.{if◌then◌else◌, option_map, Some, Ok, Err, OnOk, OnErr, IsOkUnless};
 ghost use Rattle.ar_space.specs.Outcome.{Answers, NotMemory, seen};
 ghost use Rattle.ar_space.specs.declared.refusal.Refusal.TheVariants.{OutOfMemory};
-ghost use Rattle.ar_space.specs.Change.{Does};
+ghost use Rattle.ar_space.specs.Change.{Does, DoesInPlace};
 ghost use Rattle.aml_objects.specs.Objects.{make, make_string, make_buffer, make_package, string_at, buffer_at};
 ghost use Rattle.aml_objects.specs.Objects.{elements_at, write_buffer, write_string, fitted_to, buffer_in};
 ghost use Rattle.aml_objects.specs.Objects.{exchange_buffer, exchanged_with, write_byte, byte_outcome, byte_written};
@@ -167,8 +167,7 @@ impl Heap {
     /// `WrongType`, and then nothing changes.
     #[tactic(auto, unfolding(crate::specs::Objects::exchange_buffer))]
     pub fn exchange_buffer(&mut self, object: u32, bytes: Octets) -> Result<Octets>
-        ensures change { Does result self.new (exchange_buffer object bytes) self.old }
-        ensures memory { NotMemory result }
+        ensures { DoesInPlace result self.new (exchange_buffer object bytes) self.old }
     {
         if object as usize >= self.objects.len() {
             return Err(Refusal::Value(ValueFault::WrongType));
@@ -195,8 +194,7 @@ impl Heap {
     /// `DeadReference`.
     #[tactic(auto, unfolding(crate::specs::Objects::write_byte))]
     pub fn write_byte(&mut self, object: u32, index: usize, byte: u8) -> Result<()>
-        ensures change { Does result self.new (write_byte object index byte) self.old }
-        ensures memory { NotMemory result }
+        ensures { DoesInPlace result self.new (write_byte object index byte) self.old }
     {
         if object as usize >= self.objects.len() {
             return Err(Refusal::Evaluation(EvaluationFault::DeadReference));
@@ -223,8 +221,7 @@ impl Heap {
     /// One byte of a string or a buffer. Past its end, and of another object, this is refused as `DeadReference`.
     #[tactic(auto, unfolding(crate::specs::Objects::byte_at))]
     pub fn byte(&self, object: u32, index: usize) -> Result<u8>
-        ensures answer { Does result self.now (byte_at object index) self.now }
-        ensures memory { NotMemory result }
+        ensures { DoesInPlace result self.now (byte_at object index) self.now }
     {
         if object as usize >= self.objects.len() {
             return Err(Refusal::Evaluation(EvaluationFault::DeadReference));
@@ -240,8 +237,7 @@ impl Heap {
     /// `DeadReference`.
     #[tactic(auto, unfolding(crate::specs::Objects::element_there))]
     pub fn element_there(&self, object: u32, index: usize) -> Result<()>
-        ensures answer { Does result self.now (element_there object index) self.now }
-        ensures memory { NotMemory result }
+        ensures { DoesInPlace result self.now (element_there object index) self.now }
     {
         match self.object(object) {
             None => Err(Refusal::Evaluation(EvaluationFault::DeadReference)),
@@ -252,8 +248,7 @@ impl Heap {
     /// Replaces one element of a package. Past its end, and of another object, this is refused as `DeadReference`.
     #[tactic(auto, unfolding(crate::specs::Objects::write_element))]
     pub fn write_element(&mut self, object: u32, index: usize, element: Element) -> Result<()>
-        ensures change { Does result self.new (write_element object index element) self.old }
-        ensures memory { NotMemory result }
+        ensures { DoesInPlace result self.new (write_element object index element) self.old }
     {
         if object as usize >= self.objects.len() {
             return Err(Refusal::Evaluation(EvaluationFault::DeadReference));
@@ -289,8 +284,7 @@ impl Heap {
     /// Another kind of object is refused as `WrongType`, too many bytes as `ObjectLimit`.
     #[tactic(auto, unfolding(crate::specs::Objects::write_string))]
     pub fn write_string(&mut self, object: u32, bytes: Octets) -> Result<()>
-        ensures change { Does result self.new (write_string object bytes) self.old }
-        ensures memory { NotMemory result }
+        ensures { DoesInPlace result self.new (write_string object bytes) self.old }
     {
         if object as usize >= self.objects.len() {
             return Err(Refusal::Value(ValueFault::WrongType));

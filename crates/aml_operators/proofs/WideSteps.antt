@@ -1,5 +1,5 @@
 -- Terms of the wide profile: how they begin, and what their rules come to.
-use Rattle.std.specs.Prelude.{◌≡◌, ℕ, Option, Some, Ok, refl}
+use Rattle.std.specs.Prelude.{◌≡◌, ℕ, Some, Ok, refl}
 use Rattle.std.proofs.Common.{◌∙◌, ap, sym, subst}
 use Rattle.ar_space.specs.Accesses.{Accesses}
 use Rattle.ar_space.specs.Outcome.{Outcome}
@@ -16,7 +16,7 @@ use Rattle.aml_meaning.specs.declared.term_kind.WideKind.{WideKind}
 use Rattle.aml_meaning.specs.declared.term_kind.WideKind.TheVariants as wides
 use Rattle.aml_meaning.specs.State.{State}
 use Rattle.aml_meaning.specs.Meaning.{meaning}
-use Rattle.aml_meaning.specs.Tasks.{operand_value, value_at}
+use Rattle.aml_meaning.specs.Tasks.{value_at}
 use Rattle.aml_meaning.specs.TargetTerms.{targeted}
 use Rattle.aml_meaning.specs.WideTerms.{formed_at, convert_rule, to_string_rule, middle_rule, event_rule, wait_rule}
 use Rattle.aml_frames.specs.declared.frames.Frame.TheVariants as frames
@@ -24,13 +24,13 @@ use Rattle.aml_frames.specs.declared.frames.Next.{Next}
 use Rattle.aml_frames.specs.declared.frames.Next.TheVariants as next
 use Rattle.aml_frames.specs.declared.uses.Dyadic.TheVariants as dyadic
 use Rattle.aml_frames.specs.declared.uses.Monadic.TheVariants as monadic
-use Rattle.aml_frames.specs.Places.{Site, at_place, terms, next_term}
+use Rattle.aml_frames.specs.Places.{Site, at_place, terms}
 use Rattle.aml_frames.specs.Operands.{behind_one, behind_two, row_kind, argument_target_at, arguments_target_at, three_arguments_target_at, super_at, super_argument_at, wide_tree}
 use Rattle.aml_frames.specs.declared.uses.TargetUse.TheVariants as uses
-use Rattle.aml_frames.specs.Uses.{super, stored_at, target_run, wait_done}
+use Rattle.aml_frames.specs.Uses.{super, stored_at, target_run}
 use Rattle.aml_frames.specs.Follow.{coded_run, wide_run, asked_run, behind_coded, behind_wide_at, Leads, EndsAt}
 use Rattle.aml_frames.proofs.RuleShapes.{wide_is, behind_wide_is}
-use Rattle.aml_frames.proofs.Stepping.{leads_value, leads_value_at}
+use Rattle.aml_frames.proofs.Stepping.{leads_value_at}
 use Rattle.aml_frames.proofs.Targeting.{target_part_is}
 use Rattle.aml_frames.proofs.Using.{two_run}
 
@@ -68,15 +68,8 @@ module _ {S : Type 0} {ac : Accesses S} where
   unfolding wait_rule value_at settle ◌>>=◌ go_on
   leads_wait c levels h = rw (target_part_is (meaning ac) c.scope c.depth codes.Name (super_argument_at (terms c levels) c.place) 0 (a_super_name (terms c levels) c.place).0 refl) h
 
-  -- the timeout of a Wait
-  pub leads_timeout : {c : Site} {s : State S × ℕ} (levels : ℕ) (e : Option ℕ) → Leads ac (meaning ac) (Ok (next.Term levels (frames.Wait e))) c s (operand_value (meaning ac) c.scope c.depth (next_term c levels) >>= wait_done ac (meaning ac) e) s
-  leads_timeout levels e = leads_value levels (frames.Wait e) (wait_done ac (meaning ac) e) refl
-
 -- what closes the beginning of a term of the wide profile
 pub ruleset beginning_wide = (leads_wide, ends_wide)
 
 -- and of one that does something with an event
 pub ruleset beginning_events = (leads_event, leads_wait)
-
--- and the operand of a Wait, which is found first
-pub ruleset waiting = (leads_timeout)

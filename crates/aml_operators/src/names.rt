@@ -1,5 +1,5 @@
 //! Names where values stand (ACPI 6.5, 5.5.2 and 20.2.5: MethodInvocation).
-ghost use Rattle.std.specs.Prelude.{◌≡◌, ◌≤◌, ◌<◌, ◌+◌, ◌*◌, false, IfOk, IfSome};
+ghost use Rattle.std.specs.Prelude.{◌+◌, ◌*◌, false, IfSome};
 ghost use Rattle.ar_space.specs.Change.{Does};
 ghost use Rattle.aml_grammar.specs.Shape.{trees_of};
 ghost use Rattle.aml_marked.specs.Marked.{a_name, turns_of};
@@ -8,8 +8,9 @@ ghost use Rattle.aml_meaning.specs.Invocations.{invocation_found};
 ghost use Rattle.aml_meaning.specs.InvocationTerms.{invocation_rule};
 ghost use Rattle.aml_frames.specs.Places.{at_place, terms};
 ghost use Rattle.aml_frames.specs.ShortNames.{FindsAt};
-ghost use Rattle.aml_frames.specs.Follow.{name_run, behind_name_at, Leads, EndsAt};
-ghost use Rattle.aml_frames.specs.Weights.{most, next_weight};
+ghost use Rattle.aml_frames.specs.Follow.{name_run, behind_name_at};
+ghost use Rattle.aml_frames.specs.Weights.{most};
+ghost use Rattle.aml_frames.specs.Steps.{Steps};
 
 use aml_accesses::{begin_call, begin_read};
 use aml_frames::{Activation, Call, Callee, Next, Reading, node_at, told_here};
@@ -20,11 +21,8 @@ use ar_space::{Result, Space};
 /// Begins a name that stands for a value: finds what it names, and uses it with the arguments behind it.
 #[tactic(auto, using(aml_frames::proofs::Using::using_targets), unfolding(aml_frames::specs::Follow::name_run, aml_marked::specs::Marked::a_name))]
 pub fn begin_name<S: Space>(run: &mut Running<S>, act: &mut Activation, levels: u8) -> Result<Next>
-    ensures spent { run.new.1 ≤ run.old.1 }
-    ensures falls { IfOk result (λ n. next_weight n < 3 * most + 100) }
-    ensures means { Leads S.accesses (meaning S.accesses) result act.new run.new
-        (name_run S.accesses (meaning S.accesses) act.old levels) run.old }
-    ensures ends { EndsAt result act.new (behind_name_at act.old levels) }
+    ensures { Steps S.accesses (3 * most + 100) result act.new run.new
+        (name_run S.accesses (meaning S.accesses) act.old levels, behind_name_at act.old levels) run.old }
 {
     let count = act.argument_count();
     let node = node_at(&run.world, act);
@@ -75,13 +73,11 @@ fn begin_invocation<S: Space>(
     node: Option<NodeId>,
     invocation: Invocation,
 ) -> Result<Next>
-    ensures spent { run.new.1 ≤ run.old.1 }
-    ensures falls { IfOk result (λ n. next_weight n < 3 * most + 100) }
-    ensures means { Leads S.accesses (meaning S.accesses) result act.new run.new
-        (invocation_rule S.accesses (meaning S.accesses) act.old.scope act.old.depth
-        (trees_of (turns_of (terms act.old levels false) count act.old.place).0) invocation) run.old }
-    ensures ends { EndsAt result act.new
-        (at_place act.old (turns_of (terms act.old levels false) count act.old.place).1) }
+    ensures { Steps S.accesses (3 * most + 100) result act.new run.new (
+      invocation_rule S.accesses (meaning S.accesses) act.old.scope act.old.depth
+          (trees_of (turns_of (terms act.old levels false) count act.old.place).0) invocation,
+      at_place act.old (turns_of (terms act.old levels false) count act.old.place).1,
+    ) run.old }
 {
     match invocation {
         Invocation::Value(value) => {

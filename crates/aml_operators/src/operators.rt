@@ -1,6 +1,6 @@
 //! Operators: terms that evaluate operands, form a value and store it to targets (ACPI 6.5, 19.6 and 20.2.5.4). The
 //! operands stand next.
-ghost use Rattle.std.specs.Prelude.{◌≡◌, ◌≤◌, ◌<◌, ◌+◌, ◌*◌, IfOk, IfErr};
+ghost use Rattle.std.specs.Prelude.{◌≡◌, ◌<◌, ◌+◌, ◌*◌, IfErr};
 ghost use Rattle.ar_space.specs.declared.refusal.Refusal.TheVariants.{OutOfMemory};
 ghost use Rattle.ar_space.specs.Outcome.{NotMemory};
 ghost use Rattle.aml_objects.specs.declared.value.Value.{Value as AnyValue};
@@ -8,15 +8,12 @@ ghost use Rattle.aml_meaning.specs.declared.store_target.Held.TheVariants as hel
 ghost use Rattle.aml_meaning.specs.Meaning.{meaning};
 ghost use Rattle.aml_frames.specs.declared.frames.Frame.TheVariants as frames;
 ghost use Rattle.aml_frames.specs.declared.frames.Next.TheVariants as next;
-ghost use Rattle.aml_frames.specs.Follow.{operator_run, behind_operator_at, resumed, ends, next_run, next_ends, Leads};
-ghost use Rattle.aml_frames.specs.Follow.{EndsAt};
 ghost use Rattle.aml_frames.specs.declared.uses.TargetUse.TheVariants as uses;
-ghost use Rattle.aml_frames.specs.Uses.{super, target_ends, target_run, held_given, monadic_done, monadic_ends, dyadic_done, dyadic_ends};
-ghost use Rattle.aml_frames.specs.Weights.{most, weight, next_weight, target_weight};
+ghost use Rattle.aml_frames.specs.Uses.{super, held_given, monadic_done, monadic_ends, dyadic_done, dyadic_ends};
+ghost use Rattle.aml_frames.specs.Weights.{most, target_weight};
+ghost use Rattle.aml_frames.specs.Steps.{Steps, frame_at, next_at, operator_and_end, next_target};
 
-use crate::references::{begin_conditional, begin_inquiry};
 use crate::short_values::short_value;
-use crate::targets::begin_target;
 use aml_accesses::begin_read;
 use aml_frames::{
     Activation, Dyadic, Frame, Inquiry, Monadic, Next, Reading, SecondOperand, Target, TargetUse,
@@ -24,6 +21,7 @@ use aml_frames::{
 };
 use aml_meaning::{Flow, Held, OperatorKind, Running, reference_in};
 use aml_objects::Value;
+use aml_targets::{begin_conditional, begin_inquiry, begin_target};
 use ar_space::{Result, Space};
 
 /// Begins an operator. A local or an argument gives its value; any other operator evaluates its first operand, or finds
@@ -36,11 +34,8 @@ pub fn begin_operator<S: Space>(
     levels: u8,
     kind: OperatorKind,
 ) -> Result<Next>
-    ensures spent { run.new.1 ≤ run.old.1 }
-    ensures falls { IfOk result (λ n. next_weight n < 3 * most + 100) }
-    ensures means { Leads S.accesses (meaning S.accesses) result act.new run.new
-        (operator_run S.accesses (meaning S.accesses) kind act.old levels) run.old }
-    ensures ends { EndsAt result act.new (behind_operator_at kind act.old levels) }
+    ensures { Steps S.accesses (3 * most + 100) result act.new run.new (operator_and_end S.accesses kind act.old levels)
+        run.old }
 {
     let name = Target::super_name(levels);
     match kind {
@@ -68,11 +63,8 @@ pub fn begin_operator<S: Space>(
 /// Acquire: a mutex that a name of one segment names is acquired at once.
 #[tactic(auto, using(aml_frames::proofs::Knowing::knowing))]
 fn begin_acquire<S: Space>(run: &mut Running<S>, act: &mut Activation, levels: u8) -> Result<Next>
-    ensures spent { run.new.1 ≤ run.old.1 }
-    ensures few { IfOk result (λ n. next_weight n ≤ target_weight uses.Acquire) }
-    ensures means { Leads S.accesses (meaning S.accesses) result act.new run.new
-        (target_run S.accesses (meaning S.accesses) (super levels) uses.Acquire act.old) run.old }
-    ensures ends { EndsAt result act.new (target_ends (super levels) uses.Acquire act.old) }
+    ensures { Steps S.accesses (target_weight uses.Acquire + 1) result act.new run.new
+        (next_target S.accesses (super levels) uses.Acquire act.old) run.old }
 {
     if acquire_at_name(run, act, levels) {
         return Ok(Next::Flow(Flow::Value(Value::Integer(0))));
@@ -89,12 +81,9 @@ pub(crate) fn begin_monadic<S: Space>(
     kind: Monadic,
     levels: u8,
 ) -> Result<Next>
-    ensures spent { run.new.1 ≤ run.old.1 }
-    ensures falls { IfOk result (λ n. next_weight n < most + 15) }
+    ensures steps { Steps S.accesses (most + 15) result act.new run.new
+        (next_at S.accesses (next.Term levels (frames.Operand kind levels)) act.old) run.old }
     ensures memory { IfErr result (λ e. e ≡ OutOfMemory → run.new.1 < run.old.1) }
-    ensures means { Leads S.accesses (meaning S.accesses) result act.new run.new
-        (next_run S.accesses (meaning S.accesses) (next.Term levels (frames.Operand kind levels)) act.old) run.old }
-    ensures ends { EndsAt result act.new (next_ends (next.Term levels (frames.Operand kind levels)) act.old) }
 {
     match known_integer(run, act, levels)? {
         Some(number) => finish_monadic(run, act, kind, levels, Value::Integer(number)),
@@ -111,12 +100,9 @@ fn begin_monadic_value<S: Space>(
     kind: Monadic,
     levels: u8,
 ) -> Result<Next>
-    ensures spent { run.new.1 ≤ run.old.1 }
-    ensures falls { IfOk result (λ n. next_weight n < most + 15) }
+    ensures steps { Steps S.accesses (most + 15) result act.new run.new
+        (next_at S.accesses (next.Term levels (frames.Operand kind levels)) act.old) run.old }
     ensures memory { IfErr result (λ e. e ≡ OutOfMemory → run.new.1 < run.old.1) }
-    ensures means { Leads S.accesses (meaning S.accesses) result act.new run.new
-        (next_run S.accesses (meaning S.accesses) (next.Term levels (frames.Operand kind levels)) act.old) run.old }
-    ensures ends { EndsAt result act.new (next_ends (next.Term levels (frames.Operand kind levels)) act.old) }
 {
     match short_value(run, act, levels)? {
         Some(value) => finish_monadic(run, act, kind, levels, value),
@@ -133,12 +119,9 @@ pub(crate) fn begin_dyadic<S: Space>(
     kind: Dyadic,
     levels: u8,
 ) -> Result<Next>
-    ensures spent { run.new.1 ≤ run.old.1 }
-    ensures falls { IfOk result (λ n. next_weight n < 2 * most + 25) }
+    ensures steps { Steps S.accesses (2 * most + 25) result act.new run.new
+        (next_at S.accesses (next.Term levels (frames.First kind levels)) act.old) run.old }
     ensures memory { IfErr result (λ e. e ≡ OutOfMemory → run.new.1 < run.old.1) }
-    ensures means { Leads S.accesses (meaning S.accesses) result act.new run.new
-        (next_run S.accesses (meaning S.accesses) (next.Term levels (frames.First kind levels)) act.old) run.old }
-    ensures ends { EndsAt result act.new (next_ends (next.Term levels (frames.First kind levels)) act.old) }
 {
     match known_integer(run, act, levels)? {
         Some(first) => begin_second(
@@ -163,12 +146,9 @@ fn begin_dyadic_value<S: Space>(
     kind: Dyadic,
     levels: u8,
 ) -> Result<Next>
-    ensures spent { run.new.1 ≤ run.old.1 }
-    ensures falls { IfOk result (λ n. next_weight n < 2 * most + 25) }
+    ensures steps { Steps S.accesses (2 * most + 25) result act.new run.new
+        (next_at S.accesses (next.Term levels (frames.First kind levels)) act.old) run.old }
     ensures memory { IfErr result (λ e. e ≡ OutOfMemory → run.new.1 < run.old.1) }
-    ensures means { Leads S.accesses (meaning S.accesses) result act.new run.new
-        (next_run S.accesses (meaning S.accesses) (next.Term levels (frames.First kind levels)) act.old) run.old }
-    ensures ends { EndsAt result act.new (next_ends (next.Term levels (frames.First kind levels)) act.old) }
 {
     match short_value(run, act, levels)? {
         Some(first) => begin_second(
@@ -192,13 +172,9 @@ fn begin_second<S: Space>(
     act: &mut Activation,
     operator: SecondOperand,
 ) -> Result<Next>
-    ensures spent { run.new.1 ≤ run.old.1 }
-    ensures falls { IfOk result (λ n. next_weight n < 2 * most + 25) }
+    ensures steps { Steps S.accesses (2 * most + 25) result act.new run.new
+        (next_at S.accesses (next.Term operator.levels (frames.Second operator)) act.old) run.old }
     ensures memory { IfErr result (λ e. e ≡ OutOfMemory → run.new.1 < run.old.1) }
-    ensures means { Leads S.accesses (meaning S.accesses) result act.new run.new
-        (next_run S.accesses (meaning S.accesses) (next.Term operator.levels (frames.Second operator)) act.old)
-        run.old }
-    ensures ends { EndsAt result act.new (next_ends (next.Term operator.levels (frames.Second operator)) act.old) }
 {
     match known_integer(run, act, operator.levels)? {
         Some(second) => finish_dyadic(run, act, operator, Value::Integer(second)),
@@ -214,13 +190,9 @@ fn begin_second_value<S: Space>(
     act: &mut Activation,
     operator: SecondOperand,
 ) -> Result<Next>
-    ensures spent { run.new.1 ≤ run.old.1 }
-    ensures falls { IfOk result (λ n. next_weight n < 2 * most + 25) }
+    ensures steps { Steps S.accesses (2 * most + 25) result act.new run.new
+        (next_at S.accesses (next.Term operator.levels (frames.Second operator)) act.old) run.old }
     ensures memory { IfErr result (λ e. e ≡ OutOfMemory → run.new.1 < run.old.1) }
-    ensures means { Leads S.accesses (meaning S.accesses) result act.new run.new
-        (next_run S.accesses (meaning S.accesses) (next.Term operator.levels (frames.Second operator)) act.old)
-        run.old }
-    ensures ends { EndsAt result act.new (next_ends (next.Term operator.levels (frames.Second operator)) act.old) }
 {
     match short_value(run, act, operator.levels)? {
         Some(second) => finish_dyadic(run, act, operator, second),
@@ -238,11 +210,8 @@ pub fn resume_operand<S: Space>(
     levels: u8,
     flow: Flow,
 ) -> Result<Next>
-    ensures spent { run.new.1 ≤ run.old.1 }
-    ensures falls { IfOk result (λ n. next_weight n < most + 15) }
-    ensures means { Leads S.accesses (meaning S.accesses) result act.new run.new
-        (resumed S.accesses (meaning S.accesses) (frames.Operand kind levels) act.old flow) run.old }
-    ensures ends { EndsAt result act.new (ends (frames.Operand kind levels) act.old) }
+    ensures { Steps S.accesses (most + 15) result act.new run.new
+        (frame_at S.accesses (frames.Operand kind levels) act.old flow) run.old }
 {
     let value = flow.value()?;
     finish_monadic(run, act, kind, levels, value)
@@ -258,11 +227,9 @@ fn finish_monadic<S: Space>(
     levels: u8,
     value: Value,
 ) -> Result<Next>
-    ensures spent { run.new.1 ≤ run.old.1 }
-    ensures falls { IfOk result (λ n. next_weight n < most + 15) }
-    ensures means { Leads S.accesses (meaning S.accesses) result act.new run.new
-        (monadic_done S.accesses (meaning S.accesses) kind levels value act.old) run.old }
-    ensures ends { EndsAt result act.new (monadic_ends kind levels act.old) }
+    ensures { Steps S.accesses (most + 15) result act.new run.new
+        (monadic_done S.accesses (meaning S.accesses) kind levels value act.old, monadic_ends kind levels act.old)
+        run.old }
 {
     let name = Target::super_name(levels);
     let target = Target::optional(levels);
@@ -292,12 +259,9 @@ fn finish_monadic<S: Space>(
 /// The value of what a reference leads to: a field is read.
 #[tactic(auto, using(aml_frames::proofs::Using::using_targets))]
 fn give_held<S: Space>(run: &mut Running<S>, act: &Activation, held: Held) -> Result<Next>
-    ensures spent { run.new.1 ≤ run.old.1 }
-    ensures falls { IfOk result (λ n. next_weight n < most + 4) }
+    ensures steps { Steps S.accesses (most + 4) result act.now run.new
+        (held_given S.accesses (meaning S.accesses) held act.now, act.now) run.old }
     ensures memory { (value : AnyValue) → held ≡ helds.Value value → NotMemory result }
-    ensures means { Leads S.accesses (meaning S.accesses) result act.now run.new
-        (held_given S.accesses (meaning S.accesses) held act.now) run.old }
-    ensures ends { EndsAt result act.now act.now }
 {
     match held {
         Held::Value(value) => Ok(Next::Flow(Flow::Value(value))),
@@ -315,11 +279,8 @@ pub fn resume_first<S: Space>(
     levels: u8,
     flow: Flow,
 ) -> Result<Next>
-    ensures spent { run.new.1 ≤ run.old.1 }
-    ensures falls { IfOk result (λ n. next_weight n < 2 * most + 25) }
-    ensures means { Leads S.accesses (meaning S.accesses) result act.new run.new
-        (resumed S.accesses (meaning S.accesses) (frames.First kind levels) act.old flow) run.old }
-    ensures ends { EndsAt result act.new (ends (frames.First kind levels) act.old) }
+    ensures { Steps S.accesses (2 * most + 25) result act.new run.new
+        (frame_at S.accesses (frames.First kind levels) act.old flow) run.old }
 {
     let value = flow.value()?;
     let operator = SecondOperand {
@@ -339,11 +300,8 @@ pub fn resume_second<S: Space>(
     operator: SecondOperand,
     flow: Flow,
 ) -> Result<Next>
-    ensures spent { run.new.1 ≤ run.old.1 }
-    ensures falls { IfOk result (λ n. next_weight n < 2 * most + 25) }
-    ensures means { Leads S.accesses (meaning S.accesses) result act.new run.new
-        (resumed S.accesses (meaning S.accesses) (frames.Second operator) act.old flow) run.old }
-    ensures ends { EndsAt result act.new (ends (frames.Second operator) act.old) }
+    ensures { Steps S.accesses (2 * most + 25) result act.new run.new
+        (frame_at S.accesses (frames.Second operator) act.old flow) run.old }
 {
     let second = flow.value()?;
     finish_dyadic(run, act, operator, second)
@@ -358,11 +316,10 @@ fn finish_dyadic<S: Space>(
     operator: SecondOperand,
     second: Value,
 ) -> Result<Next>
-    ensures spent { run.new.1 ≤ run.old.1 }
-    ensures falls { IfOk result (λ n. next_weight n < 2 * most + 25) }
-    ensures means { Leads S.accesses (meaning S.accesses) result act.new run.new
-        (dyadic_done S.accesses (meaning S.accesses) operator second act.old) run.old }
-    ensures ends { EndsAt result act.new (dyadic_ends operator.kind operator.levels act.old) }
+    ensures { Steps S.accesses (2 * most + 25) result act.new run.new (
+      dyadic_done S.accesses (meaning S.accesses) operator second act.old,
+      dyadic_ends operator.kind operator.levels act.old,
+    ) run.old }
 {
     let SecondOperand {
         kind,
@@ -403,11 +360,8 @@ pub fn resume_quotient<S: Space>(
     quotient: Value,
     flow: Flow,
 ) -> Result<Next>
-    ensures spent { run.new.1 ≤ run.old.1 }
-    ensures falls { IfOk result (λ n. next_weight n < most + 13) }
-    ensures means { Leads S.accesses (meaning S.accesses) result act.new run.new
-        (resumed S.accesses (meaning S.accesses) (frames.Quotient levels quotient) act.old flow) run.old }
-    ensures ends { EndsAt result act.new (ends (frames.Quotient levels quotient) act.old) }
+    ensures { Steps S.accesses (most + 13) result act.new run.new
+        (frame_at S.accesses (frames.Quotient levels quotient) act.old flow) run.old }
 {
     begin_target(
         run,

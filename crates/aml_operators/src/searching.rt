@@ -10,8 +10,9 @@ ghost use Rattle.aml_frames.specs.declared.uses.Reading.TheVariants as reading;
 ghost use Rattle.aml_frames.specs.Places.{at_place, terms};
 ghost use Rattle.aml_frames.specs.Operands.{behind_match};
 ghost use Rattle.aml_frames.specs.Matching.{match_run, match_left, match_ends, element_read, next_byte, behind_byte};
-ghost use Rattle.aml_frames.specs.Follow.{read_access, resumed, ends, next_ends, Leads, EndsAt};
+ghost use Rattle.aml_frames.specs.Follow.{read_access, resumed, next_ends, Leads};
 ghost use Rattle.aml_frames.specs.Weights.{most_searched, search_weight, step_weight, next_weight};
+ghost use Rattle.aml_frames.specs.Steps.{Steps, frame_at};
 
 use aml_accesses::read_access;
 use aml_frames::{Activation, Boxed, Frame, MatchPart, Next, Reading, leave};
@@ -23,10 +24,10 @@ use std::alloc::Global;
 /// Match: its package is evaluated.
 #[tactic(auto, using(crate::proofs::Matching::beginning))]
 pub(crate) fn begin_match<S: Space>(run: &Running<S>, act: &Activation, levels: u8) -> Result<Next>
-    ensures falls { IfOk result (λ n. next_weight n < step_weight) }
-    ensures means { Leads S.accesses (meaning S.accesses) result act.now run.now
-        (match_run S.accesses (meaning S.accesses) act.now levels) run.now }
-    ensures ends { EndsAt result act.now (at_place act.now (behind_match (terms act.now levels) act.now.place)) }
+    ensures { Steps S.accesses step_weight result act.now run.now (
+      match_run S.accesses (meaning S.accesses) act.now levels,
+      at_place act.now (behind_match (terms act.now levels) act.now.place),
+    ) run.now }
 {
     let next = wait_for(run.world.alloc, levels, MatchPart::Package)?;
     Ok(next)
@@ -41,10 +42,8 @@ pub fn resume_match<S: Space>(
     part: Boxed<MatchPart>,
     flow: Flow,
 ) -> Result<Next>
-    ensures falls { IfOk result (λ n. next_weight n < most_searched + 7) }
-    ensures means { Leads S.accesses (meaning S.accesses) result act.new run.now
-        (resumed S.accesses (meaning S.accesses) (frames.Match levels part) act.old flow) run.now }
-    ensures ends { EndsAt result act.new (ends (frames.Match levels part) act.old) }
+    ensures { Steps S.accesses (most_searched + 7) result act.new run.now
+        (frame_at S.accesses (frames.Match levels part) act.old flow) run.now }
 {
     let value = flow.value()?;
     next_operand(run, act, levels, part.into_inner(), value)
@@ -59,10 +58,8 @@ fn next_operand<S: Space>(
     part: MatchPart,
     value: Value,
 ) -> Result<Next>
-    ensures falls { IfOk result (λ n. next_weight n < most_searched + 7) }
-    ensures means { Leads S.accesses (meaning S.accesses) result act.new run.now
-        (match_left S.accesses (meaning S.accesses) part levels value act.old) run.now }
-    ensures ends { EndsAt result act.new (match_ends part levels act.old) }
+    ensures { Steps S.accesses (most_searched + 7) result act.new run.now
+        (match_left S.accesses (meaning S.accesses) part levels value act.old, match_ends part levels act.old) run.now }
 {
     match part {
         MatchPart::Package => {
@@ -117,10 +114,8 @@ fn search_on<S: Space>(
     search: Search,
     left: usize,
 ) -> Result<Next>
-    ensures falls { IfOk result (λ n. next_weight n < search_weight left + 4) }
-    ensures means { Leads S.accesses (meaning S.accesses) result act.now run.now
-        (searched_last S.accesses (meaning S.accesses) act.now.depth search left) run.now }
-    ensures ends { EndsAt result act.now act.now }
+    ensures { Steps S.accesses (search_weight left + 4) result act.now run.now
+        (searched_last S.accesses (meaning S.accesses) act.now.depth search left, act.now) run.now }
 {
     let mut rest = left;
     'elements: while rest > 0 {
@@ -144,8 +139,7 @@ fn look_at<S: Space>(
 ) -> Result<Option<Next>>
     requires { 0 < left }
     ensures falls { IfOk result (λ o. IfSome o (λ n. next_weight n < search_weight left + 4)) }
-    ensures means { IfOk result
-        (λ o. IfSome o (λ n. Leads S.accesses (meaning S.accesses) (Ok n) act.now run.now
+    ensures means { IfOk result (λ o. IfSome o (λ n. Leads S.accesses (meaning S.accesses) (Ok n) act.now run.now
         (searched_last S.accesses (meaning S.accesses) act.now.depth search left) run.now)) }
     ensures ends { IfOk result (λ o. IfSome o (λ n. next_ends n act.now ≡ act.now)) }
     ensures passed { IfOk result (λ o. o ≡ None → searched_last S.accesses (meaning S.accesses) act.now.depth search
@@ -194,9 +188,7 @@ fn read_element(
 /// No element matches: Ones.
 #[tactic(auto, using(aml_frames::proofs::Stepping::stepping), unfolding(aml_meaning::specs::MatchTerms::none_matches))]
 fn find_none<S: Space>(run: &Running<S>, act: &Activation) -> Result<Next>
-    ensures falls { IfOk result (λ n. next_weight n < 4) }
-    ensures means { Leads S.accesses (meaning S.accesses) result act.now run.now none_matches run.now }
-    ensures ends { EndsAt result act.now act.now }
+    ensures { Steps S.accesses 4 result act.now run.now (none_matches, act.now) run.now }
 {
     let value = run.world.integer_kept(u64::MAX)?;
     Ok(Next::Flow(Flow::Value(value)))
@@ -210,10 +202,8 @@ pub fn resume_matched<S: Space>(
     searching: Boxed<Searching>,
     flow: Flow,
 ) -> Result<Next>
-    ensures falls { IfOk result (λ n. next_weight n < search_weight (searching.left - 1) + 4) }
-    ensures means { Leads S.accesses (meaning S.accesses) result act.now run.now
-        (resumed S.accesses (meaning S.accesses) (frames.Matched searching) act.now flow) run.now }
-    ensures ends { EndsAt result act.now act.now }
+    ensures { Steps S.accesses (search_weight (searching.left - 1) + 4) result act.now run.now
+        (resumed S.accesses (meaning S.accesses) (frames.Matched searching) act.now flow, act.now) run.now }
 {
     let value = flow.value()?;
     go_on_behind(run, act, searching.into_inner(), value)
@@ -227,10 +217,8 @@ fn go_on_behind<S: Space>(
     searching: Searching,
     value: Value,
 ) -> Result<Next>
-    ensures falls { IfOk result (λ n. next_weight n < search_weight (searching.left - 1) + 4) }
-    ensures means { Leads S.accesses (meaning S.accesses) result act.now run.now
-        (element_read S.accesses (meaning S.accesses) act.now.depth searching value) run.now }
-    ensures ends { EndsAt result act.now act.now }
+    ensures { Steps S.accesses (search_weight (searching.left - 1) + 4) result act.now run.now
+        (element_read S.accesses (meaning S.accesses) act.now.depth searching value, act.now) run.now }
 {
     let Searching { search, left } = searching;
     let meets = run.world.value_meets(&search, value)?;

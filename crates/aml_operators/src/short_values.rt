@@ -1,18 +1,14 @@
 //! Operands of operators that are done at once and may give other values than integers: locals, arguments, strings, and
 //! buffers whose size is an integer that a short term gives (ACPI 6.5, 19.6, 20.2.3, 20.2.5.4 and 20.2.6). Arguments of
 //! calls, predicates and Return don't ask for these.
-ghost use Rattle.std.specs.Prelude.{◌≡◌, ◌≤◌, ◌<◌, Ok, Err, None, false, IfOk, IfErr, IfSome};
-ghost use Rattle.ar_space.specs.Change.{Does};
-ghost use Rattle.ar_space.specs.Outcome.{NotMemory};
-ghost use Rattle.aml_marked.specs.Marked.{first};
-ghost use Rattle.aml_meaning.specs.declared.flow.Flow.TheVariants as flows;
+ghost use Rattle.std.specs.Prelude.{◌≡◌};
 ghost use Rattle.aml_meaning.specs.Meaning.{meaning};
-ghost use Rattle.aml_frames.specs.declared.frames.Next.TheVariants as next;
 ghost use Rattle.aml_frames.specs.Data.{buffer_run};
 ghost use Rattle.aml_frames.specs.Operands.{outside_at};
 ghost use Rattle.aml_frames.specs.Places.{at_place, behind_term};
-ghost use Rattle.aml_frames.specs.Follow.{term_run, begun_run, coded_run, behind_coded, Leads};
+ghost use Rattle.aml_frames.specs.Follow.{begun_run, coded_run, behind_coded};
 ghost use Rattle.aml_frames.specs.ShortTerms.{is_made};
+ghost use Rattle.aml_frames.specs.Known.{MadeValue, ShortValue};
 
 use aml_declarations::{make_buffer, make_text};
 use aml_frames::{Activation, short_integer, slot_value};
@@ -37,18 +33,7 @@ pub(crate) fn short_value<S: Space>(
     act: &mut Activation,
     levels: u8,
 ) -> Result<Option<Value>>
-    ensures value { IfOk result
-        (λ known. IfSome known (λ value. Does (Ok (flows.Value value)) run.new
-        (term_run S.accesses (meaning S.accesses) act.old levels) run.old)) }
-    ensures refused { IfErr result (λ refusal. Does (Err refusal) run.new
-        (term_run S.accesses (meaning S.accesses) act.old levels) run.old) }
-    ensures spent { run.new.1 ≤ run.old.1 }
-    ensures paid { IfOk result (λ known. IfSome known (λ value. run.new.1 < run.old.1)) }
-    ensures charged { IfErr result (λ refusal. run.new.1 < run.old.1) }
-    ensures memory { is_made (first act.old.place.rest) ≡ false → NotMemory result }
-    ensures behind { IfOk result (λ known. IfSome known (λ value. act.new ≡ behind_term act.old levels)) }
-    ensures none { IfOk result (λ known. known ≡ None → run.new ≡ run.old) }
-    ensures stays { IfOk result (λ known. known ≡ None → act.new ≡ act.old) }
+    ensures { ShortValue S.accesses result act.new run.new levels act.old run.old }
 {
     match slot_value(run, act, levels) {
         Some(value) => Ok(Some(value)),
@@ -62,18 +47,7 @@ fn made_value<S: Space>(
     act: &mut Activation,
     levels: u8,
 ) -> Result<Option<Value>>
-    ensures value { IfOk result
-        (λ known. IfSome known (λ value. Does (Ok (flows.Value value)) run.new
-        (term_run S.accesses (meaning S.accesses) act.old levels) run.old)) }
-    ensures refused { IfErr result (λ refusal. Does (Err refusal) run.new
-        (term_run S.accesses (meaning S.accesses) act.old levels) run.old) }
-    ensures spent { run.new.1 ≤ run.old.1 }
-    ensures paid { IfOk result (λ known. IfSome known (λ value. run.new.1 < run.old.1)) }
-    ensures charged { IfErr result (λ refusal. run.new.1 < run.old.1) }
-    ensures memory { is_made (first act.old.place.rest) ≡ false → NotMemory result }
-    ensures behind { IfOk result (λ known. IfSome known (λ value. act.new ≡ behind_term act.old levels)) }
-    ensures none { IfOk result (λ known. known ≡ None → run.new ≡ run.old) }
-    ensures stays { IfOk result (λ known. known ≡ None → act.new ≡ act.old) }
+    ensures { ShortValue S.accesses result act.new run.new levels act.old run.old }
 {
     if run.steps == 0 {
         return Ok(None);
@@ -101,16 +75,8 @@ fn paid_value<S: Space>(
     act: &mut Activation,
     levels: u8,
 ) -> Result<Option<Value>>
-    ensures value { IfOk result
-        (λ known. IfSome known (λ value. Leads S.accesses (meaning S.accesses)
-        (Ok (next.Flow (flows.Value value))) act.new run.new
-        (begun_run S.accesses (meaning S.accesses) act.old levels) run.old)) }
-    ensures refused { IfErr result (λ refusal. Leads S.accesses (meaning S.accesses) (Err refusal) act.new run.new
-        (begun_run S.accesses (meaning S.accesses) act.old levels) run.old) }
-    ensures behind { IfOk result (λ known. IfSome known (λ value. act.new ≡ behind_term act.old levels)) }
-    ensures spent { run.new.1 ≤ run.old.1 }
-    ensures kept { IfOk result (λ known. known ≡ None → run.new.0 ≡ run.old.0) }
-    ensures moves { IfOk result (λ known. known ≡ None → act.new ≡ at_place act.old act.new.place) }
+    ensures { MadeValue S.accesses result act.new run.new
+        (begun_run S.accesses (meaning S.accesses) act.old levels, behind_term act.old levels) act.old run.old }
 {
     match act.take_opcode(levels) {
         None => Ok(None),
@@ -126,16 +92,9 @@ fn coded_value<S: Space>(
     levels: u8,
     place: RowPlace,
 ) -> Result<Option<Value>>
-    ensures value { IfOk result
-        (λ known. IfSome known (λ value. Leads S.accesses (meaning S.accesses)
-        (Ok (next.Flow (flows.Value value))) act.new run.new
-        (coded_run S.accesses (meaning S.accesses) place act.old levels) run.old)) }
-    ensures refused { IfErr result (λ refusal. Leads S.accesses (meaning S.accesses) (Err refusal) act.new run.new
-        (coded_run S.accesses (meaning S.accesses) place act.old levels) run.old) }
-    ensures behind { IfOk result (λ known. IfSome known (λ value. act.new ≡ behind_coded place act.old levels)) }
-    ensures spent { run.new.1 ≤ run.old.1 }
-    ensures kept { IfOk result (λ known. known ≡ None → run.new.0 ≡ run.old.0) }
-    ensures moves { IfOk result (λ known. known ≡ None → act.new ≡ at_place act.old act.new.place) }
+    ensures { MadeValue S.accesses result act.new run.new
+        (coded_run S.accesses (meaning S.accesses) place act.old levels, behind_coded place act.old levels) act.old
+        run.old }
 {
     match kind_of(place.row().0) {
         TermKind::Data(DataKind::String) => {
@@ -154,17 +113,8 @@ fn sized_buffer<S: Space>(
     act: &mut Activation,
     levels: u8,
 ) -> Result<Option<Value>>
-    ensures value { IfOk result
-        (λ known. IfSome known (λ value. Leads S.accesses (meaning S.accesses)
-        (Ok (next.Flow (flows.Value value))) act.new run.new
-        (buffer_run (meaning S.accesses) act.old levels) run.old)) }
-    ensures refused { IfErr result (λ refusal. Leads S.accesses (meaning S.accesses) (Err refusal) act.new run.new
-        (buffer_run (meaning S.accesses) act.old levels) run.old) }
-    ensures behind { IfOk result
-        (λ known. IfSome known (λ value. act.new ≡ at_place act.old (outside_at act.old.place))) }
-    ensures spent { run.new.1 ≤ run.old.1 }
-    ensures kept { IfOk result (λ known. known ≡ None → run.new.0 ≡ run.old.0) }
-    ensures moves { IfOk result (λ known. known ≡ None → act.new ≡ at_place act.old act.new.place) }
+    ensures { MadeValue S.accesses result act.new run.new
+        (buffer_run (meaning S.accesses) act.old levels, at_place act.old (outside_at act.old.place)) act.old run.old }
 {
     let outer = act.open();
     let Some(size) = short_integer(run, act, levels) else {

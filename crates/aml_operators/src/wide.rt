@@ -1,19 +1,20 @@
 //! Terms of the wide profile (ACPI 6.5, 19.6 and 20.2.5.4). The operands stand next.
-ghost use Rattle.std.specs.Prelude.{◌≡◌, ◌≤◌, ◌<◌, ◌+◌, ◌*◌, IfOk};
+ghost use Rattle.std.specs.Prelude.{◌+◌};
 ghost use Rattle.ar_space.specs.Outcome.{NotMemory};
 ghost use Rattle.aml_meaning.specs.Meaning.{meaning};
 ghost use Rattle.aml_frames.specs.declared.frames.Frame.TheVariants as frames;
-ghost use Rattle.aml_frames.specs.Follow.{asked_run, wide_run, behind_wide_at, resumed, ends, Leads, EndsAt};
-ghost use Rattle.aml_frames.specs.Weights.{most, step_weight, next_weight};
+ghost use Rattle.aml_frames.specs.Follow.{asked_run, behind_wide_at};
+ghost use Rattle.aml_frames.specs.Weights.{most, step_weight};
+ghost use Rattle.aml_frames.specs.Steps.{Steps, frame_at, wide_at};
 
 use crate::operators::{begin_dyadic, begin_monadic};
 use crate::searching::begin_match;
-use crate::targets::begin_target;
 use aml_declarations::begin_bank_fields;
 use aml_frames::{Activation, Dyadic, Monadic, Next, Target, TargetUse};
 use aml_grammar::Opcode;
 use aml_meaning::{Flow, Running, WideKind};
 use aml_objects::Value;
+use aml_targets::begin_target;
 use ar_space::{Result, Space};
 
 /// A term of the wide profile: a world of another one refuses it.
@@ -25,11 +26,9 @@ pub fn begin_wide<S: Space>(
     opcode: Opcode,
     kind: WideKind,
 ) -> Result<Next>
-    ensures spent { run.new.1 ≤ run.old.1 }
-    ensures falls { IfOk result (λ n. next_weight n < step_weight) }
-    ensures means { Leads S.accesses (meaning S.accesses) result act.new run.new
-        (asked_run S.accesses (meaning S.accesses) opcode kind act.old levels) run.old }
-    ensures ends { EndsAt result act.new (behind_wide_at kind act.old levels) }
+    ensures { Steps S.accesses step_weight result act.new run.new
+        (asked_run S.accesses (meaning S.accesses) opcode kind act.old levels, behind_wide_at kind act.old levels)
+        run.old }
 {
     run.world.ask_for(opcode)?;
     begin_asked(run, act, levels, kind)
@@ -43,11 +42,7 @@ fn begin_asked<S: Space>(
     levels: u8,
     kind: WideKind,
 ) -> Result<Next>
-    ensures spent { run.new.1 ≤ run.old.1 }
-    ensures falls { IfOk result (λ n. next_weight n < step_weight) }
-    ensures means { Leads S.accesses (meaning S.accesses) result act.new run.new
-        (wide_run S.accesses (meaning S.accesses) kind act.old levels) run.old }
-    ensures ends { EndsAt result act.new (behind_wide_at kind act.old levels) }
+    ensures { Steps S.accesses step_weight result act.new run.new (wide_at S.accesses kind act.old levels) run.old }
 {
     match kind {
         WideKind::Convert(conversion) => {
@@ -77,11 +72,8 @@ pub fn resume_third<S: Space>(
     before: (Value, Value),
     flow: Flow,
 ) -> Result<Next>
-    ensures spent { run.new.1 ≤ run.old.1 }
-    ensures falls { IfOk result (λ n. next_weight n < most + 15) }
-    ensures means { Leads S.accesses (meaning S.accesses) result act.new run.new
-        (resumed S.accesses (meaning S.accesses) (frames.Third levels before.0 before.1) act.old flow) run.old }
-    ensures ends { EndsAt result act.new (ends (frames.Third levels before.0 before.1) act.old) }
+    ensures { Steps S.accesses (most + 15) result act.new run.new
+        (frame_at S.accesses (frames.Third levels before.0 before.1) act.old flow) run.old }
 {
     let count = flow.value()?;
     let (source, start) = before;
@@ -97,12 +89,9 @@ pub fn resume_wait<S: Space>(
     event: Option<u64>,
     flow: Flow,
 ) -> Result<Next>
-    ensures spent { run.new.1 ≤ run.old.1 }
-    ensures falls { IfOk result (λ n. next_weight n < 6) }
+    ensures steps { Steps S.accesses 6 result act.new run.new (frame_at S.accesses (frames.Wait event) act.old flow)
+        run.old }
     ensures memory { NotMemory result }
-    ensures means { Leads S.accesses (meaning S.accesses) result act.new run.new
-        (resumed S.accesses (meaning S.accesses) (frames.Wait event) act.old flow) run.old }
-    ensures ends { EndsAt result act.new act.old }
 {
     let timeout = flow.value()?;
     let value = run.world.wait(event, timeout)?;

@@ -1,3 +1,4 @@
+pub mod Reading
 pub mod RowPlaces
 pub mod RowsAt
 pub mod Scanned

@@ -8,14 +8,14 @@ use crate::before::Before;
 use aml_grammar::{ArgumentCounts, Arities, deeper};
 use aml_path::{NameString, Path, Seg};
 use ar_space::Result;
-use std::alloc::{AllocError, Global};
+use std::alloc::Global;
 use std::marker::{Model, PhantomData};
 
 /// The counts that are lent from before a list, and then those that it declares itself.
 #[derive(Drop)]
 pub(crate) struct Declarations<'a, C: ArgumentCounts, B: Before> {
     lent: &'a C,
-    added: Arities,
+    pub(crate) added: Arities,
     before: PhantomData<B>,
 }
 
@@ -40,13 +40,6 @@ impl<'a, C: ArgumentCounts, B: Before> Declarations<'a, C, B> {
             added: Arities::new(alloc),
             before: PhantomData,
         }
-    }
-
-    /// Adds a path as the latest.
-    pub(crate) fn add(&mut self, path: Path, count: u8, external: bool) -> Result<(), AllocError>
-        ensures { OnOk result (self.new ≡ self.old ++ record { path = path; count = count; external = external } ∷ []) }
-    {
-        self.added.add(path, count, external)
     }
 
     /// What the list has declared itself. It takes no memory.

@@ -1,9 +1,9 @@
 //! Declared names: their paths, and the arguments that they take.
-ghost use Rattle.std.specs.Prelude.{◌≡◌, ◌≤◌, ◌∷◌, ◌++◌, [], false, length, OnOk};
+ghost use Rattle.std.specs.Prelude.{◌≡◌, ◌∷◌, ◌++◌, [], false};
 ghost use Rattle.ar_space.specs.Outcome.{Answers};
-ghost use Rattle.ar_space.specs.Change.{Does};
 ghost use Rattle.aml_grammar.specs.DeclaredNames.{begins_outside, allowed_path, declared_path};
 ghost use Rattle.aml_grammar.specs.Operands.{declare, declare_earlier};
+ghost use Rattle.aml_scan.specs.Reading.{Reads};
 
 use crate::before::Before;
 use crate::reader::Reader;
@@ -66,14 +66,13 @@ pub(crate) fn declare<C: ArgumentCounts, B: Before>(
     count: u8,
     external: bool,
 ) -> Result<()>
-    ensures reads { Does result reader.new (declare context path.now count external) reader.old }
-    ensures kept { OnOk result (length reader.new.rest ≤ length reader.old.rest) }
+    ensures { Reads result reader.new (declare context path.now count external) reader.old }
 {
     if context.body {
         return Ok(());
     }
     let path = path.copy(reader.alloc)?;
-    reader.arities.add(path, count, external)?;
+    reader.arities.added.add(path, count, external)?;
     Ok(())
 }
 
@@ -86,8 +85,7 @@ pub(crate) fn declare_earlier<C: ArgumentCounts, B: Before>(
     count: u8,
     external: bool,
 ) -> Result<()>
-    ensures reads { Does result reader.new (declare_earlier context earlier.now.path count external) reader.old }
-    ensures kept { OnOk result (length reader.new.rest ≤ length reader.old.rest) }
+    ensures { Reads result reader.new (declare_earlier context earlier.now.path count external) reader.old }
 {
     match &earlier.path {
         None => Ok(()),
@@ -103,13 +101,12 @@ pub(crate) fn declare_field<C: ArgumentCounts, B: Before>(
     context: Context,
     segment: Seg,
 ) -> Result<()>
-    ensures reads { Does result reader.new (declare context (scope.now ++ segment ∷ []) 0 false) reader.old }
-    ensures kept { OnOk result (length reader.new.rest ≤ length reader.old.rest) }
+    ensures { Reads result reader.new (declare context (scope.now ++ segment ∷ []) 0 false) reader.old }
 {
     if context.body {
         return Ok(());
     }
     let path = scope.child(reader.alloc, segment)?;
-    reader.arities.add(path, 0, false)?;
+    reader.arities.added.add(path, 0, false)?;
     Ok(())
 }

@@ -1,9 +1,8 @@
 //! Field elements that hold no terms, gone over without a copy (FieldElement of ACPI 6.5, 20.2.5.2).
-ghost use Rattle.std.specs.Prelude.{◌≡◌, ◌<◌, length, OnOk};
-ghost use Rattle.ar_space.specs.Outcome.{NotMemory};
-ghost use Rattle.ar_space.specs.Change.{Does};
+ghost use Rattle.std.specs.Prelude.{◌≡◌};
 ghost use Rattle.aml_grammar.specs.Operands.{reserved_field, access_field, extended_access_field, named_field};
 ghost use Rattle.aml_scan.specs.Scanned.{scanned};
+ghost use Rattle.aml_scan.specs.Reading.{MovesOn, MovesOnInPlace};
 
 use crate::before::Before;
 use crate::declared_names::declare_field;
@@ -18,9 +17,7 @@ use ar_space::Result;
 pub(crate) fn reserved_field<C: ArgumentCounts, B: Before>(
     reader: &mut Reader<'_, C, B>,
 ) -> Result<()>
-    ensures reads { Does result reader.new (scanned reserved_field) reader.old }
-    ensures shorter { OnOk result (length reader.new.rest < length reader.old.rest) }
-    ensures memory { NotMemory result }
+    ensures { MovesOnInPlace result reader.new (scanned reserved_field) reader.old }
 {
     reader.byte()?;
     reader.bit_count()?;
@@ -32,9 +29,7 @@ pub(crate) fn reserved_field<C: ArgumentCounts, B: Before>(
 pub(crate) fn access_field<C: ArgumentCounts, B: Before>(
     reader: &mut Reader<'_, C, B>,
 ) -> Result<()>
-    ensures reads { Does result reader.new (scanned access_field) reader.old }
-    ensures shorter { OnOk result (length reader.new.rest < length reader.old.rest) }
-    ensures memory { NotMemory result }
+    ensures { MovesOnInPlace result reader.new (scanned access_field) reader.old }
 {
     reader.byte()?;
     reader.byte()?;
@@ -47,9 +42,7 @@ pub(crate) fn access_field<C: ArgumentCounts, B: Before>(
 pub(crate) fn extended_access_field<C: ArgumentCounts, B: Before>(
     reader: &mut Reader<'_, C, B>,
 ) -> Result<()>
-    ensures reads { Does result reader.new (scanned extended_access_field) reader.old }
-    ensures shorter { OnOk result (length reader.new.rest < length reader.old.rest) }
-    ensures memory { NotMemory result }
+    ensures { MovesOnInPlace result reader.new (scanned extended_access_field) reader.old }
 {
     reader.byte()?;
     reader.byte()?;
@@ -65,8 +58,7 @@ pub(crate) fn named_field<C: ArgumentCounts, B: Before>(
     scope: &Path,
     context: Context,
 ) -> Result<()>
-    ensures reads { Does result reader.new (scanned (named_field scope.now context)) reader.old }
-    ensures shorter { OnOk result (length reader.new.rest < length reader.old.rest) }
+    ensures { MovesOn result reader.new (scanned (named_field scope.now context)) reader.old }
 {
     let segment = segment(reader)?;
     declare_field(reader, scope, context, segment)?;

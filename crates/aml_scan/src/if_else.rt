@@ -82,9 +82,8 @@ fn packed_list<C: ArgumentCounts, B: Before>(
     scope: &Path,
     context: Context,
 ) -> Result<()>
-    ensures reads { Does result reader.new
-        (scanned (packed true (list_operand (term_at by_arities levels) positions.ListItem scope.now context)))
-        reader.old }
+    ensures reads { Does result reader.new (scanned (packed true (list_operand (term_at by_arities levels)
+        positions.ListItem scope.now context))) reader.old }
     ensures kept { OnOk result (length reader.new.rest ≤ length reader.old.rest) }
 {
     let outer = reader.enter()?;

@@ -16,7 +16,7 @@ use std::alloc::Global;
 use std::marker::Brand;
 
 /// How many terms may be one inside another, the outermost counted.
-const MAX_DEPTH: usize = 64;
+const MAX_LEVELS: usize = 64;
 
 /// What going over a list of terms leaves.
 #[derive(Debug, Drop)]
@@ -49,7 +49,7 @@ pub fn scan<C: ArgumentCounts>(
     ensures { Answers (seen (λ n. (n.marks.items, C.counts counts.now ++ n.added)) result)
         (noted (term_list by_arities bytes.now scope.now body (C.counts counts.now))) }
 {
-    scan_behind::<C, Brand>(alloc, MAX_DEPTH, bytes, scope, body, counts)
+    scan_behind::<C, Brand>(alloc, MAX_LEVELS, bytes, scope, body, counts)
 }
 
 /// The same, where terms may be one inside another within `levels` levels, the outermost counted; more than 64 are 64.
@@ -79,10 +79,10 @@ pub fn scan_within<C: ArgumentCounts>(
 fn levels_allowed(levels: usize) -> usize
     ensures { result ≡ levels_allowed levels }
 {
-    if levels < MAX_DEPTH {
+    if levels < MAX_LEVELS {
         levels
     } else {
-        MAX_DEPTH
+        MAX_LEVELS
     }
 }
 
@@ -91,7 +91,7 @@ fn refusal_within(levels: usize, refusal: Refusal) -> Refusal
     ensures { result ≡ refusal_within levels refusal }
 {
     match refusal {
-        Refusal::Term(fault, offset) => fault_within(levels < MAX_DEPTH, fault, offset),
+        Refusal::Term(fault, offset) => fault_within(levels < MAX_LEVELS, fault, offset),
         _ => refusal,
     }
 }
@@ -117,9 +117,8 @@ fn scan_behind<C: ArgumentCounts, B: Before>(
     counts: &C,
 ) -> Result<Noted>
     requires { C.counts counts.now ≡ B.before }
-    ensures { Answers (seen (λ n. (n.marks.items, B.before ++ n.added)) result)
-        (noted (items (term_at by_arities levels) positions.ListItem scope.now (outermost body)
-        (beginning bytes.now B.before))) }
+    ensures { Answers (seen (λ n. (n.marks.items, B.before ++ n.added)) result) (noted (items (term_at by_arities
+        levels) positions.ListItem scope.now (outermost body) (beginning bytes.now B.before))) }
 {
     let context = Context {
         body,

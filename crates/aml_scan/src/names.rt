@@ -6,6 +6,7 @@ ghost use Rattle.aml_grammar.specs.State.{times};
 ghost use Rattle.aml_grammar.specs.Names.{starts_name, lead_name_char, name_char, segment, counted_segments};
 ghost use Rattle.aml_grammar.specs.Names.{multiple_segments, segments_at, segments, rooted_name, relative_name};
 ghost use Rattle.aml_grammar.specs.Names.{name_at, name_string};
+ghost use Rattle.aml_scan.specs.Reading.{MovesOn, MovesOnInPlace};
 
 use crate::before::Before;
 use crate::reader::Reader;
@@ -25,9 +26,7 @@ pub fn starts_name(byte: u8) -> bool
 
 #[tactic(auto, using(crate::proofs::Steps::reading), unfolding(aml_grammar::specs::Names::lead_name_char))]
 fn lead_name_char<C: ArgumentCounts, B: Before>(reader: &mut Reader<'_, C, B>) -> Result<u8>
-    ensures reads { Does result reader.new lead_name_char reader.old }
-    ensures shorter { OnOk result (length reader.new.rest < length reader.old.rest) }
-    ensures memory { NotMemory result }
+    ensures { MovesOnInPlace result reader.new lead_name_char reader.old }
 {
     let byte = reader.byte()?;
     if is_lead_name_char(byte) {
@@ -39,9 +38,7 @@ fn lead_name_char<C: ArgumentCounts, B: Before>(reader: &mut Reader<'_, C, B>) -
 
 #[tactic(auto, using(crate::proofs::Steps::reading), unfolding(aml_grammar::specs::Names::name_char))]
 fn name_char<C: ArgumentCounts, B: Before>(reader: &mut Reader<'_, C, B>) -> Result<u8>
-    ensures reads { Does result reader.new name_char reader.old }
-    ensures shorter { OnOk result (length reader.new.rest < length reader.old.rest) }
-    ensures memory { NotMemory result }
+    ensures { MovesOnInPlace result reader.new name_char reader.old }
 {
     let byte = reader.byte()?;
     if is_name_char(byte) {
@@ -118,8 +115,7 @@ fn segments<C: ArgumentCounts, B: Before>(reader: &mut Reader<'_, C, B>) -> Resu
 
 #[tactic(auto, using(crate::proofs::Steps::reading), unfolding(aml_grammar::specs::Names::rooted_name))]
 fn rooted_name<C: ArgumentCounts, B: Before>(reader: &mut Reader<'_, C, B>) -> Result<NameString>
-    ensures reads { Does result reader.new rooted_name reader.old }
-    ensures shorter { OnOk result (length reader.new.rest < length reader.old.rest) }
+    ensures { MovesOn result reader.new rooted_name reader.old }
 {
     reader.byte()?;
     let segments = segments(reader)?;
@@ -128,8 +124,7 @@ fn rooted_name<C: ArgumentCounts, B: Before>(reader: &mut Reader<'_, C, B>) -> R
 
 #[tactic(auto, using(crate::proofs::Steps::reading), unfolding(aml_grammar::specs::Names::relative_name))]
 fn relative_name<C: ArgumentCounts, B: Before>(reader: &mut Reader<'_, C, B>) -> Result<NameString>
-    ensures reads { Does result reader.new relative_name reader.old }
-    ensures shorter { OnOk result (length reader.new.rest < length reader.old.rest) }
+    ensures { MovesOn result reader.new relative_name reader.old }
 {
     let count = reader.parents();
     let segments = segments(reader)?;
@@ -141,8 +136,7 @@ fn relative_name<C: ArgumentCounts, B: Before>(reader: &mut Reader<'_, C, B>) ->
 pub(crate) fn name_string<C: ArgumentCounts, B: Before>(
     reader: &mut Reader<'_, C, B>,
 ) -> Result<NameString>
-    ensures reads { Does result reader.new name_string reader.old }
-    ensures shorter { OnOk result (length reader.new.rest < length reader.old.rest) }
+    ensures { MovesOn result reader.new name_string reader.old }
 {
     let next = reader.peek()?;
     if next == 0 {

@@ -79,9 +79,8 @@ fn declared_name<C: ArgumentCounts, B: Before>(
     count: u8,
     earlier: &mut Earlier,
 ) -> Result<()>
-    ensures reads { Does (seen (λ _. earlier.new) result) reader.new
-        (kept (λ x. x.1) (declared_name start.entry.scope.now start.entry.context start.entry.at count
-        earlier.old)) reader.old }
+    ensures reads { Does (seen (λ _. earlier.new) result) reader.new (kept (λ x. x.1) (declared_name
+        start.entry.scope.now start.entry.context start.entry.at count earlier.old)) reader.old }
     ensures kept { OnOk result (length reader.new.rest ≤ length reader.old.rest) }
 {
     let name = name_string(reader)?;
@@ -189,9 +188,8 @@ pub(crate) fn operand<C: ArgumentCounts, B: Before>(
     earlier: &mut Earlier,
 ) -> Result<()>
     requires { holds_terms kind ≡ false }
-    ensures reads { (inner_term : Inner) → Does (seen (λ _. earlier.new) result) reader.new
-        (kept (λ x. x.1) (operand inner_term start.entry.scope.now start.entry.context start.entry.at kind
-        earlier.old)) reader.old }
+    ensures reads { (inner_term : Inner) → Does (seen (λ _. earlier.new) result) reader.new (kept (λ x. x.1) (operand
+        inner_term start.entry.scope.now start.entry.context start.entry.at kind earlier.old)) reader.old }
     ensures kept { OnOk result (length reader.new.rest ≤ length reader.old.rest) }
 {
     match kind {

@@ -1,10 +1,10 @@
 //! Where a term may stand, and the steps of a term that read no other term.
-ghost use Rattle.std.specs.Prelude.{◌≡◌, ◌<◌, ◌≤◌, ◌∷◌, ◌++◌, [], length, map, Ok, OnOk};
-ghost use Rattle.ar_space.specs.Outcome.{Answers, NotMemory, seen};
-ghost use Rattle.ar_space.specs.Change.{Does};
+ghost use Rattle.std.specs.Prelude.{◌≡◌, ◌∷◌, ◌++◌, [], map, Ok};
+ghost use Rattle.ar_space.specs.Outcome.{Answers, seen};
 ghost use Rattle.aml_grammar.specs.Grammar.{stands, takes_name, costs_no_level, is_module_level, is_if, is_nothing};
 ghost use Rattle.aml_grammar.specs.Grammar.{at_item, item_of_else, at_else, in_loop, opcode, admitted_row};
 ghost use Rattle.aml_grammar.specs.Grammar.{admitted, row_at, argument_number, by_arities};
+ghost use Rattle.aml_scan.specs.Reading.{Reads, MovesOnInPlace};
 
 use crate::before::Before;
 use crate::reader::Reader;
@@ -126,9 +126,7 @@ pub const EXT_OP_PREFIX: u8 = 0x5B;
 /// The number of an opcode: one byte, or two after ExtOpPrefix.
 #[tactic(auto, using(crate::proofs::Steps::reading), unfolding(aml_grammar::specs::Grammar::opcode))]
 fn opcode<C: ArgumentCounts, B: Before>(reader: &mut Reader<'_, C, B>) -> Result<u16>
-    ensures reads { Does result reader.new opcode reader.old }
-    ensures shorter { OnOk result (length reader.new.rest < length reader.old.rest) }
-    ensures memory { NotMemory result }
+    ensures { MovesOnInPlace result reader.new opcode reader.old }
 {
     let first = reader.byte()?;
     if first == EXT_OP_PREFIX {
@@ -147,9 +145,7 @@ pub(crate) fn row_at<C: ArgumentCounts, B: Before>(
     context: Context,
     start: usize,
 ) -> Result<Row>
-    ensures reads { Does result reader.new (row_at position context start) reader.old }
-    ensures shorter { OnOk result (length reader.new.rest < length reader.old.rest) }
-    ensures memory { NotMemory result }
+    ensures { MovesOnInPlace result reader.new (row_at position context start) reader.old }
 {
     let number = opcode(reader)?;
     match row_of(number) {
@@ -175,8 +171,7 @@ pub(crate) fn argument_number<C: ArgumentCounts, B: Before>(
     name: &NameString,
     path: &Path,
 ) -> Result<u8>
-    ensures reads { Does result reader.new (argument_number by_arities start scope.now name.now path.now) reader.old }
-    ensures kept { OnOk result (length reader.new.rest ≤ length reader.old.rest) }
+    ensures { Reads result reader.new (argument_number by_arities start scope.now name.now path.now) reader.old }
 {
     let count = reader.arities.arity_of(reader.alloc, name, scope, path)?;
     reader.mark(start, count)?;

@@ -2,12 +2,13 @@
 ghost use Rattle.std.specs.Prelude.{◌≡◌, ◌+◌, ◌*◌, ◌^◌, ◌-◌, ◌/◌, ◌<◌, ◌≤◌, ◌==◌, ◌++◌, ◌∷◌, ℕ, List, [], length, take};
 ghost use Rattle.std.specs.Prelude.{drop, IfOk, OnOk, Ok, if◌then◌else◌};
 ghost use Rattle.ar_space.specs.Outcome.{NotMemory, seen};
-ghost use Rattle.ar_space.specs.Change.{Does};
+ghost use Rattle.ar_space.specs.Change.{Does, DoesInPlace};
 ghost use Rattle.aml_grammar.specs.State.{State, look, byte, peek, is_next, next_bytes, all_bytes, text, text_length};
 ghost use Rattle.aml_grammar.specs.State.{integer, little_endian, bit_count, size_after, package_size, length_of};
 ghost use Rattle.aml_grammar.specs.State.{enter, past, marking};
 ghost use Rattle.aml_grammar.specs.Names.{carets, parents};
 ghost use Rattle.aml_scan.specs.Scanned.{scanned};
+ghost use Rattle.aml_scan.specs.Reading.{MovesOnInPlace};
 
 use crate::before::Before;
 use crate::declarations::Declarations;
@@ -97,8 +98,7 @@ impl<'a, C: ArgumentCounts, B: Before> Reader<'a, C, B> {
     /// The next byte, which stays.
     #[tactic(auto, unfolding(aml_grammar::specs::State::peek))]
     pub(crate) fn peek(&self) -> Result<u8>
-        ensures reads { Does result self.now peek self.now }
-        ensures memory { NotMemory result }
+        ensures { DoesInPlace result self.now peek self.now }
     {
         match self.rest {
             [] => Err(Refusal::Term(TermFault::Truncated, self.at)),
@@ -118,9 +118,7 @@ impl<'a, C: ArgumentCounts, B: Before> Reader<'a, C, B> {
 
     #[tactic(auto, unfolding(aml_grammar::specs::State::byte))]
     pub(crate) fn byte(&mut self) -> Result<u8>
-        ensures reads { Does result self.new byte self.old }
-        ensures shorter { OnOk result (length self.new.rest < length self.old.rest) }
-        ensures memory { NotMemory result }
+        ensures { MovesOnInPlace result self.new byte self.old }
     {
         match self.rest {
             [] => Err(Refusal::Term(TermFault::Truncated, self.at)),

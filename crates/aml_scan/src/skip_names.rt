@@ -1,11 +1,12 @@
 //! Names, gone over without a copy (NameString of ACPI 6.5, 20.2.2).
-ghost use Rattle.std.specs.Prelude.{◌≡◌, ◌+◌, ◌<◌, ◌≤◌, length, OnOk};
+ghost use Rattle.std.specs.Prelude.{◌≡◌, ◌+◌, ◌≤◌, length, OnOk};
 ghost use Rattle.ar_space.specs.Outcome.{NotMemory};
 ghost use Rattle.ar_space.specs.Change.{Does};
 ghost use Rattle.aml_grammar.specs.State.{times};
 ghost use Rattle.aml_grammar.specs.Names.{segment, multiple_segments, segments, rooted_name, relative_name};
 ghost use Rattle.aml_grammar.specs.Names.{name_string};
 ghost use Rattle.aml_scan.specs.Scanned.{scanned};
+ghost use Rattle.aml_scan.specs.Reading.{MovesOnInPlace};
 
 use crate::before::Before;
 use crate::names::segment;
@@ -30,9 +31,7 @@ fn counted_segments<C: ArgumentCounts, B: Before>(
 
 #[tactic(auto, using(crate::proofs::Scans::scanning), unfolding(aml_grammar::specs::Names::multiple_segments))]
 fn multiple_segments<C: ArgumentCounts, B: Before>(reader: &mut Reader<'_, C, B>) -> Result<()>
-    ensures reads { Does result reader.new (scanned multiple_segments) reader.old }
-    ensures shorter { OnOk result (length reader.new.rest < length reader.old.rest) }
-    ensures memory { NotMemory result }
+    ensures { MovesOnInPlace result reader.new (scanned multiple_segments) reader.old }
 {
     let count = reader.byte()?;
     if count == 0 {
@@ -44,9 +43,7 @@ fn multiple_segments<C: ArgumentCounts, B: Before>(reader: &mut Reader<'_, C, B>
 /// The segments of a name after its prefix.
 #[tactic(auto, using(crate::proofs::Scans::scanning), unfolding(aml_grammar::specs::Names::segments))]
 fn segments<C: ArgumentCounts, B: Before>(reader: &mut Reader<'_, C, B>) -> Result<()>
-    ensures reads { Does result reader.new (scanned segments) reader.old }
-    ensures shorter { OnOk result (length reader.new.rest < length reader.old.rest) }
-    ensures memory { NotMemory result }
+    ensures { MovesOnInPlace result reader.new (scanned segments) reader.old }
 {
     let next = reader.peek()?;
     if next == 0 {
@@ -66,9 +63,7 @@ fn segments<C: ArgumentCounts, B: Before>(reader: &mut Reader<'_, C, B>) -> Resu
 
 #[tactic(auto, using(crate::proofs::Scans::scanning), unfolding(aml_grammar::specs::Names::rooted_name))]
 fn rooted_name<C: ArgumentCounts, B: Before>(reader: &mut Reader<'_, C, B>) -> Result<()>
-    ensures reads { Does result reader.new (scanned rooted_name) reader.old }
-    ensures shorter { OnOk result (length reader.new.rest < length reader.old.rest) }
-    ensures memory { NotMemory result }
+    ensures { MovesOnInPlace result reader.new (scanned rooted_name) reader.old }
 {
     reader.byte()?;
     segments(reader)
@@ -76,9 +71,7 @@ fn rooted_name<C: ArgumentCounts, B: Before>(reader: &mut Reader<'_, C, B>) -> R
 
 #[tactic(auto, using(crate::proofs::Scans::scanning), unfolding(aml_grammar::specs::Names::relative_name))]
 fn relative_name<C: ArgumentCounts, B: Before>(reader: &mut Reader<'_, C, B>) -> Result<()>
-    ensures reads { Does result reader.new (scanned relative_name) reader.old }
-    ensures shorter { OnOk result (length reader.new.rest < length reader.old.rest) }
-    ensures memory { NotMemory result }
+    ensures { MovesOnInPlace result reader.new (scanned relative_name) reader.old }
 {
     reader.parents();
     segments(reader)
@@ -87,9 +80,7 @@ fn relative_name<C: ArgumentCounts, B: Before>(reader: &mut Reader<'_, C, B>) ->
 /// A name of which no path is asked. It takes no memory.
 #[tactic(auto, using(crate::proofs::Scans::scanning), unfolding(aml_grammar::specs::Names::name_string))]
 pub(crate) fn skip_name<C: ArgumentCounts, B: Before>(reader: &mut Reader<'_, C, B>) -> Result<()>
-    ensures reads { Does result reader.new (scanned name_string) reader.old }
-    ensures shorter { OnOk result (length reader.new.rest < length reader.old.rest) }
-    ensures memory { NotMemory result }
+    ensures { MovesOnInPlace result reader.new (scanned name_string) reader.old }
 {
     let next = reader.peek()?;
     if next == 0 {

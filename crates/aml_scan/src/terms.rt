@@ -214,8 +214,7 @@ fn packed_operands<C: ArgumentCounts, B: Before>(
     kinds: &[OperandKind],
 ) -> Result<()>
     ensures reads { Does result reader.new (scanned (packed true (operands (term_at by_arities levels)
-        start.entry.scope.now start.entry.context start.entry.at kinds.now
-        nothing_earlier))) reader.old }
+        start.entry.scope.now start.entry.context start.entry.at kinds.now nothing_earlier))) reader.old }
     ensures kept { OnOk result (length reader.new.rest ≤ length reader.old.rest) }
 {
     let outer = reader.enter()?;
@@ -258,9 +257,8 @@ fn operand<C: ArgumentCounts, B: Before>(
     kind: OperandKind,
     earlier: &mut Earlier,
 ) -> Result<()>
-    ensures reads { Does (seen (λ _. earlier.new) result) reader.new
-        (kept (λ x. x.1) (operand (term_at by_arities levels) start.entry.scope.now start.entry.context
-        start.entry.at kind earlier.old)) reader.old }
+    ensures reads { Does (seen (λ _. earlier.new) result) reader.new (kept (λ x. x.1) (operand (term_at by_arities
+        levels) start.entry.scope.now start.entry.context start.entry.at kind earlier.old)) reader.old }
     ensures kept { OnOk result (length reader.new.rest ≤ length reader.old.rest) }
 {
     let scope = start.scope;
@@ -289,9 +287,8 @@ fn term_list<C: ArgumentCounts, B: Before>(
     earlier: &Earlier,
     context: Context,
 ) -> Result<()>
-    ensures reads { Does result reader.new
-        (scanned (list_operand (term_at by_arities levels) positions.ListItem (scope_of scope.now earlier.now.path)
-        context)) reader.old }
+    ensures reads { Does result reader.new (scanned (list_operand (term_at by_arities levels) positions.ListItem
+        (scope_of scope.now earlier.now.path) context)) reader.old }
     ensures kept { OnOk result (length reader.new.rest ≤ length reader.old.rest) }
 {
     match &earlier.path {
@@ -310,8 +307,7 @@ fn element_list<C: ArgumentCounts, B: Before>(
     earlier: &Earlier,
     context: Context,
 ) -> Result<()>
-    ensures reads { Does result reader.new
-        (scanned (list_operand (term_at by_arities levels) positions.PackageElement
+    ensures reads { Does result reader.new (scanned (list_operand (term_at by_arities levels) positions.PackageElement
         (scope_of scope.now earlier.now.path) context)) reader.old }
     ensures kept { OnOk result (length reader.new.rest ≤ length reader.old.rest) }
 {

@@ -8,7 +8,7 @@ use crate::at::{At, Kind};
 use crate::cursor::Cursor;
 use crate::lent::{lent_here, name_here, view};
 use crate::operands::to_part;
-use crate::places::{behind, cursor_of, standing, term_at};
+use crate::places::{behind, standing, term_at};
 use crate::skip::opcode;
 use aml_grammar::{Item, Opcode, OperandView, TermCode, TermReader};
 use aml_path::NameString;
@@ -60,7 +60,12 @@ fn term_of<'a>(part: &At<'a>, element: bool) -> At<'a>
     ensures behind { behind_of result.kind (count_at part.now.marks.now) result.levels (place_at result) ≡
         (a_term (count_at part.now.marks.now) part.now.levels element (place_at part.now)).1 }
 {
-    term_at(&cursor_of(part), part.marks, part.levels, element)
+    term_at(
+        &Cursor::new(part.at, part.rest),
+        part.marks,
+        part.levels,
+        element,
+    )
 }
 
 /// The field element that is left first.
@@ -71,7 +76,13 @@ fn field_of<'a>(part: &At<'a>) -> At<'a>
     ensures behind { behind_of result.kind (count_at part.now.marks.now) result.levels (place_at result) ≡
         (a_field (a_term (count_at part.now.marks.now) part.now.levels) (place_at part.now)).1 }
 {
-    standing(&cursor_of(part), part.marks, part.levels, 0, Kind::Field)
+    standing(
+        &Cursor::new(part.at, part.rest),
+        part.marks,
+        part.levels,
+        0,
+        Kind::Field,
+    )
 }
 
 /// What stands first, and what is left behind it, which has one turn fewer.
@@ -101,7 +112,7 @@ impl<'a> TermReader for At<'a> {
 
     #[tactic(auto, unfolding(aml_marked::specs::Marked::with_row, aml_marked::specs::Marked::an_else, aml_marked::specs::Marked::after, aml_marked::specs::Marked::gives))]
     fn code(self) -> TermCode {
-        let mut cursor = cursor_of(&self);
+        let mut cursor = Cursor::new(self.at, self.rest);
         match self.kind {
             Kind::Coded(place) => TermCode::Opcode(place.row().0),
             Kind::Term => code_at(&mut cursor, self.levels, false),
@@ -113,7 +124,7 @@ impl<'a> TermReader for At<'a> {
     }
 
     fn operand(self, index: usize) -> OperandView<At<'a>> {
-        let mut cursor = cursor_of(&self);
+        let mut cursor = Cursor::new(self.at, self.rest);
         match to_part(&self, &mut cursor, index) {
             Some(spot) => view(&cursor, self.marks, spot),
             None => OperandView::Absent,
@@ -121,7 +132,7 @@ impl<'a> TermReader for At<'a> {
     }
 
     fn name(self, alloc: Global, index: usize) -> Result<NameString> {
-        let mut cursor = cursor_of(&self);
+        let mut cursor = Cursor::new(self.at, self.rest);
         match to_part(&self, &mut cursor, index) {
             Some(spot) => name_here(alloc, &cursor, spot),
             None => Err(Refusal::Name(NameFault::BadName)),
@@ -152,7 +163,7 @@ impl<'a> TermReader for At<'a> {
 pub fn lent_bytes<'a>(part: At<'a>, index: usize) -> Option<&'a [u8]>
     ensures { option_map (λ b. b.now) result ≡ lent_of (operand_of (at_tree part.entry) index) }
 {
-    let mut cursor = cursor_of(&part);
+    let mut cursor = Cursor::new(part.at, part.rest);
     match to_part(&part, &mut cursor, index) {
         Some(spot) => lent_here(&cursor, spot),
         None => None,

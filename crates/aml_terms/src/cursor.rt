@@ -128,8 +128,8 @@ impl<'a> Cursor<'a> {
     /// Leaves the bytes of a package alone, and gives what stands behind it.
     pub fn open(&mut self) -> Cursor<'a>
         ensures inside { self.new ≡ record (a_size self.old).1 {
-          rest =
-              take (a_size self.old).0 (a_size self.old).1.rest;
+          rest = take (a_size self.old).0 (a_size
+              self.old).1.rest;
         } }
         ensures outer { result ≡ over (a_size self.old).0 (a_size self.old).1 }
     {

@@ -17,7 +17,7 @@ ghost use Rattle.aml_terms.specs.declared.cursor_terms.Coded.{Coded};
 
 use crate::at::{At, Kind};
 use crate::cursor::Cursor;
-use crate::places::{cursor_of, standing, term_at};
+use crate::places::standing;
 use crate::skip::{opcode, skip_arguments, skip_else, skip_row_term, skip_target, skip_term};
 use aml_marks::Marks;
 use aml_path::{NameString, Prefix};
@@ -132,13 +132,6 @@ impl<'a> Cursor<'a> {
         }
     }
 
-    /// A reader of the term that stands next, with at most this many levels.
-    pub fn term(&self, marks: &'a Marks, levels: u8) -> At<'a>
-        ensures { at_tree result ≡ (a_term (count_at marks.now) levels false self.now).0 }
-    {
-        term_at(self, marks, levels, false)
-    }
-
     /// A reader of the term whose operands begin here, by the place of its row.
     pub fn coded_term(&self, marks: &'a Marks, levels: u8, place: RowPlace) -> At<'a>
         ensures { at_tree result ≡ (with_row (a_term (count_at marks.now) levels) (row_at place) self.now).0 }
@@ -207,7 +200,7 @@ impl<'a> At<'a> {
     {
         match self.kind {
             Kind::Coded(place) => Some(Coded {
-                cursor: cursor_of(self),
+                cursor: Cursor::new(self.at, self.rest),
                 levels: self.levels,
                 place,
             }),
@@ -237,13 +230,12 @@ impl<'a> At<'a> {
     /// The same of a term.
     #[tactic(auto, using(crate::proofs::Calls::calls))]
     fn call_there(&self) -> Option<Call<'a>>
-        ensures some { (c : Call) → (count : ℕ → ℕ) → result ≡ Some c →
-            (a_term count self.now.levels false (place_at self.now)).0 ≡
-            (a_call (a_term count c.levels) count c.cursor).0 }
+        ensures some { (c : Call) → (count : ℕ → ℕ) → result ≡ Some c → (a_term count self.now.levels false (place_at
+            self.now)).0 ≡ (a_call (a_term count c.levels) count c.cursor).0 }
         ensures none { (count : ℕ → ℕ) → result ≡ None →
             code_of (a_term count self.now.levels false (place_at self.now)).0 ≢ codes.MethodInvocation }
     {
-        let cursor = cursor_of(self);
+        let cursor = Cursor::new(self.at, self.rest);
         if cursor.is_at_call(self.levels) {
             let levels = self.levels - 1;
             return Some(Call { cursor, levels });
@@ -262,13 +254,12 @@ impl<'a> At<'a> {
 
     /// Where the operands begin of a term, or of an element of a package.
     fn coded_there(&self, element: bool) -> Option<Coded<'a>>
-        ensures some { (c : Coded) → (count : ℕ → ℕ) → result ≡ Some c →
-            (a_term count self.now.levels element (place_at self.now)).0 ≡
-            (with_row (a_term count c.levels) (row_at c.place) c.cursor).0 }
+        ensures some { (c : Coded) → (count : ℕ → ℕ) → result ≡ Some c → (a_term count self.now.levels element (place_at
+            self.now)).0 ≡ (with_row (a_term count c.levels) (row_at c.place) c.cursor).0 }
         ensures none { (count : ℕ → ℕ) → (opcode : Opcode) → result ≡ None →
             code_of (a_term count self.now.levels element (place_at self.now)).0 ≢ codes.Opcode opcode }
     {
-        let mut cursor = cursor_of(self);
+        let mut cursor = Cursor::new(self.at, self.rest);
         match cursor.take_opcode(self.levels) {
             None => None,
             Some(place) => Some(Coded {
@@ -282,12 +273,11 @@ impl<'a> At<'a> {
     /// The same of an Else: its row says what follows its opcode.
     #[tactic(auto, using(crate::proofs::Elses::else_terms))]
     fn coded_else(&self) -> Option<Coded<'a>>
-        ensures some { (c : Coded) → (count : ℕ → ℕ) → result ≡ Some c →
-            (an_else (a_term count self.now.levels) (place_at self.now)).0 ≡
-            (with_row (a_term count c.levels) (row_at c.place) c.cursor).0 }
+        ensures some { (c : Coded) → (count : ℕ → ℕ) → result ≡ Some c → (an_else (a_term count self.now.levels)
+            (place_at self.now)).0 ≡ (with_row (a_term count c.levels) (row_at c.place) c.cursor).0 }
         ensures one { result ≢ None }
     {
-        let mut cursor = cursor_of(self);
+        let mut cursor = Cursor::new(self.at, self.rest);
         cursor.over(1);
         match row_place(u16::from(ELSE)) {
             None => None,

@@ -29,4 +29,4 @@ pub use at_reader::lent_bytes;
 pub use cursor::Cursor;
 pub use cursor_terms::{Call, Coded};
 pub use parse::{parse_list, parse_table};
-pub use places::{LEVELS, first_term, list_at};
+pub use places::{LEVELS, first_term, list_at, term_at};

@@ -38,21 +38,10 @@ pub(crate) fn standing<'a>(
     }
 }
 
-pub(crate) fn cursor_of<'a>(part: &At<'a>) -> Cursor<'a>
-    ensures { result ≡ place_at part.now }
-{
-    Cursor::new(part.at, part.rest)
-}
-
 /// The term, or the element of a package, where a cursor stands. Its opcode is read at once, so that no reading of an
 /// operand looks for its row again. Most opcodes take one byte, and no name begins with such a byte.
 #[tactic(auto, using(crate::proofs::CodedTerms::coded_term))]
-pub(crate) fn term_at<'a>(
-    cursor: &Cursor<'a>,
-    marks: &'a Marks,
-    levels: u8,
-    element: bool,
-) -> At<'a>
+pub fn term_at<'a>(cursor: &Cursor<'a>, marks: &'a Marks, levels: u8, element: bool) -> At<'a>
     ensures marks { result.marks.now ≡ marks.now }
     ensures tree { at_tree result ≡ (a_term (count_at marks.now) levels element cursor.now).0 }
     ensures behind { behind_of result.kind (count_at marks.now) result.levels (place_at result) ≡
@@ -94,7 +83,7 @@ fn other_term_at<'a>(cursor: &Cursor<'a>, marks: &'a Marks, levels: u8, element:
 pub(crate) fn behind<'a>(term: &At<'a>) -> Cursor<'a>
     ensures { result ≡ behind_of term.now.kind (count_at term.now.marks.now) term.now.levels (place_at term.now) }
 {
-    let mut cursor = cursor_of(term);
+    let mut cursor = Cursor::new(term.at, term.rest);
     match term.kind {
         Kind::Coded(place) => skip_row_term(&mut cursor, term.marks, term.levels, place.row()),
         Kind::Term => skip_term(&mut cursor, term.marks, term.levels, false),
@@ -130,10 +119,12 @@ pub fn first_term<'a>(bytes: &'a [u8], at: usize, marks: &'a Marks) -> (At<'a>, 
         record { at = result.1; rest = drop result.1 bytes.now } }
     ensures on { at < result.1 }
     ensures within { result.1 ≤ length bytes.now }
-    ensures items { (turns : ℕ) → 0 < turns →
-        (to_end (a_term (count_at marks.now) walk_levels false) turns (record { at = at; rest = drop at bytes.now })).0
-        ≡ at_tree result.0 ∷ (to_end (a_term (count_at marks.now) walk_levels false) (turns - 1)
-        (record { at = result.1; rest = drop result.1 bytes.now })).0 }
+    ensures items { (turns : ℕ) → 0 < turns → (to_end (a_term (count_at marks.now) walk_levels false) turns (record {
+      at
+          = at;
+      rest = drop at bytes.now;
+    })).0 ≡ at_tree result.0 ∷ (to_end (a_term (count_at marks.now) walk_levels
+        false) (turns - 1) (record { at = result.1; rest = drop result.1 bytes.now })).0 }
 {
     let cursor = Cursor::new(at, &bytes[at..]);
     let term = term_at(&cursor, marks, LEVELS, false);

@@ -7,3 +7,5 @@ pub const MAX_LINKS: usize = 256;
 /// How many pins may count where the System Control Interrupt counts as one of them, and how many wired interrupts a
 /// report may have.
 pub const MAX_PINS: usize = 4096;
+/// How deep packages may nest where a value is copied, handed in or handed out.
+pub const MAX_NESTING: usize = 64;

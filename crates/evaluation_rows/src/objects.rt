@@ -11,13 +11,13 @@ use test_rows::Exchange;
 /// `string BYTES`: a new string.
 fn new_string(asked: &mut Exchange, world: &mut World<Traced<Sparse>>) {
     let bytes = octets(asked);
-    say_outcome(asked, world.running.world.make_string(bytes));
+    say_outcome(asked, world.running.world.heap.make_string(bytes));
 }
 
 /// `buffer BYTES`: a new buffer.
 fn new_buffer(asked: &mut Exchange, world: &mut World<Traced<Sparse>>) {
     let bytes = octets(asked);
-    say_outcome(asked, world.running.world.make_buffer(bytes));
+    say_outcome(asked, world.running.world.heap.make_buffer(bytes));
 }
 
 /// Elements of which there is one.
@@ -31,25 +31,33 @@ fn one_element(asked: &mut Exchange, value: Value) -> Elements {
 fn new_package(asked: &mut Exchange, world: &mut World<Traced<Sparse>>) {
     let value = value(asked);
     let elements = one_element(asked, value);
-    say_outcome(asked, world.running.world.make_package(elements));
+    say_outcome(asked, world.running.world.heap.make_package(elements));
 }
 
 /// `copy VALUE`: a deep copy of a value.
 fn copy(asked: &mut Exchange, world: &mut World<Traced<Sparse>>) {
     let value = value(asked);
-    let outcome = world.running.world.copy(value);
+    let outcome = world
+        .running
+        .world
+        .heap
+        .copy(world.running.world.alloc, value);
     say_outcome(asked, outcome);
 }
 
 /// `contents VALUE`: what a value holds.
 fn contents(asked: &mut Exchange, world: &World<Traced<Sparse>>) {
     let value = value(asked);
-    say_content(asked, world.running.world.content(value));
+    say_content(asked, world.running.world.objects().content(value));
 }
 
 /// The elements of the package with a number.
 fn elements(world: &World<Traced<Sparse>>, object: u32) -> Result<Elements> {
-    world.running.world.elements(object)
+    world
+        .running
+        .world
+        .objects()
+        .elements(world.running.world.alloc, object)
 }
 
 /// `count OBJECT`: how many elements the package with this number has.
@@ -65,14 +73,14 @@ fn count(asked: &mut Exchange, world: &World<Traced<Sparse>>) {
 fn write_string(asked: &mut Exchange, world: &mut World<Traced<Sparse>>) {
     let object = object_number(asked);
     let bytes = octets(asked);
-    say_done(asked, world.running.world.write_string(object, bytes));
+    say_done(asked, world.running.world.heap.write_string(object, bytes));
 }
 
 /// Stores the bytes that are left into the buffer whose number comes next.
 fn write_buffer(asked: &mut Exchange, world: &mut World<Traced<Sparse>>) {
     let object = object_number(asked);
     let bytes = octets(asked);
-    say_done(asked, world.running.world.write_buffer(object, bytes));
+    say_done(asked, world.running.world.heap.write_buffer(object, bytes));
 }
 
 /// `write string OBJECT BYTES` or `write buffer OBJECT BYTES`: stores bytes into an object.

@@ -1,6 +1,6 @@
 //! Lines of a report that claim nothing: some are passed over, and of those that options add the form is tested.
 ghost use Rattle.std.specs.Prelude.{◌≡◌};
-ghost use Rattle.ar_space.specs.Outcome.{Answers, NotMemory, seen};
+ghost use Rattle.ar_space.specs.Outcome.{Answers, AnswersInPlace, seen};
 ghost use Rattle.route_report.specs.Reading.{is_passed_over, unread, triggered, link_triggered, number_triggered};
 ghost use Rattle.route_report.specs.Reading.{source_triggered, trigger, bus_refused, bus_known, bus_state, bus};
 ghost use Rattle.route_report.specs.Reading.{unread_line, trigger_line, bus_line, claimless};
@@ -36,8 +36,7 @@ fn unread(alloc: Global, n: usize, words: &mut Words<'_>) -> Result<()>
 /// `level` or `edge`, and `low` or `high`
 #[tactic(auto, using(ar_space::proofs::Outcomes::answering), unfolding(crate::specs::Reading::triggered))]
 fn triggered(n: usize, words: &mut Words<'_>) -> Result<()>
-    ensures answer { Answers result (triggered n words.old) }
-    ensures memory { NotMemory result }
+    ensures { AnswersInPlace result (triggered n words.old) }
 {
     one_of(n, b"level", b"edge", words)?;
     one_of(n, b"low", b"high", words)?;
@@ -56,8 +55,7 @@ fn link_triggered(alloc: Global, n: usize, words: &mut Words<'_>) -> Result<()>
 /// `N`, and how it is triggered
 #[tactic(auto, using(ar_space::proofs::Outcomes::answering), unfolding(crate::specs::Reading::number_triggered))]
 fn number_triggered(n: usize, words: &mut Words<'_>) -> Result<()>
-    ensures answer { Answers result (number_triggered n words.old) }
-    ensures memory { NotMemory result }
+    ensures { AnswersInPlace result (number_triggered n words.old) }
 {
     number(n, words)?;
     triggered(n, words)
@@ -89,8 +87,7 @@ fn trigger(alloc: Global, n: usize, words: &mut Words<'_>) -> Result<()>
 /// `R`
 #[tactic(auto, using(ar_space::proofs::Outcomes::answering), unfolding(crate::specs::Reading::bus_refused))]
 fn bus_refused(n: usize, words: &mut Words<'_>) -> Result<()>
-    ensures answer { Answers result (bus_refused n words.old) }
-    ensures memory { NotMemory result }
+    ensures { AnswersInPlace result (bus_refused n words.old) }
 {
     number(n, words)?;
     ended(n, words)
@@ -99,8 +96,7 @@ fn bus_refused(n: usize, words: &mut Words<'_>) -> Result<()>
 /// `S B`
 #[tactic(auto, using(ar_space::proofs::Outcomes::answering), unfolding(crate::specs::Reading::bus_known))]
 fn bus_known(n: usize, segment: &[u8], words: &mut Words<'_>) -> Result<()>
-    ensures answer { Answers result (bus_known n segment.now words.old) }
-    ensures memory { NotMemory result }
+    ensures { AnswersInPlace result (bus_known n segment.now words.old) }
 {
     number_here(n, segment)?;
     number(n, words)?;
@@ -110,8 +106,7 @@ fn bus_known(n: usize, segment: &[u8], words: &mut Words<'_>) -> Result<()>
 /// `S B`, or `refused R`
 #[tactic(auto, using(ar_space::proofs::Outcomes::answering), unfolding(crate::specs::Reading::bus_state))]
 fn bus_state(n: usize, words: &mut Words<'_>) -> Result<()>
-    ensures answer { Answers result (bus_state n words.old) }
-    ensures memory { NotMemory result }
+    ensures { AnswersInPlace result (bus_state n words.old) }
 {
     let first = word(n, words)?;
     if first == b"refused".as_slice() {

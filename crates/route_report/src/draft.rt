@@ -1,6 +1,6 @@
 //! What the lines of a report have said so far.
 ghost use Rattle.std.specs.Prelude.{◌≡◌, [], Ok, option_map};
-ghost use Rattle.ar_space.specs.Outcome.{Answers, NotMemory, seen};
+ghost use Rattle.ar_space.specs.Outcome.{Answers, AnswersInPlace, NotMemory, seen};
 ghost use Rattle.route_report.specs.Reading.{first_said, with_link, with_wired, with_sci, with_avoid, with_spared};
 ghost use Rattle.route_report.specs.Reading.{with_option, with_rule, with_give, with_busiest, with_bound, here};
 ghost use Rattle.route_report.specs.Reading.{claimed};
@@ -252,8 +252,7 @@ fn barred_by(avoid: Vec<u32>, spared: Option<Vec<u32>>) -> Result<Vec<u32>>
 /// What was said of the rule of the choice.
 #[tactic(auto, using(ar_space::proofs::Outcomes::answering))]
 fn rule_here(n: usize, rule: Option<Rule>) -> Result<Rule>
-    ensures answer { Answers result (here n rule) }
-    ensures memory { NotMemory result }
+    ensures { AnswersInPlace result (here n rule) }
 {
     match rule {
         Some(rule) => Ok(rule),
@@ -264,8 +263,7 @@ fn rule_here(n: usize, rule: Option<Rule>) -> Result<Rule>
 /// What was said of the System Control Interrupt.
 #[tactic(auto, using(ar_space::proofs::Outcomes::answering))]
 fn sci_here(n: usize, sci: Option<Option<u32>>) -> Result<Option<u32>>
-    ensures answer { Answers result (here n sci) }
-    ensures memory { NotMemory result }
+    ensures { AnswersInPlace result (here n sci) }
 {
     match sci {
         Some(sci) => Ok(sci),
@@ -288,8 +286,7 @@ fn numbers_here(n: usize, numbers: Option<Vec<u32>>) -> Result<Vec<u32>>
 /// What was said of the busiest interrupt.
 #[tactic(auto, using(ar_space::proofs::Outcomes::answering))]
 fn busiest_here(n: usize, busiest: Option<u32>) -> Result<u32>
-    ensures answer { Answers result (here n busiest) }
-    ensures memory { NotMemory result }
+    ensures { AnswersInPlace result (here n busiest) }
 {
     match busiest {
         Some(busiest) => Ok(busiest),
@@ -300,8 +297,7 @@ fn busiest_here(n: usize, busiest: Option<u32>) -> Result<u32>
 /// What was said of the bound.
 #[tactic(auto, using(ar_space::proofs::Outcomes::answering))]
 fn bound_here(n: usize, bound: Option<Option<Bound>>) -> Result<Option<Bound>>
-    ensures answer { Answers result (here n bound) }
-    ensures memory { NotMemory result }
+    ensures { AnswersInPlace result (here n bound) }
 {
     match bound {
         Some(bound) => Ok(bound),

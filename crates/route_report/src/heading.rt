@@ -1,5 +1,5 @@
 //! The first line of a report, which says its version.
-ghost use Rattle.ar_space.specs.Outcome.{Answers, NotMemory};
+ghost use Rattle.ar_space.specs.Outcome.{AnswersInPlace};
 ghost use Rattle.text_words.specs.Words.{words};
 ghost use Rattle.route_report.specs.Reading.{heading, version_here};
 
@@ -11,8 +11,7 @@ use text_words::Words;
 /// The version that a word is.
 #[tactic(auto, using(ar_space::proofs::Outcomes::answering))]
 fn version_here(n: usize, word: &[u8]) -> Result<Version>
-    ensures answer { Answers result (version_here n word.now) }
-    ensures memory { NotMemory result }
+    ensures { AnswersInPlace result (version_here n word.now) }
 {
     if word == b"1".as_slice() {
         Ok(Version::One)
@@ -28,8 +27,7 @@ fn version_here(n: usize, word: &[u8]) -> Result<Version>
 /// The first line: a report of version 1, 2 or 3.
 #[tactic(auto, using(ar_space::proofs::Outcomes::answering), unfolding(crate::specs::Reading::heading))]
 pub(crate) fn heading(n: usize, text: &[u8]) -> Result<Version>
-    ensures answer { Answers result (heading n (words text.now)) }
-    ensures memory { NotMemory result }
+    ensures { AnswersInPlace result (heading n (words text.now)) }
 {
     let mut words = Words::of(text);
     expected(n, b"acpiroute", &mut words)?;

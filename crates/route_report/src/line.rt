@@ -1,6 +1,6 @@
 //! One line of a report.
 ghost use Rattle.std.specs.Prelude.{◌≡◌, [], codes};
-ghost use Rattle.ar_space.specs.Outcome.{Answers, NotMemory, seen};
+ghost use Rattle.ar_space.specs.Outcome.{Answers, AnswersInPlace, NotMemory, seen};
 ghost use Rattle.text_words.specs.Words.{words};
 ghost use Rattle.route_report.specs.Reading.{ascends, with_next, until, offers, offered, link, wired};
 ghost use Rattle.route_report.specs.Reading.{sci, ascending_after, avoid, spared, give, busiest, with_path};
@@ -90,8 +90,7 @@ fn link(alloc: Global, n: usize, words: &mut Words<'_>) -> Result<Link>
 /// `N C`
 #[tactic(auto, using(ar_space::proofs::Outcomes::answering), unfolding(crate::specs::Reading::wired))]
 fn wired(n: usize, words: &mut Words<'_>) -> Result<(u32, u32)>
-    ensures answer { Answers result (wired n words.old) }
-    ensures memory { NotMemory result }
+    ensures { AnswersInPlace result (wired n words.old) }
 {
     let interrupt = number(n, words)?;
     let count = number(n, words)?;
@@ -102,8 +101,7 @@ fn wired(n: usize, words: &mut Words<'_>) -> Result<(u32, u32)>
 /// `N` or `none`
 #[tactic(auto, using(ar_space::proofs::Outcomes::answering), unfolding(crate::specs::Reading::sci))]
 fn sci(n: usize, words: &mut Words<'_>) -> Result<Option<u32>>
-    ensures answer { Answers result (sci n words.old) }
-    ensures memory { NotMemory result }
+    ensures { AnswersInPlace result (sci n words.old) }
 {
     let interrupt = word(n, words)?;
     ended(n, words)?;
@@ -155,8 +153,7 @@ fn give(alloc: Global, n: usize, words: &mut Words<'_>) -> Result<(Path, u32)>
 /// `K`
 #[tactic(auto, using(ar_space::proofs::Outcomes::answering), unfolding(crate::specs::Reading::busiest))]
 fn busiest(n: usize, words: &mut Words<'_>) -> Result<u32>
-    ensures answer { Answers result (busiest n words.old) }
-    ensures memory { NotMemory result }
+    ensures { AnswersInPlace result (busiest n words.old) }
 {
     let count = number(n, words)?;
     ended(n, words)?;

@@ -1,7 +1,7 @@
 //! The words of a line as numbers and paths.
 ghost use Rattle.std.specs.Prelude.{◌≡◌, Ok};
 ghost use Rattle.std.specs.Str.{bytes_eq};
-ghost use Rattle.ar_space.specs.Outcome.{Answers, NotMemory, seen};
+ghost use Rattle.ar_space.specs.Outcome.{Answers, AnswersInPlace, NotMemory, seen};
 ghost use Rattle.ar_space.specs.declared.refusal.Refusal.TheVariants.{Report};
 ghost use Rattle.ar_space.specs.declared.refusal.ReportFault.TheVariants.{BadLine};
 ghost use Rattle.aml_path.specs.Text.{text_of, path_of_text};
@@ -36,8 +36,7 @@ pub(crate) fn word<'a>(n: usize, words: &mut Words<'a>) -> Result<&'a [u8]>
 /// No word is left.
 #[tactic(auto, using(ar_space::proofs::Outcomes::answering))]
 pub(crate) fn ended(n: usize, words: &Words<'_>) -> Result<()>
-    ensures answer { Answers result (ended n words.now) }
-    ensures memory { NotMemory result }
+    ensures { AnswersInPlace result (ended n words.now) }
 {
     if words.is_ended() {
         Ok(())
@@ -96,8 +95,7 @@ pub(crate) fn path(alloc: Global, n: usize, words: &mut Words<'_>) -> Result<Pat
 /// The number that a word is.
 #[tactic(auto, using(ar_space::proofs::Outcomes::answering))]
 pub(crate) fn number_here(n: usize, word: &[u8]) -> Result<u32>
-    ensures answer { Answers result (number_here n word.now) }
-    ensures memory { NotMemory result }
+    ensures { AnswersInPlace result (number_here n word.now) }
 {
     match numerals::decimal_of(word) {
         Some(number) => Ok(number),

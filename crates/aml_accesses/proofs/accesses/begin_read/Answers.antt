@@ -1,10 +1,13 @@
+use Rattle.std.proofs.Common.{rules, arith}
 use Rattle.aml_frames.proofs.Weighing.{read_free}
 use Rattle.aml_accesses.proofs.accesses.begin_read.Goals as goal
 
-pub returns-clause-falls : goal.returns-clause-falls
-returns-clause-falls g c =
-    let h = rw c.read_access.ensures at c.begin_access.ensures.falls in
-    read_free c.begin_access.result c.args.act.now.depth h
-
-pub returns-clause-means : goal.returns-clause-means
-returns-clause-means g c = let h = rw c.read_access.ensures at c.begin_access.ensures.means in h
+pub returns : goal.returns
+returns g c = record {
+  spent = omega arith;
+  falls =
+      let h = rw c.read_access.ensures at c.begin_access.ensures.falls in
+      read_free c.begin_access.result c.args.act.now.depth h;
+  means = let h = rw c.read_access.ensures at c.begin_access.ensures.means in h;
+  ends = search rules;
+}

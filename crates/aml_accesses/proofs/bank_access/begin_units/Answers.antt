@@ -1,7 +1,18 @@
+use Rattle.std.proofs.Common.{rules, arith}
 use Rattle.aml_accesses.proofs.bank_access.begin_units.Goals as goal
 
-pub returns-in_ok-bytes-in-Read-clause-falls : goal.returns-in_ok-bytes-in-Read-clause-falls
-returns-in_ok-bytes-in-Read-clause-falls g c = rw c.units-left.ensures at c.next_bank_read.ensures.falls
+pub returns-in_ok-bytes-in-Read : goal.returns-in_ok-bytes-in-Read
+returns-in_ok-bytes-in-Read g c = record {
+  spent = omega arith;
+  falls = rw c.units-left.ensures at c.next_bank_read.ensures.falls;
+  means = search rules;
+  ends = search rules;
+}
 
-pub returns-in-Write-clause-falls : goal.returns-in-Write-clause-falls
-returns-in-Write-clause-falls g c = rw c.units-left.ensures at c.next_bank_write.ensures.falls
+pub returns-in-Write : goal.returns-in-Write
+returns-in-Write g c = record {
+  spent = omega arith;
+  falls = rw c.units-left.ensures at c.next_bank_write.ensures.falls;
+  means = search rules;
+  ends = search rules;
+}

@@ -1,15 +1,19 @@
-use Rattle.std.proofs.Common.{sym, ◌∙◌}
+use Rattle.std.proofs.Common.{sym, ◌∙◌, rules, arith}
 use Rattle.aml_accesses.proofs.UnitSteps.{falls_read, falls_written, leads_kept, leads_unkept}
 use Rattle.aml_accesses.proofs.index_access.next_write.Goals as goal
 
-pub returns-then-is_kept-clause-falls : goal.returns-then-is_kept-clause-falls
-returns-then-is_kept-clause-falls g c = falls_read c.choose.result c.args.writes.field.calls c.args.writes.left c.next.new.self c.in-Some.unit c.in-Some.ensures.steps c.choose.ensures.falls
+pub returns-then-is_kept : goal.returns-then-is_kept
+returns-then-is_kept g c = record {
+  spent = omega arith;
+  falls = falls_read c.choose.result c.args.writes.field.calls c.args.writes.left c.next.new.self c.in-Some.unit c.in-Some.ensures.steps c.choose.ensures.falls;
+  means = leads_kept (record { field = c.args.writes.field; bytes = c.args.writes.bytes; left = c.next.new.self }) c.in-Some.unit c.args.writes.left c.in-Some.ensures.steps (sym c.is_kept.ensures ∙ c.if-is_kept.true) c.choose.ensures.means;
+  ends = search rules;
+}
 
-pub returns-then-is_kept-clause-means : goal.returns-then-is_kept-clause-means
-returns-then-is_kept-clause-means g c = leads_kept (record { field = c.args.writes.field; bytes = c.args.writes.bytes; left = c.next.new.self }) c.in-Some.unit c.args.writes.left c.in-Some.ensures.steps (sym c.is_kept.ensures ∙ c.if-is_kept.true) c.choose.ensures.means
-
-pub returns-else-is_kept-clause-falls : goal.returns-else-is_kept-clause-falls
-returns-else-is_kept-clause-falls g c = falls_written c.write_over.result c.args.writes.field.calls c.args.writes.left c.next.new.self c.in-Some.unit c.in-Some.ensures.steps c.write_over.ensures.falls
-
-pub returns-else-is_kept-clause-means : goal.returns-else-is_kept-clause-means
-returns-else-is_kept-clause-means g c = leads_unkept (record { field = c.args.writes.field; bytes = c.args.writes.bytes; left = c.next.new.self }) c.in-Some.unit c.args.writes.left c.in-Some.ensures.steps (sym c.is_kept.ensures ∙ c.if-is_kept.false) c.write_over.ensures.means
+pub returns-else-is_kept : goal.returns-else-is_kept
+returns-else-is_kept g c = record {
+  spent = omega arith;
+  falls = falls_written c.write_over.result c.args.writes.field.calls c.args.writes.left c.next.new.self c.in-Some.unit c.in-Some.ensures.steps c.write_over.ensures.falls;
+  means = leads_unkept (record { field = c.args.writes.field; bytes = c.args.writes.bytes; left = c.next.new.self }) c.in-Some.unit c.args.writes.left c.in-Some.ensures.steps (sym c.is_kept.ensures ∙ c.if-is_kept.false) c.write_over.ensures.means;
+  ends = search rules;
+}

@@ -1,8 +1,12 @@
+use Rattle.std.proofs.Common.{rules, arith}
 use Rattle.aml_evaluation.proofs.Machine.{falls_done}
+use Rattle.aml_evaluation.proofs.Machine.{listing_on}
 use Rattle.aml_evaluation.proofs.lists.follow_item.Goals as goal
 
-pub returns-in-Flow-clause-falls : goal.returns-in-Flow-clause-falls
-returns-in-Flow-clause-falls g c = rw c.in-Flow.is (falls_done c.next_item.result _ _ _ c.next_item.ensures.falls)
-
-pub returns-in-Flow-clause-means : goal.returns-in-Flow-clause-means
-returns-in-Flow-clause-means g c = rw c.in-Flow.is c.next_item.ensures.means
+pub returns-in-Flow : goal.returns-in-Flow
+returns-in-Flow g c = record {
+  falls = rw c.in-Flow.is (falls_done c.next_item.result _ _ _ c.next_item.ensures.falls);
+  ended = search (rules, listing_on);
+  memory = search (rules, listing_on);
+  means = rw c.in-Flow.is c.next_item.ensures.means;
+}

@@ -6,12 +6,17 @@ use Rattle.aml_frames.specs.ShortTerms.{row_alone, IsShort}
 use Rattle.aml_frames.proofs.ShortTerms.{does_put_slot, behind_slot_target}
 use Rattle.aml_frames.proofs.short_terms.put_integer_to_slot.Goals as goal
 
-pub returns-clause-done : goal.returns-clause-done
-returns-clause-done g c done =
-    let short : IsShort (shorts.Slot c.in-Slot.slot) (row_alone (first c.args.act.now.place.rest)) = search rules in
-    rw (← c.run.view_is) (does_put_slot g.S.Space.accesses c.args.act.now c.args.levels c.run.inside.steps c.in-Slot.slot (values.Integer c.args.number) (omega (arith, c.if-levels-eq0.false)) short (c.if-not-put_slot_integer.ensures.change refl))
-
-pub returns-clause-behind : goal.returns-clause-behind
-returns-clause-behind g c done =
-    let short : IsShort (shorts.Slot c.in-Slot.slot) (row_alone (first c.args.act.now.place.rest)) = search rules in
-    c.advance.ensures ∙ behind_slot_target g.S.Space.accesses c.args.act.now c.args.levels (omega (arith, c.if-levels-eq0.false)) short.1.1
+pub returns : goal.returns
+returns g c = record {
+  done =
+      λ done.
+      let short : IsShort (shorts.Slot c.in-Slot.slot) (row_alone (first c.args.act.now.place.rest)) = search rules in
+      rw (← c.run.view_is) (does_put_slot g.S.Space.accesses c.args.act.now c.args.levels c.run.inside.steps c.in-Slot.slot (values.Integer c.args.number) (omega (arith, c.if-levels-eq0.false)) short (c.if-not-put_slot_integer.ensures.change refl));
+  behind =
+      λ done.
+      let short : IsShort (shorts.Slot c.in-Slot.slot) (row_alone (first c.args.act.now.place.rest)) = search rules in
+      c.advance.ensures ∙ behind_slot_target g.S.Space.accesses c.args.act.now c.args.levels (omega (arith, c.if-levels-eq0.false)) short.1.1;
+  spent = first_of (search rules, grind arith);
+  none = first_of (search rules, grind arith);
+  stays = first_of (search rules, grind arith);
+}

@@ -12,7 +12,7 @@ returns-clause-value g c =
     let lt : 0 < c.args.levels = omega (arith, c.if-levels-eq0.false) in
     let paid = charged_one c.run.inside.world c.run.inside.steps (omega (arith, c.if-run-eq0.false)) in
     let short : IsShort (shorts.Slot c.in-Slot.slot) (row_alone (first a.place.rest)) = rw (c.in-Slot.is, c.next_byte.ensures) at c.short_at.ensures.short in
-    rw (← c.run.view_is) (does_short_slot g.S.Space.accesses a.scope a.depth (count_at a.marks) c.args.levels a.place c.in-Slot.slot _ lt short paid c.in-Ok.ensures.answer)
+    rw (← c.run.view_is) (does_short_slot g.S.Space.accesses a.scope a.depth (count_at a.marks) c.args.levels a.place c.in-Slot.slot _ lt short paid c.in-Ok.ensures.change)
 
 pub returns-clause-behind : goal.returns-clause-behind
 returns-clause-behind g c =
