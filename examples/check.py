@@ -15,7 +15,7 @@ Runs the examples of this folder over a built acpiroute, for instance build/acpi
 Each difference is printed. The last line is `N passed, M failed`, and the exit status is 0 where none failed.
 
 With --tools it needs no program, and leaves out what the program prints. With --rows it runs nothing, and prints the examples as
-rows for crates/program_rows/data/examples.rows."""
+rows for crates/test_program/data/examples.rows."""
 import ast
 import glob
 import json
@@ -33,7 +33,7 @@ READERS = ["tools/machine_text.py", "tools/report_graph.py", "tools/show_value.p
            "tools/count_requests.py", "benches/calls.py", "benches/check_hostile.py", "benches/evaluation.py", "benches/fields.py",
            "benches/machine_text.py", "benches/route_solve.py", "benches/stack.py", "examples/check.py", "examples/kernel/run.py"]
 CRATES = os.path.join(os.path.dirname(HERE), "crates")
-ROWS = os.path.join(CRATES, "program_rows/data")
+ROWS = os.path.join(CRATES, "test_program/data")
 # The reports: each with its machine text and its command.
 REPORTS = {
     "two-links": ("two-links", ["route"]),

@@ -131,7 +131,7 @@ def faults_of_paths(text):
 
 def faults_of_names(text):
     """Functions and definitions that are named behind a file of a crate, and that it doesn't have."""
-    for file, name in re.findall(r"`(\w+/(?:src|specs)/\w+\.\w+)`: `(\w+)`", text):
+    for file, name in re.findall(r"`(\w+/(?:src|specs)/(?:\w+/)*\w+\.\w+)`: `(\w+)`", text):
         if os.path.isfile(f"{TOP}/crates/{file}") and not re.search(rf"\b(?:fn|pub|record) {name}\b", text_of(f"crates/{file}")):
             yield f"{file} has no {name}"
 

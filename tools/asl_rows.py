@@ -5,9 +5,9 @@ Compiles with iasl (Debian's acpica-tools) the ASL that stands beside AML bytes 
 Each difference is printed, and the exit status is then 1. FILE is the name of one of the files, such as operators.rows; without names
 all are compared. Where the ASL of a row stands:
 
-- crates/name_rows/data and crates/evaluation_rows/data: of a line `table`, `load`, `method` or `body` it is the remark right above it,
+- crates/test_names/data and crates/test_evaluation/data: of a line `table`, `load`, `method` or `body` it is the remark right above it,
   where that ends in `)` or `}`; a line `body` without a remark has it behind `: ` in the name of its row, where that ends so.
-- crates/program_rows/data/wide_profile.rows: in the remarks `revision N: TERMS` and `M000: BODY` above the row, or in those from
+- crates/test_program/data/wide_profile.rows: in the remarks `revision N: TERMS` and `M000: BODY` above the row, or in those from
   `DefinitionBlock` on. Its bytes are those of the DSDT.
 
 Each operator that is evaluated has to have a row of evaluation with its ASL (ACPI 6.5, 20.2.5.4). Where iasl isn't installed, that
@@ -24,8 +24,8 @@ import opcode_table
 import usage
 from pages import files_in, text_of
 
-REMARKED = "crates/name_rows/data/*.rows", "crates/evaluation_rows/data/*.rows"
-WIDE = "crates/program_rows/data/wide_profile.rows"
+REMARKED = "crates/test_names/data/*.rows", "crates/test_evaluation/data/*.rows"
+WIDE = "crates/test_program/data/wide_profile.rows"
 # The names of operators in ASL that are others than in the grammar of AML; the number of elements of a VarPackage is no constant.
 ASL_NAMES = {"Concat": "Concatenate", "ConcatRes": "ConcatenateResTemplate", "VarPackage": r"Package\((?![\d)])"}
 SECTION = "20.2.5.4"
@@ -165,7 +165,7 @@ def all_rows():
 
 def not_shown(rows):
     """The operators that are evaluated, and of which no row of evaluation has the ASL."""
-    asl = "\n".join(part.asl for row in rows if "/name_rows/" not in row.file for part in row.parts).replace(" (", "(")
+    asl = "\n".join(part.asl for row in rows if "/test_names/" not in row.file for part in row.parts).replace(" (", "(")
     missing = []
     for row in opcode_table.read_rows(text_of(opcode_table.TABLE), text_of(KINDS)):
         if row.section == SECTION and row.kind != "unsupported":

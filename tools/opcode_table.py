@@ -127,6 +127,91 @@ def lengths(rows):
     return ["    " + " ".join(f"{it}," for it in found[start:start + 32]) for start in range(0, 256, 32)]
 
 
+# The functions that give the kind of a term, in the order in which they are asked (`kind_of`).
+KIND_FUNCTIONS = (
+    "data_kind", "declaration_kind", "region_kind", "statement_kind", "slot_kind", "integer_operator", "two_operands", "one_operand",
+    "test_kind", "other_operator", "wide_kind",
+)
+KIND_DEFINITIONS, KIND_CODE = "crates/aml_meaning/specs/Terms.antt", "crates/aml_meaning/src/kinds.rt"
+# The files with the enums of kinds and of what they hold.
+KIND_ENUMS = (
+    "crates/aml_meaning/src/term_kind.rt", "crates/aml_world/src/values/operation_kind.rt", "crates/aml_convert/src/operators.rt",
+    "crates/aml_convert/src/logic.rt", "crates/aml_objects/src/value.rt",
+)
+# An operator that may be evaluated at once is known by its first byte: those on two integers, tests, and these.
+AT_ONCE, AT_ONCE_FUNCTIONS = ("Store", "Increment", "Decrement", "LNot"), ("integer_operator", "test_kind")
+# The variants that stand around what these functions give where it is an operator.
+AROUND = {"integer_operator": [("OperatorKind", "Two"), ("TwoOperands", "Integers")], "test_kind": [("OperatorKind", "Test")]}
+
+
+class Enums:
+    """The enums of kinds: of each variant what it holds, and the word that Terms.antt has for the variants of an enum."""
+
+    def __init__(self, text_of):
+        self.holds = {}
+        for file in KIND_ENUMS:
+            for enum, body in re.findall(r"^pub enum (\w+) \{\n(.*?)^\}", text_of(file), re.MULTILINE | re.DOTALL):
+                self.holds[enum] = dict(re.findall(r"^    (\w+)(?:\((\w+)\))?,", body, re.MULTILINE))
+        definitions = text_of(KIND_DEFINITIONS)
+        self.words = dict(re.findall(r"\.(\w+)\.TheVariants as (\w+)$", definitions, re.MULTILINE))
+        self.given = dict(re.findall(r"^abbrev pub (\w+) : Opcode → Option (\w+)$", definitions, re.MULTILINE))
+
+    def parts(self, row):
+        """The enums of a row's kind, each with its variant, and the number that the last variant holds, or None."""
+        function, *names = row.kind.split(".")
+        enum, found = self.given.get(function), []
+        for place, name in enumerate(names):
+            if enum not in self.holds:
+                # (what the variant before it holds is a number)
+                if place != len(names) - 1 or not name.isdigit():
+                    raise Wrong(f"{TABLE}:{row.line}: {row.kind} is no kind")
+                return found, name
+            if name not in self.holds[enum]:
+                raise Wrong(f"{TABLE}:{row.line}: {enum} has no {name}")
+            found.append((enum, name))
+            enum = self.holds[enum][name]
+        if not found or enum:
+            raise Wrong(f"{TABLE}:{row.line}: {row.kind} is no kind")
+        return found, None
+
+    def definition(self, row):
+        """The kind as Terms.antt has it."""
+        found, number = self.parts(row)
+        words = [f"{self.words[enum]}.{name}" for enum, name in found] + ([number] if number else [])
+        text = words.pop()
+        while words:
+            text = f"({words.pop()} {text})"
+        return text
+
+    def code(self, row, around=()):
+        """The kind as the code has it, inside of the variants that stand around it."""
+        found, number = self.parts(row)
+        words = [f"{enum}::{name}" for enum, name in [*around, *found]]
+        text = ("u64::MAX" if int(number) == 2 ** 64 - 1 else number) if number else words.pop()
+        while words:
+            text = f"{words.pop()}({text})"
+        return text
+
+
+def kind_regions(rows, text_of):
+    """The clauses of each function that gives a kind, as a definition and as code, and the operators that are known by a byte."""
+    enums, found = Enums(text_of), []
+    for it in rows:
+        if it.kind.split(".")[0] not in (*KIND_FUNCTIONS, "target", "unsupported"):
+            raise Wrong(f"{TABLE}:{it.line}: {it.kind} is no kind")
+    for function in KIND_FUNCTIONS:
+        mine = [it for it in rows if it.kind.startswith(f"{function}.")]
+        clauses = [f"{function} opcodes.{it.name} = Some {enums.definition(it)}" for it in mine]
+        found.append((KIND_DEFINITIONS, "-- ", function, clauses))
+        found.append((KIND_CODE, "        // ", function, [f"        Opcode::{it.name} => Some({enums.code(it)})," for it in mine]))
+    at_once = []
+    for it in rows:
+        function = it.kind.split(".")[0]
+        if function in AT_ONCE_FUNCTIONS or it.name in AT_ONCE:
+            at_once.append(f"        {digits(it)} => Some({enums.code(it, AROUND.get(function, ()))}),")
+    return [*found, ("crates/aml_frames/src/at_once/short_opcodes.rt", "        // ", "operators that are known by a byte", at_once)]
+
+
 def regions(rows, text_of):
     """Each region: its file, the comment that begins a line there, its name, and its lines."""
     definitions = [definition_row(it) for it in rows]
@@ -143,6 +228,7 @@ def regions(rows, text_of):
         (scan, "    // ", "places", places(rows, 0)),
         (scan, "    // ", "places behind 5B", places(rows, 0x5B)),
         ("crates/aml_terms/src/short.rt", "    // ", "lengths", lengths(rows)),
+        *kind_regions(rows, text_of),
     ]
 
 

@@ -1,13 +1,13 @@
 #!/usr/bin/env python3
 """opcodes.py [--check]
 
-Writes from tables/opcodes.txt the marked regions of the sources (the enum of opcodes, both tables of terms, and what is looked up by a
-byte), and then docs/OPCODES.md, one row for each opcode of AML: its row in the table with its section and its meaning, which rule it is
+Writes from tables/opcodes.txt the marked regions of the sources (the enum of opcodes, both tables of terms, the kinds of terms as
+definitions and as code, and what is looked up by a byte), and then docs/OPCODES.md, one row for each opcode of AML: its row in the table with its section and its meaning, which rule it is
 evaluated by, where the rule is defined, which functions evaluate it, and where it is tested. A second table has what is evaluated without
 an opcode of its own. What the table doesn't have is read from the sources.
 
-With --check it writes nothing, and fails (status 1) where a region or the page differs, or where a row's kind isn't that of
-crates/aml_meaning/specs/Terms.antt."""
+With --check it writes nothing, and fails (status 1) where a region or the page differs. Both ways it fails where a row's kind is unknown, or
+where it isn't evaluated and the targets of crates/aml_meaning/specs/Terms.antt say otherwise."""
 import os
 import re
 import sys
@@ -48,8 +48,10 @@ VALUES = {
 # The same of the wide profile, by the kind of the term: the definition, or the function that chooses it.
 WIDE_VALUES = {"ToString": "string_in", "Mid": "middle_in", "Event": "event_changed", "Wait": "waited"}
 WIDE_CHOOSERS = {"Convert": "converted"}
-# The files of crates/aml_meaning/src that have the code of these values.
-OPERATIONS = ("operations", "wide_operations", "events")
+# Definitions of values for which no function of the code stands alone: one has the function that chooses among them.
+CHOOSER_OF = {"incremented": "counted_by", "decremented": "counted_by"}
+# The files of crates/aml_world/src that have the code of these values.
+OPERATIONS = ("values/operations", "values/wide_operations", "state/events")
 # What waits for the value of a part of a term, or for its target: an arm of each goes on with it.
 WAITING = ("Monadic", "Dyadic", "TargetUse", "DeclarationPart")
 # What is evaluated without an opcode of its own: its definitions and its functions, each behind its file. Those without a crate are of
@@ -60,7 +62,7 @@ WITHOUT_OPCODE = [
     ("An operand of an operator that is a local, an argument, a string or a buffer, where it is done at once", "Tasks: operand_value",
      "short_values: short_value coded_value; short_terms: slot_value"),
     ("A name where a value stands, and a call of a control method",
-     "InvocationTerms: name_value call_rule; Invocations: invoked",
+     "InvocationTerms: name_value call_rule; Calls: invoked",
      "names: begin_name; calls: begin_call enter; stack: run_in end_call"),
     ("A target: what is found and used", "TargetTerms: target_at targeted", "targets: begin_target; target_uses: use_target"),
     ("RefOf, DerefOf and Index as targets", "TargetTerms: target_by_kind", "targets: begin_referring"),
@@ -95,17 +97,19 @@ One row for each opcode of AML.
 - **Kind** is the rule that evaluates the term (`crates/aml_meaning/specs/Terms.antt`; as code `crates/aml_meaning/src/kinds.rt`).
   *left out* means that the term is read, and refused by number 73 with its opcode where it is evaluated. A kind `wide` is that of a term
   which the wide profile alone evaluates.
-- **Definition** is a function in `crates/aml_meaning/specs`. **Code** has functions of the crates of evaluation, or of the crate that is
-  named, each behind its file (the list below says in which crate that is): the one that begins the term, those that this one calls to go on, and those that go on once a part is
-  evaluated (`resume_..`). What all terms share isn't named: lists, targets, stores and accesses of fields (the second table). What an
-  operator makes *of values* is defined in `specs/Operations.antt`, and its code is in `crates/aml_meaning/src/operations.rt`; of the wide
-  profile in `specs/WideOperations.antt` and `wide_operations.rt`. What gives
-  or takes an integer that is there already is done at once (`known`).
+- **Definition** is a function in `crates/aml_meaning/specs`, or in a folder of `crates/aml_world/specs`. **Code** has functions of the
+  crates of evaluation, or of the crate that is named, each behind its file (the list below says in which crate that is): the one that
+  begins the term, those that this one calls to go on, and those that go on once a part is evaluated (`resume_..`). What all terms share
+  isn't named: lists, targets, stores and accesses of fields (the second table). What an operator makes *of values* is defined in
+  `crates/aml_world/specs/values/Operations.antt`, and its code is in `crates/aml_world/src/values/operations.rt`; of the wide
+  profile in `WideOperations.antt` and `wide_operations.rt` beside these. What gives
+  or takes an integer that is there already is done at once (`known`), and an item that is such an operator is tried by `short_items` first.
 - **Field**, **IndexField**, **BankField** and the `Create` terms only declare fields. How a field of an operation region is read and
-  written is in `specs/Fields.antt`, with its code in `crates/aml_accesses/src/field_access.rt`, `index_access.rt` and `bank_access.rt`; for a
-  buffer field in `crates/aml_fields/specs/BufferFields.antt`, with its code in `crates/aml_fields/src/buffer_fields.rt`.
-- **Tests** are files of rows: in `crates/name_rows/data` the one with the row `the opcode NAME, read and refused`, and in
-  `crates/evaluation_rows/data` the one that names the term most often.
+  written is in `crates/aml_world/specs/fields/Fields.antt`, with its code in `crates/aml_accesses/src/field_access.rt`, `index_access.rt`
+  and `bank_access.rt`; for a buffer field in `crates/aml_fields/specs/BufferFields.antt`, with its code in
+  `crates/aml_fields/src/buffer_fields.rt`.
+- **Tests** are files of rows: in `crates/test_names/data` the one with the row `the opcode NAME, read and refused`, and in
+  `crates/test_evaluation/data` the one that names the term most often.
 
 The files of the crates of evaluation:
 {files}
@@ -145,20 +149,19 @@ def check_names(rows, sources):
     for it in rows:
         if it.name not in sources["tests"]:
             where = f"{opcode_table.TABLE}:{it.line}"
-            raise Wrong(f"{where}: {it.name} is unknown: no row in crates/name_rows/data tests `the opcode {it.name}`")
+            raise Wrong(f"{where}: {it.name} is unknown: no row in crates/test_names/data tests `the opcode {it.name}`")
     names = {it.name for it in rows}
     for name in sorted({*sources["tests"], *sources["kinds"], *sources["targets"]} - names):
         raise Wrong(f"{opcode_table.TABLE}: {name} has no row")
 
 
-def check_kinds(rows, found, targets):
-    """Refuses a row whose kind isn't that of the definitions."""
+def check_targets(rows, targets):
+    """Refuses a row whose term is no value, and names a target otherwise than the definitions say."""
+    evaluated = rule_kinds(rows)
     for it in rows:
-        kind = "unsupported"
-        if it.name in found:
-            kind = ".".join([found[it.name][0], *found[it.name][1]])
-        elif it.name in targets:
-            kind = f"target.{targets[it.name]}"
+        if it.name in evaluated:
+            continue
+        kind = f"target.{targets[it.name]}" if it.name in targets else "unsupported"
         if it.kind != kind:
             raise Wrong(f"{opcode_table.TABLE}:{it.line}: {it.name} has the kind {it.kind}, and Terms.antt says {kind}")
 
@@ -171,14 +174,10 @@ def written(rows):
     return texts
 
 
-def kinds():
+def rule_kinds(rows):
     """The kind of each opcode that is evaluated: the function that gives it, and the kind."""
-    text = text_of("crates/aml_meaning/specs/Terms.antt")
-    found = {}
-    for function in KIND_FUNCTIONS:
-        for name, kind in re.findall(rf"^{function} opcodes\.(\w+) = Some (.*)$", text, re.MULTILINE):
-            found[name] = (function, [it.split(".")[-1] for it in kind.strip("()").split()])
-    return found
+    split = {it.name: it.kind.split(".") for it in rows}
+    return {name: (words[0], words[1:]) for name, words in split.items() if words[0] in KIND_FUNCTIONS}
 
 
 def target_kinds():
@@ -202,27 +201,27 @@ def rule_of(function, kind):
 
 def value_of(function, kind):
     """The function that gives an operator's value of those of its operands, or None where the rule says all."""
-    chooser, word, file = VALUES.get(function), "Integers" if function == "integer_operator" else kind[0], "OperatorTerms"
+    chooser, word, file = VALUES.get(function), "Integers" if function == "integer_operator" else kind[0], "Operations"
     if kind[0] == "Count":
         chooser, word = "counted_by", kind[1]
     if function == "wide_kind" and kind[0] in WIDE_CHOOSERS:
         chooser, word, file = WIDE_CHOOSERS[kind[0]], kind[1], "WideOperations"
     if not chooser:
         return WIDE_VALUES.get(kind[0]) if function == "wide_kind" else None
-    found = re.search(rf"^{chooser} \(?\w+\.{word}\b.*= (\w+)", text_of(f"crates/aml_meaning/specs/{file}.antt"), re.MULTILINE)
+    found = re.search(rf"^{chooser} \(?\w+\.{word}\b.*= (\w+)", text_of(f"crates/aml_world/specs/values/{file}.antt"), re.MULTILINE)
     if not found:
         raise Wrong(f"{chooser} has no clause for {word}")
     return found[1]
 
 
 def code_of_value(value):
-    """The function of crates/aml_meaning/src whose contract has this definition of an operator's value."""
+    """The function of crates/aml_world/src whose contract has this definition of an operator's value."""
     form = r"^ *(?:pub(?:\(crate\))? )?fn (\w+)[^\n]*\n?(.*?)^ *\{$"
     for file in OPERATIONS:
-        for name, contract in re.findall(form, text_of(f"crates/aml_meaning/src/{file}.rt"), re.MULTILINE | re.DOTALL):
-            if re.search(rf"\b{value}\b", contract):
+        for name, contract in re.findall(form, text_of(f"crates/aml_world/src/{file}.rt"), re.MULTILINE | re.DOTALL):
+            if re.search(rf"\b(?:{value}|{CHOOSER_OF.get(value)})\b", contract):
                 return name
-    raise Wrong(f"no function of {' or '.join(OPERATIONS)} in crates/aml_meaning/src has {value} in its contract")
+    raise Wrong(f"no function of {' or '.join(OPERATIONS)} in crates/aml_world/src has {value} in its contract")
 
 
 def files_by_name(files, form):
@@ -247,13 +246,13 @@ def code_of(name, function, kind, sources):
 
 def grammar_tests():
     """Each opcode that a row reads and refuses, with its file."""
-    return files_by_name("crates/name_rows/data/*.rows", r"^row the opcode (\w+), read and refused$")
+    return files_by_name("crates/test_names/data/*.rows", r"^row the opcode (\w+), read and refused$")
 
 
 def told_lines():
     """The lines of evaluation rows that are in words: names of rows, and remarks."""
     return {os.path.basename(file)[:-5]: [it for it in text_of(file).splitlines() if it.startswith(("row", "#"))]
-            for file in files_in("crates/evaluation_rows/data/*.rows")}
+            for file in files_in("crates/test_evaluation/data/*.rows")}
 
 
 def evaluation_test(name, lines):
@@ -310,6 +309,12 @@ def listed(text):
     return [(file, name) for file, _, names in (it.strip().partition(": ") for it in text.split("; ")) for name in names.split()]
 
 
+def folder_and_file(file):
+    """The folder of a file of definitions: of the rules, or a folder of the world's."""
+    world = files_in(f"crates/aml_world/specs/*/{file}.antt")
+    return os.path.dirname(world[0]) if world else "crates/aml_meaning/specs", file
+
+
 def check_code(what, file, name, functions):
     """Refuses a function that isn't in its file."""
     crate, _, stem = file.rpartition("/")
@@ -321,7 +326,7 @@ def check_code(what, file, name, functions):
 def row_without_opcode(what, definitions, code, functions):
     """The row of what has no opcode. Each definition and each function has to be there."""
     for file, name in listed(definitions):
-        pages.definition("crates/aml_meaning/specs", file, name)
+        pages.definition(*folder_and_file(file), name)
     for file, name in listed(code):
         check_code(what, file, name, functions)
     return f"| {what} | {in_files(listed(definitions))} | {in_files(listed(code))} |\n"
@@ -337,14 +342,14 @@ def head(rows):
 
 def crate_line(crate):
     """The files of a crate of evaluation."""
-    files = (os.path.basename(it)[:-3] for it in files_in(f"crates/{crate}/src/*.rt"))
+    files = (os.path.basename(it)[:-3] for it in files_in(f"crates/{crate}/src/**/*.rt"))
     return f"- `{crate}`: " + ", ".join(f"`{it}`" for it in files if it != "lib")
 
 
 def page(rows):
-    sources = {"kinds": kinds(), "targets": target_kinds(), "steps": steps.Sources(), "tests": grammar_tests(), "lines": told_lines()}
+    sources = {"kinds": rule_kinds(rows), "targets": target_kinds(), "steps": steps.Sources(), "tests": grammar_tests(), "lines": told_lines()}
     check_names(rows, sources)
-    check_kinds(rows, sources["kinds"], sources["targets"])
+    check_targets(rows, sources["targets"])
     without = (row_without_opcode(*it, sources["steps"].functions) for it in WITHOUT_OPCODE)
     return head(rows) + "\n".join(page_row(it, sources) for it in rows) + "\n" + TAIL + "".join(without)
 

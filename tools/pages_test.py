@@ -15,7 +15,7 @@ from pages import TOP, text_of
 
 RESOURCES, REPORT = "crates/acpi_resources", "crates/route_report"
 OPCODES, GRAMMAR = "tables/opcodes.txt", "crates/aml_grammar"
-EVALUATION = "crates/evaluation_rows/data"
+EVALUATION = "crates/test_evaluation/data"
 
 
 def row_of(name):
@@ -26,12 +26,12 @@ def row_of(name):
 ADD, CONCAT = row_of("Add"), row_of("Concat")
 # What is tried of the row of Add: what it has, what stands in its place, and what the answer says behind the line's number.
 OF_A_ROW = [
-    ("Add ", "Sum ", "Sum is unknown"),
+    ("Add ", "Sum ", "BinaryOperator has no Sum"),
     ("Target ", "Targett", "Targett is no kind of operand"),
     ("Expression", "Expressive", "Expressive is no class"),
     ("Target", "Target " * 5, "7 operands"),
     ("72", "7G", "7G is no code"),
-    ("integer_operator.Add", "integer_operator.Sub", "Add has the kind integer_operator.Sub"),
+    ("integer_operator.Add", "integer_operator.Sub", "BinaryOperator has no Sub"),
     ("20.2.5.4", "20.2.5.5", "20.2.5.5 is no section"),
     ("20.2.5.4", "19.6.4", "19.6.4 is no section"),
     ("20.2.5.4 ", "", "integer_operator.Add is no section"),
@@ -125,7 +125,7 @@ CASES = {
         ("docs/WORDS.md", "`route_solve/src/ways.rt`", "`route_solve/src/rows.rt`", "doesn't have the word way"),
     ],
     "tools/row_counts.py": [
-        ("crates/spoilt_rows/stdout", "1 rows passed", "2 rows passed", "its data has 3 rows, and its stdout has 4"),
+        ("crates/test_spoilt_rows/stdout", "1 rows passed", "2 rows passed", "its data has 3 rows, and its stdout has 4"),
     ],
     "tools/asl_rows.py names.rows": [
         (f"{EVALUATION}/operators.rows", "Return(NOr(0xC, 0xA))", "joint denial", "no row of evaluation has the ASL of Nor"),

@@ -149,7 +149,7 @@ def code_of(file, name):
     """The function whose contract has a definition, in its crate or in the one that forms the lines; none where it is a type."""
     found = None
     for crate in (file.split("/")[0], "acpi_configure"):
-        for source in files_in(f"crates/{crate}/src/*.rt") if not found else []:
+        for source in files_in(f"crates/{crate}/src/**/*.rt") if not found else []:
             for name_there, contract in functions(text_of(source)):
                 if os.path.basename(source) != "laws.rt" and re.search(rf"\bensures\b(?:(?!\bensures\b|\brequires\b).)*\b{name}\b", contract, re.DOTALL):
                     found = f"`{crate}/src/{os.path.basename(source)}`: `{name_there}`"

@@ -31,7 +31,7 @@ class Sources:
 
     def __init__(self):
         self.functions, self.steps = {}, {}
-        for path in (it for crate in CRATES for it in files_in(f"crates/{crate}/src/*.rt")):
+        for path in (it for crate in CRATES for it in files_in(f"crates/{crate}/src/**/*.rt")):
             file = os.path.basename(path)[:-3]
             for _, name, head, body in FUNCTION.findall(text_of(path)):
                 self.functions[file, name] = body

@@ -1,5 +1,5 @@
 #!/usr/bin/env bash
-# try_rows.sh NAME: runs the rows of the program crates/NAME, such as program_rows, before any proof, in a minute or two.
+# try_rows.sh NAME: runs the rows of the program crates/NAME, such as test_program, before any proof, in a minute or two.
 set -euo pipefail
 case ${1-} in
 -h | --help) sed -n 's/^# //p' "$0"; exit ;;

@@ -520,7 +520,7 @@ static void judge_wired_pins(void) {
         {19, 0, 1, 0, 0, 1, 1, 0, 1}, {21, 0, 1, 0, 0, 1, 1, 0, 1}, {17, 2, 1, 128, 0, 1, 1, 1, 1}, {18, 0, 1, 0, 0, 1, 1, 0, 1},
         {16, 0, 1, 0, 0, 0, 0, 1, 1}, {5, 0, 1, 0, 1, 1, 1, 1, 0},  {22, 0, 1, 0, 0, 1, 1, 0, 1},
     };
-    struct question it = over("pins", NULL, "", example("../crates/program_rows/data/kernel.txt"));
+    struct question it = over("pins", NULL, "", example("../crates/test_program/data/kernel.txt"));
     it.settings.dry = 1;
     record_length = 0;
     judge_pins(&it, (struct routing){0, pins, sizeof pins / sizeof *pins, {20, 1, 0, 1}, ""});

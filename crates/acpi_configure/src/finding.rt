@@ -13,11 +13,10 @@ ghost use Rattle.acpi_configure.specs.WithOptions.{narrowed, found_by};
 
 use crate::options::Options;
 use crate::other_lines::barred;
-use crate::others::ask_others;
+use crate::others::{AskedDevice, ask_others};
 use acpi_links::{Gathered, avoid_more, gather};
 use acpi_machine::Machine;
 use ar_space::{Result, Space};
-use route_report::AfterLine;
 use std::alloc::Global;
 use std::marker::Model;
 
@@ -25,7 +24,7 @@ use std::marker::Model;
 #[derive(Drop)]
 pub(crate) struct Found {
     /// The devices that were asked, with what each of them said.
-    pub asked: Vec<AfterLine>,
+    pub asked: Vec<AskedDevice>,
     /// What gathering found, with the problem that is left.
     pub gathered: Gathered,
 }
@@ -66,7 +65,7 @@ fn narrow(
     alloc: Global,
     options: &Options<'_>,
     sci: Option<u32>,
-    asked: &[AfterLine],
+    asked: &[AskedDevice],
     first: Gathered,
 ) -> Result<Gathered>
     requires sources { length first.pins + length (option_to_list sci) ≤ 4096 }
@@ -92,7 +91,7 @@ fn spare_all(
     alloc: Global,
     avoid: &[u32],
     sci: Option<u32>,
-    asked: &[AfterLine],
+    asked: &[AskedDevice],
     first: Gathered,
 ) -> Result<Gathered>
     requires sources { length first.pins + length (option_to_list sci) ≤ 4096 }

@@ -6,10 +6,11 @@ ghost use Rattle.route_report.specs.Reports.{after_state};
 ghost use Rattle.acpi_configure.specs.Others.{numbers_at, numbers_in, barred_if, spared_device, spared_line};
 ghost use Rattle.acpi_configure.specs.Others.{unread_line, rule_if, all_options, options_if};
 
+use crate::others::AskedDevice;
 use acpi_links::set_of;
 use aml_path::Path;
 use ar_space::Result;
-use route_report::{After, AfterLine, OptionLines, Rule, SparedLine, UnreadLine};
+use route_report::{After, OptionLines, Rule, SparedLine, UnreadLine};
 use std::alloc::{AllocError, Global};
 
 /// The interrupts that a device has.
@@ -23,7 +24,7 @@ fn numbers_at(state: &After) -> &[u32]
 }
 
 /// Some interrupts, and those of all devices that were asked.
-fn with_numbers(alloc: Global, avoid: &[u32], asked: &[AfterLine]) -> Result<Vec<u32>, AllocError>
+fn with_numbers(alloc: Global, avoid: &[u32], asked: &[AskedDevice]) -> Result<Vec<u32>, AllocError>
     ensures { IfOk result (λ list. list.items ≡ avoid.now ++ numbers_in asked.now) }
 {
     let mut list = Vec::from_slice(alloc, avoid)?;
@@ -38,7 +39,7 @@ fn with_numbers(alloc: Global, avoid: &[u32], asked: &[AfterLine]) -> Result<Vec
 pub(crate) fn barred(
     alloc: Global,
     avoid: &[u32],
-    asked: &[AfterLine],
+    asked: &[AskedDevice],
 ) -> Result<Vec<u32>, AllocError>
     ensures { IfOk result (λ list. list.items ≡ barred_if true avoid.now asked.now) }
 {
@@ -47,7 +48,7 @@ pub(crate) fn barred(
 }
 
 /// The line of a device that has interrupts.
-fn spared_line(alloc: Global, line: &AfterLine) -> Result<Option<SparedLine>>
+fn spared_line(alloc: Global, line: &AskedDevice) -> Result<Option<SparedLine>>
     ensures { Answers result (Ok (spared_line line.now)) }
 {
     let numbers = numbers_at(&line.state);
@@ -68,7 +69,7 @@ fn spared_device(alloc: Global, device: &Path, numbers: &[u32]) -> Result<Option
 }
 
 /// The lines of the devices that have interrupts.
-fn spared_lines(alloc: Global, asked: &[AfterLine]) -> Result<Vec<SparedLine>>
+fn spared_lines(alloc: Global, asked: &[AskedDevice]) -> Result<Vec<SparedLine>>
     ensures { Answers (seen (λ list. list.items) result) (Ok (filter_map spared_line asked.now)) }
 {
     let mut list = Vec::new(alloc);
@@ -81,7 +82,7 @@ fn spared_lines(alloc: Global, asked: &[AfterLine]) -> Result<Vec<SparedLine>>
 }
 
 /// The line of a device that refused.
-fn unread_line(alloc: Global, line: &AfterLine) -> Result<Option<UnreadLine>>
+fn unread_line(alloc: Global, line: &AskedDevice) -> Result<Option<UnreadLine>>
     ensures { Answers result (Ok (unread_line line.now)) }
 {
     match &line.state {
@@ -94,7 +95,7 @@ fn unread_line(alloc: Global, line: &AfterLine) -> Result<Option<UnreadLine>>
 }
 
 /// The lines of the devices that refused.
-fn unread_lines(alloc: Global, asked: &[AfterLine]) -> Result<Vec<UnreadLine>>
+fn unread_lines(alloc: Global, asked: &[AskedDevice]) -> Result<Vec<UnreadLine>>
     ensures { Answers (seen (λ list. list.items) result) (Ok (filter_map unread_line asked.now)) }
 {
     let mut list = Vec::new(alloc);
@@ -115,7 +116,7 @@ fn rule_if(spread: bool) -> Rule
     }
 }
 
-fn all_options(alloc: Global, spread: bool, asked: &[AfterLine]) -> Result<OptionLines>
+fn all_options(alloc: Global, spread: bool, asked: &[AskedDevice]) -> Result<OptionLines>
     ensures { Answers result (Ok (all_options spread asked.now)) }
 {
     let spared = spared_lines(alloc, asked)?;
@@ -134,7 +135,7 @@ pub(crate) fn option_lines(
     alloc: Global,
     spare: bool,
     spread: bool,
-    asked: &[AfterLine],
+    asked: &[AskedDevice],
 ) -> Result<Option<OptionLines>>
     ensures { Answers result (Ok (options_if spare spread asked.now)) }
 {

@@ -18,6 +18,10 @@ use ar_space::{Result, Space};
 use route_report::{After, AfterLine};
 use std::alloc::Global;
 
+/// A device that was asked: its path, and the interrupts of its `_CRS`, or the number of the refusal. What a link is
+/// set to after the choice has the same form.
+pub(crate) type AskedDevice = AfterLine;
+
 /// What the devices have that are none of some links, in path order: each that has a `_CRS` and is present is asked
 /// for it. None is asked where no device is spared.
 #[tactic(auto, unfolding(crate::specs::Others::others_asked))]
@@ -26,7 +30,7 @@ pub(crate) fn ask_others<S: Space>(
     machine: &mut Machine<S>,
     spare: bool,
     links: &[PresentLink],
-) -> Result<Vec<AfterLine>>
+) -> Result<Vec<AskedDevice>>
     ensures value { Does (seen (λ list. list.items) result) machine.new
         (others_asked S.accesses spare links.now) machine.old }
     ensures evaluated { StopsInOthers S.accesses spare links.now machine.old machine.new }
@@ -43,7 +47,7 @@ fn ask_devices_beside<S: Space>(
     alloc: Global,
     machine: &mut Machine<S>,
     links: &[PresentLink],
-) -> Result<Vec<AfterLine>>
+) -> Result<Vec<AskedDevice>>
     ensures value { Does (seen (λ list. list.items) result) machine.new
         (devices_asked S.accesses (other_devices links.now machine.old)) machine.old }
     ensures evaluated { StopsInDevices S.accesses (other_devices links.now machine.old) machine.old machine.new }
@@ -90,7 +94,7 @@ fn ask_devices<S: Space>(
     alloc: Global,
     machine: &mut Machine<S>,
     devices: &[Path],
-) -> Result<Vec<AfterLine>>
+) -> Result<Vec<AskedDevice>>
     ensures value { Does (seen (λ list. list.items) result) machine.new
         (devices_asked S.accesses devices.now) machine.old }
     ensures evaluated { StopsInDevices S.accesses devices.now machine.old machine.new }
@@ -105,7 +109,11 @@ fn ask_devices<S: Space>(
 
 /// What a device has: a refusal is told, but for want of memory.
 #[tactic(auto, using(ar_space::proofs::Changes::changing), unfolding(crate::specs::Others::device_asked))]
-fn ask_device<S: Space>(alloc: Global, machine: &mut Machine<S>, device: &Path) -> Result<AfterLine>
+fn ask_device<S: Space>(
+    alloc: Global,
+    machine: &mut Machine<S>,
+    device: &Path,
+) -> Result<AskedDevice>
     ensures value { Does result machine.new (device_asked S.accesses device.now) machine.old }
     ensures evaluated { StopsInDevice S.accesses device.now machine.old machine.new }
 {

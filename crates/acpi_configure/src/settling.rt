@@ -28,7 +28,7 @@ pub(crate) type Settings = (Vec<SetLine>, Vec<AfterLine>);
 /// Sets each of some links to the interrupt that it is given, and then reads what each is set to; neither where no
 /// link is to be set. Only want of memory refuses it: any other refusal is told in the line of its link, and the next
 /// link follows.
-#[tactic(auto, using(ar_space::proofs::Changes::changing, acpi_machine::proofs::Stopping::making), unfolding(crate::specs::Settling::settled_unless))]
+#[tactic(auto, using(acpi_machine::proofs::Stopping::evaluating), unfolding(crate::specs::Settling::settled_unless))]
 pub(crate) fn settle_unless<S: Space>(
     alloc: Global,
     machine: &mut Machine<S>,

@@ -8,17 +8,18 @@ use Rattle.ar_space.specs.declared.refusal.Refusal.{Refusal}
 use Rattle.ar_space.specs.declared.refusal.Refusal.TheVariants as refusal
 use Rattle.ar_space.specs.declared.refusal.MachineFault.TheVariants.{Spent}
 use Rattle.aml_path.specs.declared.segment.Seg.{Seg}
-use Rattle.aml_meaning.specs.State.{State}
-use Rattle.aml_meaning.specs.Passing.{is_wide, passed_over}
+use Rattle.aml_world.specs.state.State.{State}
+use Rattle.aml_world.specs.state.Profiles.{is_wide}
+use Rattle.aml_world.specs.state.Noting.{passed_over}
 use Rattle.acpi_machine.specs.MachineStates.{MachineState}
 use Rattle.ar_tables.specs.declared.mode.Mode.{Mode}
-use Rattle.aml_meaning.specs.Given.{Given}
+use Rattle.aml_world.specs.state.Given.{Given}
 use Rattle.std.specs.FinMap.{contains_key}
-use Rattle.aml_meaning.specs.Calling.{answered}
+use Rattle.aml_world.specs.state.Given as given
 use Rattle.acpi_machine.specs.Calls.{on_world, unless_spent, object_answered, evaluated_object, object_called, refused_call, call_done, call_passing, called_where_it_stands, initial_calls, started, initialized, mode_number}
 use Rattle.acpi_machine.proofs.Passing.{call_answered, call_refused}
 use Rattle.acpi_explain.specs.Stages.{InitialPaths, in_mode}
-use Rattle.aml_meaning.specs.Given as given
+use Rattle.aml_meaning.specs.Calling.{answered}
 use Rattle.acpi_explain.specs.Refused.{TellsRefused}
 use Rattle.acpi_explain.specs.Stages.{IsCall, IsCallRefused}
 use Rattle.acpi_explain.proofs.Halted.{refused_by, answered_by}

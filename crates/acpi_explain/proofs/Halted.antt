@@ -7,8 +7,8 @@ use Rattle.ar_space.specs.Outcome.{Outcome, Answers, seen}
 use Rattle.ar_space.specs.declared.refusal.Refusal.{Refusal}
 use Rattle.ar_space.specs.declared.refusal.Refusal.TheVariants.{OutOfMemory}
 use Rattle.aml_path.specs.declared.segment.Seg.{Seg}
-use Rattle.aml_meaning.specs.Given.{Given, given_of}
-use Rattle.aml_meaning.specs.declared.datum.Datum.{Datum}
+use Rattle.aml_world.specs.state.Given.{Given, given_of}
+use Rattle.aml_world.specs.declared.state.datum.Datum.{Datum}
 use Rattle.acpi_machine.specs.Calls.{evaluated_object}
 use Rattle.acpi_machine.specs.MachineStates.{MachineState}
 use Rattle.acpi_explain.specs.Refused.{TellsRefused, is_memory}

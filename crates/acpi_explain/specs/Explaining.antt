@@ -8,8 +8,8 @@ use Rattle.aml_path.specs.Text.{text_of}
 use Rattle.watched_space.specs.declared.last_access.Accessed.{Accessed}
 use Rattle.watched_space.specs.declared.last_access.Direction.{Direction}
 use Rattle.watched_space.specs.declared.last_access.Direction.TheVariants.{Read, Write}
-use Rattle.acpiroute_words.specs.ErrorLines.{refusal_words}
-use Rattle.acpiroute_words.specs.Hexadecimal.{hexadecimal}
+use Rattle.acpiroute_shell.specs.ErrorLines.{refusal_words}
+use Rattle.acpiroute_shell.specs.Hexadecimal.{hexadecimal}
 use Rattle.acpi_explain.specs.declared.explanation.Explanation.{Explanation}
 use Rattle.acpi_explain.specs.declared.stage.Stage.{Stage}
 use Rattle.acpi_explain.specs.declared.stage.Stage.TheVariants.{Loading, Calling, RoutingTable, Reading, Setting, ReadingAgain, Gathering}

@@ -9,10 +9,10 @@ use Rattle.ar_space.specs.declared.refusal.RoutingFault.TheVariants.{Avoided, Mi
 use Rattle.ar_tables.specs.declared.mode.Mode.{Mode}
 use Rattle.ar_tables.specs.declared.tables.Tables.{Tables}
 use Rattle.aml_path.specs.declared.segment.Seg.{Seg}
-use Rattle.aml_meaning.specs.declared.settings.EvaluationSettings.{EvaluationSettings}
-use Rattle.aml_meaning.specs.Given as given
-use Rattle.aml_meaning.specs.Predefined.{fresh_as, predefined}
-use Rattle.aml_meaning.specs.State.{State}
+use Rattle.aml_world.specs.declared.state.settings.EvaluationSettings.{EvaluationSettings}
+use Rattle.aml_world.specs.state.Given as given
+use Rattle.aml_world.specs.state.Predefined.{fresh_as, predefined}
+use Rattle.aml_world.specs.state.State.{State}
 use Rattle.acpi_machine.specs.Calls.{called_where_it_stands, evaluated_object, initialized, mode_number}
 use Rattle.acpi_machine.specs.FixedPaths.{at_root, below_root}
 use Rattle.acpi_machine.specs.Loading.{few_texts, loaded_tables, table_loaded}

@@ -1,8 +1,8 @@
 //! Which call of initializing is refused: they are made once more, until one is.
 ghost use Rattle.std.specs.Prelude.{◌≡◌, [], ◌∷◌, IfOk, false, map, Ok};
 ghost use Rattle.ar_space.specs.Change.{Does};
-ghost use Rattle.aml_meaning.specs.Given.{given_of};
-ghost use Rattle.aml_meaning.specs.declared.datum.Datum.TheVariants as datum;
+ghost use Rattle.aml_world.specs.state.Given.{given_of};
+ghost use Rattle.aml_world.specs.declared.state.datum.Datum.TheVariants as datum;
 ghost use Rattle.acpi_machine.specs.Calls.{called_where_it_stands, mode_number};
 ghost use Rattle.acpi_machine.specs.FixedPaths.{at_root, below_root};
 ghost use Rattle.acpi_explain.specs.Stages.{IsCall};
@@ -10,8 +10,8 @@ ghost use Rattle.acpi_explain.specs.Stages.{IsCall};
 use crate::halt::is_refused;
 use acpi_machine::{Machine, Mode, mode_number};
 use acpi_prt::child_named;
-use aml_meaning::Datum;
 use aml_path::Path;
+use aml_world::Datum;
 use ar_space::{Result, Space};
 use std::alloc::{AllocError, Global};
 

@@ -1,12 +1,12 @@
 //! How a run of a machine ended.
 ghost use Rattle.std.specs.Prelude.{◌≡◌, map};
-ghost use Rattle.aml_meaning.specs.Given.{given_of};
+ghost use Rattle.aml_world.specs.state.Given.{given_of};
 ghost use Rattle.acpi_explain.specs.Ends.{IsRouteEnd, IsEvalEnd};
 
 use acpi_configure::{Options, configure_with};
 use acpi_machine::{Machine, Mode};
-use aml_meaning::Datum;
 use aml_path::Path;
+use aml_world::Datum;
 use ar_space::{Refusal, Space};
 use route_report::Report;
 use std::alloc::Global;

@@ -1,12 +1,12 @@
 //! Whether an evaluation is refused.
 ghost use Rattle.std.specs.Prelude.{IfOk, map};
-ghost use Rattle.aml_meaning.specs.Given.{given_of};
+ghost use Rattle.aml_world.specs.state.Given.{given_of};
 ghost use Rattle.acpi_explain.specs.Stages.{IsEvaluation};
 
 use crate::halt::is_refused;
 use acpi_machine::Machine;
-use aml_meaning::Datum;
 use aml_path::Path;
+use aml_world::Datum;
 use ar_space::Space;
 use std::alloc::{AllocError, Global};
 

@@ -8,7 +8,7 @@ use crate::help::Help;
 use crate::places::put_place;
 use crate::stage::Stage;
 use crate::trace_lines::{TraceText, in_line};
-use acpiroute_words::{put_number, put_path, refusal_words};
+use acpiroute_shell::{put_number, put_path, refusal_words};
 use aml_path::Path;
 use ar_space::Refusal;
 use std::alloc::{AllocError, Global};

@@ -8,8 +8,8 @@ use crate::help::help_for;
 use crate::stage::Stage;
 use crate::told::shown_access;
 use crate::trace_lines::trace_text;
-use acpiroute_words::Evaluation;
-use aml_meaning::Trace;
+use acpiroute_shell::Evaluation;
+use aml_world::Trace;
 use ar_space::Refusal;
 use std::alloc::{AllocError, Global};
 use std::fmt;
@@ -21,7 +21,7 @@ use watched_space::Accessed;
 /// ```
 /// if let Err(refusal) = machine.initialize(alloc, mode) {
 ///     let last = machine.space().last();
-///     let why = Explanation::new(alloc, refusal, None, last, machine.trace(), evaluation)?;
+///     let why = Explanation::new(alloc, refusal, None, last, machine.world().trace(), evaluation)?;
 ///     print!(rt; "{why}")?;
 /// }
 /// ```

@@ -1,7 +1,7 @@
 //! The name of each refusal, and what to do.
 ghost use Rattle.std.specs.Prelude.{◌≡◌};
 
-use aml_meaning::Profile;
+use aml_world::Profile;
 
 /// What is said of a refusal.
 #[derive(Clone, Copy, Debug)]

@@ -7,7 +7,7 @@ ghost use Rattle.acpi_explain.specs.LinkLines.{other_help, other_line, read_line
 
 use crate::explaining::put_help;
 use acpi_resources::InterruptNumbers;
-use acpiroute_words::{put_number, put_path};
+use acpiroute_shell::{put_number, put_path};
 use aml_path::Path;
 use std::alloc::{AllocError, Global};
 

@@ -19,7 +19,7 @@ use acpi_configure::{Choice, Options, choose_with};
 use acpi_links::{PresentLink, get_current_resources, set_current_resources};
 use acpi_machine::Machine;
 use acpi_resources::InterruptNumbers;
-use acpiroute_words::Evaluation;
+use acpiroute_shell::Evaluation;
 use aml_path::Path;
 use ar_space::{Refusal, Result, Space};
 use std::alloc::{AllocError, Global};
@@ -36,14 +36,8 @@ fn explained<S: Space>(
     ensures { IfOk result (λ text. IsExplainedBy S.accesses evaluation.steps stage refusal machine.now text.items) }
 {
     let last = machine.space().last();
-    let why = Explanation::new(
-        alloc,
-        refusal,
-        Some(stage),
-        last,
-        machine.trace(),
-        evaluation,
-    )?;
+    let trace = machine.world().trace();
+    let why = Explanation::new(alloc, refusal, Some(stage), last, trace, evaluation)?;
     Ok(why.text)
 }
 

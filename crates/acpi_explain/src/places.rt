@@ -3,7 +3,7 @@ ghost use Rattle.std.specs.Prelude.{◌≡◌, ◌++◌, OnOk};
 ghost use Rattle.ar_space.specs.declared.space.Place.TheVariants.{Pci};
 ghost use Rattle.acpi_explain.specs.Explaining.{number_behind, place_words};
 
-use acpiroute_words::put_hexadecimal;
+use acpiroute_shell::put_hexadecimal;
 use ar_space::Place;
 use std::alloc::AllocError;
 

@@ -6,8 +6,9 @@ ghost use Rattle.acpi_explain.specs.Stages.{IsTable};
 
 use crate::halt::is_refused;
 use acpi_machine::load_table;
-use aml_meaning::{EvaluationSettings, World};
+use aml_meaning::World;
 use aml_objects::Octets;
+use aml_world::EvaluationSettings;
 use ar_space::{MAX_TEXTS, Space};
 use ar_tables::{Table, Tables};
 use std::alloc::{AllocError, Global};

@@ -5,9 +5,9 @@ ghost use Rattle.acpi_explain.specs.Explaining.{line_of, IsInLine, AreTerms, Are
 
 use crate::explaining::put_table;
 use crate::stage::Stage;
-use acpiroute_words::{put_number, put_path};
-use aml_meaning::{Trace, TraceName, TracePlace};
+use acpiroute_shell::{put_number, put_path};
 use aml_scan::row_of;
+use aml_world::{Trace, TraceName, TracePlace};
 use std::alloc::{AllocError, Global};
 use std::io::Write;
 

@@ -8,7 +8,7 @@ use Rattle.ar_space.specs.Outcome.{Outcome, Answers}
 use Rattle.ar_space.specs.Change.{Does, settle, ◌>>=◌}
 use Rattle.ar_space.proofs.Changes.{does_ok, does_err, does_give, does_settle}
 use Rattle.aml_path.specs.declared.segment.Seg.{Seg}
-use Rattle.aml_meaning.specs.Given.{Given, Bytes}
+use Rattle.aml_world.specs.state.Given.{Given, Bytes}
 use Rattle.acpi_resources.specs.Records.{InterruptOffer}
 use Rattle.acpi_resources.specs.Settings.{setting_of}
 use Rattle.acpi_machine.specs.Buses.{prt}

@@ -3,7 +3,7 @@ use Rattle.std.specs.Prelude.{ℕ, List, Option, Some, None, Ok, Err}
 use Rattle.ar_space.specs.declared.refusal.Refusal.TheVariants as refusal
 use Rattle.ar_space.specs.declared.refusal.ValueFault.TheVariants.{WrongType}
 use Rattle.ar_space.specs.Outcome.{Outcome, ◌>>=◌}
-use Rattle.aml_meaning.specs.Given as given
+use Rattle.aml_world.specs.state.Given as given
 use Rattle.acpi_resources.specs.Current.{current_of}
 
 -- the bytes of a buffer; no other value is taken

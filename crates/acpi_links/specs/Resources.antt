@@ -8,12 +8,12 @@ use Rattle.ar_space.specs.Change.{Change, settle, ◌>>=◌}
 use Rattle.aml_path.specs.declared.segment.Seg.{Seg}
 use Rattle.aml_path.specs.Text.{text_of}
 use Rattle.acpi_resources.specs.Records.{InterruptOffer}
-use Rattle.aml_meaning.specs.declared.profile.Profile.{Profile}
-use Rattle.aml_meaning.specs.declared.profile.Profile.TheVariants.{Core, Wide}
+use Rattle.aml_world.specs.declared.state.profile.Profile.{Profile}
+use Rattle.aml_world.specs.declared.state.profile.Profile.TheVariants.{Core, Wide}
 use Rattle.acpi_resources.specs.declared.exclusives.Exclusives.{Exclusives}
 use Rattle.acpi_resources.specs.declared.exclusives.Exclusives.TheVariants.{Refused, Taken}
 use Rattle.acpi_resources.specs.Offers.{possible_as}
-use Rattle.aml_meaning.specs.Given.{Given}
+use Rattle.aml_world.specs.state.Given.{Given}
 use Rattle.acpi_machine.specs.Children.{child_evaluated}
 use Rattle.acpi_machine.specs.MachineStates.{MachineState}
 use Rattle.acpi_links.specs.Answered.{bytes_in, numbers_of}

@@ -4,7 +4,7 @@ use Rattle.std.specs.Option.{is_some}
 use Rattle.ar_space.specs.Accesses.{Accesses}
 use Rattle.ar_space.specs.Change.{Change, give, ◌>>=◌}
 use Rattle.aml_path.specs.declared.segment.Seg.{Seg}
-use Rattle.aml_meaning.specs.Given.{Bytes}
+use Rattle.aml_world.specs.state.Given.{Bytes}
 use Rattle.acpi_resources.specs.Records.{InterruptOffer}
 use Rattle.acpi_resources.specs.Settings.{setting_of}
 use Rattle.acpi_machine.specs.Children.{child_evaluated}

@@ -1,12 +1,12 @@
 //! What kind of value the objects of a device answer.
 ghost use Rattle.std.specs.Prelude.{option_map};
 ghost use Rattle.ar_space.specs.Outcome.{Answers, NotMemory};
-ghost use Rattle.aml_meaning.specs.Given.{given_of};
+ghost use Rattle.aml_world.specs.state.Given.{given_of};
 ghost use Rattle.acpi_links.specs.Answered.{bytes_in, numbers_in, numbers_of};
 
 use acpi_resources::{InterruptNumbers, current};
-use aml_meaning::Datum;
 use aml_objects::Octets;
+use aml_world::Datum;
 use ar_space::{Refusal, Result, ValueFault};
 use std::alloc::Global;
 

@@ -34,7 +34,7 @@ use std::alloc::Global;
 ///
 /// In the problem no link offers an interrupt that is avoided, and the System Control Interrupt is one more wired
 /// source. Sources that are wired to an avoided interrupt count as others do.
-#[tactic(auto, using(ar_space::proofs::Changes::changing, acpi_machine::proofs::Stopping::making), unfolding(crate::specs::Gatherings::gathered))]
+#[tactic(auto, using(acpi_machine::proofs::Stopping::evaluating), unfolding(crate::specs::Gatherings::gathered))]
 pub fn gather<S: Space>(alloc: Global, machine: &mut Machine<S>, avoid: &[u32]) -> Result<Gathered>
     ensures value { Does result machine.new (gathered S.accesses avoid.now) machine.old }
     ensures evaluated { StopsInGathering S.accesses avoid.now machine.old machine.new }

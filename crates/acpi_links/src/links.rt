@@ -145,7 +145,7 @@ fn link_asked<S: Space>(
     link_if(alloc, machine, avoid, present, link)
 }
 
-#[tactic(auto, using(ar_space::proofs::Changes::changing, acpi_machine::proofs::Stopping::making), unfolding(crate::specs::Links::link_if))]
+#[tactic(auto, using(acpi_machine::proofs::Stopping::evaluating), unfolding(crate::specs::Links::link_if))]
 fn link_if<S: Space>(
     alloc: Global,
     machine: &mut Machine<S>,

@@ -3,13 +3,13 @@ ghost use Rattle.std.specs.Prelude.{Ok, option_map};
 ghost use Rattle.ar_space.specs.Outcome.{Answers, NotMemory};
 ghost use Rattle.ar_space.specs.Change.{Does};
 ghost use Rattle.acpi_machine.specs.Stops.{AllOrNone};
-ghost use Rattle.aml_meaning.specs.Given.{given_of};
+ghost use Rattle.aml_world.specs.state.Given.{given_of};
 ghost use Rattle.acpi_links.specs.Presence.{presence_of, is_present};
 
 use crate::object_names::sta;
 use acpi_machine::Machine;
-use aml_meaning::Datum;
 use aml_path::Path;
+use aml_world::Datum;
 use ar_space::{Refusal, Result, Space, ValueFault};
 use std::alloc::Global;
 

@@ -6,7 +6,7 @@ ghost use Rattle.acpi_machine.specs.Stops.{AllOrNone};
 ghost use Rattle.ar_space.specs.declared.refusal.Refusal.TheVariants as refusals;
 ghost use Rattle.ar_space.specs.declared.refusal.RoutingFault.TheVariants as routing;
 ghost use Rattle.aml_path.specs.Text.{text_of};
-ghost use Rattle.aml_meaning.specs.Given.{given_of, Bytes};
+ghost use Rattle.aml_world.specs.state.Given.{given_of, Bytes};
 ghost use Rattle.acpi_resources.specs.Settings.{setting_of};
 ghost use Rattle.acpi_links.specs.Settings.{resources_set};
 ghost use Rattle.acpi_links.specs.Resources.{possible_resources, offered_bytes, exclusives_in, offer_in};
@@ -16,9 +16,9 @@ use crate::answers::{bytes_in, numbers_of};
 use crate::object_names::{crs, prs, srs};
 use acpi_machine::{Machine, Profile};
 use acpi_resources::{Exclusives, InterruptNumbers, Offer, possible_as, setting};
-use aml_meaning::Datum;
 use aml_objects::Octets;
 use aml_path::Path;
+use aml_world::Datum;
 use ar_space::{PathText, Refusal, Result, RoutingFault, Space};
 use std::alloc::Global;
 
@@ -74,7 +74,7 @@ fn exclusives_in(profile: Profile) -> Exclusives
 fn offer_in<S: Space>(alloc: Global, machine: &Machine<S>, bytes: &[u8]) -> Result<Offer>
     ensures { Does result machine.now (offer_in bytes.now) machine.now }
 {
-    possible_as(alloc, exclusives_in(machine.profile()), bytes)
+    possible_as(alloc, exclusives_in(machine.world().profile()), bytes)
 }
 
 /// What a link device is set to, by the buffer that its `_CRS` answers (ACPI 6.5, 6.2.2): none where it has no `_CRS`.

@@ -6,7 +6,7 @@ use Rattle.ar_space.specs.Accesses.{Accesses}
 use Rattle.ar_space.specs.Outcome.{Outcome, Answers, seen}
 use Rattle.ar_space.specs.Change.{Change, Does}
 use Rattle.aml_path.specs.declared.segment.Seg.{Seg}
-use Rattle.aml_meaning.specs.Given.{Given}
+use Rattle.aml_world.specs.state.Given.{Given}
 use Rattle.acpi_machine.specs.Children.{answer_if_any, child_evaluated}
 use Rattle.acpi_machine.specs.MachineStates.{MachineState}
 use Rattle.acpi_machine.specs.Stops.{AllOrNone}

@@ -10,11 +10,11 @@ use Rattle.ar_space.specs.Change.{Does}
 use Rattle.ar_space.specs.Outcome.{Outcome, seen}
 use Rattle.aml_path.specs.declared.segment.Seg.{Seg}
 use Rattle.aml_namespace.specs.Namespace.{Map}
-use Rattle.aml_meaning.specs.declared.pci_functions.Sought.{Sought}
-use Rattle.aml_meaning.specs.declared.pci_functions.Sought.TheVariants as sought
-use Rattle.aml_meaning.specs.Bridges.{with_scope, bridges_over, bridges_to, bridges_above}
-use Rattle.aml_meaning.specs.PciFunctions.{base_bus, has, is_bridge, fits, nearest_from, nearest}
-use Rattle.aml_meaning.specs.State.{State}
+use Rattle.aml_world.specs.declared.fields.pci_functions.Sought.{Sought}
+use Rattle.aml_world.specs.declared.fields.pci_functions.Sought.TheVariants as sought
+use Rattle.aml_world.specs.fields.Bridges.{with_scope, bridges_over, bridges_to, bridges_above}
+use Rattle.aml_world.specs.fields.PciFunctions.{base_bus, has, is_bridge, fits, nearest_from, nearest}
+use Rattle.aml_world.specs.state.State.{State}
 use Rattle.acpi_machine.specs.Buses.{is_itself, bridges_down_to}
 
 differs : (n m : ℕ) → n < m → (n == m) ≡ false

@@ -5,7 +5,7 @@ use Rattle.std.proofs.lemmas.List.{drop_all}
 use Rattle.ar_space.specs.Accesses.{Accesses}
 use Rattle.ar_space.specs.Change.{Change, Does, Same, give, settle, ◌>>=◌, ◌>>◌}
 use Rattle.ar_space.proofs.Changes.{same_ok, does_same}
-use Rattle.aml_meaning.specs.State.{State}
+use Rattle.aml_world.specs.state.State.{State}
 use Rattle.acpi_machine.specs.Loading.{table_loaded, each_loaded}
 
 module _ {S : Type 0} (accesses : Accesses S) where

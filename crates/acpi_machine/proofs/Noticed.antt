@@ -8,8 +8,8 @@ use Rattle.ar_space.specs.Change.{Change, Does, stop}
 use Rattle.ar_space.specs.declared.refusal.MachineFault.TheVariants.{Spent}
 use Rattle.ar_tables.specs.declared.tables.Tables.{Tables}
 use Rattle.aml_path.specs.declared.segment.Seg.{Seg}
-use Rattle.aml_meaning.specs.State.{State}
-use Rattle.aml_meaning.specs.Given.{Given}
+use Rattle.aml_world.specs.state.State.{State}
+use Rattle.aml_world.specs.state.Given.{Given}
 use Rattle.aml_meaning.specs.Calling.{answered, ending, with_steps}
 use Rattle.ar_tables.specs.declared.mode.Mode.{Mode}
 use Rattle.acpi_machine.specs.Calls.{on_world, object_answered, unless_spent}

@@ -8,9 +8,10 @@ use Rattle.ar_space.specs.declared.refusal.Refusal.TheVariants.{OutOfMemory}
 use Rattle.ar_tables.specs.declared.mode.Mode.{Mode}
 use Rattle.ar_tables.specs.declared.tables.Tables.{Tables}
 use Rattle.aml_path.specs.declared.segment.Seg.{Seg}
-use Rattle.aml_meaning.specs.declared.profile.Profile.{Profile}
-use Rattle.aml_meaning.specs.State.{State}
-use Rattle.aml_meaning.specs.Passing.{is_wide, passed_over}
+use Rattle.aml_world.specs.declared.state.profile.Profile.{Profile}
+use Rattle.aml_world.specs.state.State.{State}
+use Rattle.aml_world.specs.state.Profiles.{is_wide}
+use Rattle.aml_world.specs.state.Noting.{passed_over}
 use Rattle.acpi_machine.specs.Calls.{on_world, refused_call, call_passing}
 use Rattle.acpi_machine.specs.MachineStates.{MachineState}
 

@@ -6,8 +6,8 @@ use Rattle.aml_path.specs.declared.segment.Seg.{Seg}
 use Rattle.aml_objects.specs.declared.entry.NamedObject.{NamedObject}
 use Rattle.aml_objects.specs.Objects.{Objects}
 use Rattle.aml_namespace.specs.Namespace.{Namespace}
-use Rattle.aml_meaning.specs.State.{State, on_objects, on_names}
-use Rattle.aml_meaning.specs.Predefined.{takes, at_root, predefined_scopes, predefined_objects, predefined}
+use Rattle.aml_world.specs.state.State.{State, on_objects, on_names}
+use Rattle.aml_world.specs.state.Predefined.{takes, at_root, predefined_scopes, predefined_objects, predefined}
 
 -- the register space is as it was, and nothing is passed over
 record Keeps {S A : Type 0} (m : Change (State S) A) : Type 0 where

@@ -6,8 +6,9 @@ use Rattle.ar_space.specs.declared.refusal.Refusal.TheVariants as refusal
 use Rattle.ar_space.specs.Accesses.{Accesses}
 use Rattle.ar_space.specs.Outcome.{Outcome, Answers, seen}
 use Rattle.ar_space.specs.Change.{Change, Does, give, settle, go_on, ◌>>=◌}
+use Rattle.ar_space.proofs.Changes.{changing}
 use Rattle.aml_path.specs.declared.segment.Seg.{Seg}
-use Rattle.aml_meaning.specs.Given.{Given}
+use Rattle.aml_world.specs.state.Given.{Given}
 use Rattle.acpi_machine.specs.MachineStates.{MachineState}
 use Rattle.acpi_machine.specs.Calls.{evaluated_object}
 use Rattle.acpi_machine.specs.Stops.{AllOrNone, Made, Stop, StopsEach, StopsThen}
@@ -101,6 +102,9 @@ made_then_tested m x g i = made_before m (λ a. settle (x a) >>= (λ b. give (g 
 
 -- these close a chain in which one object is evaluated at most
 pub ruleset making = (none_made, all_made, made_asked, made_settled, made_after, made_given, made_then_settled, made_then_tested)
+
+-- and these its value too
+pub ruleset evaluating = (changing, making)
 
 pub stops_first : {S A : Type 0} {first : Change (MachineState S) A} {within : Stop S} {next : A → Stop S} {s t : MachineState S} → within s t → StopsThen first within next s t
 stops_first h = record { is = inl h }

@@ -7,8 +7,8 @@ use Rattle.ar_space.specs.Outcome.{Outcome, Answers}
 use Rattle.ar_space.specs.Change.{Does, settle, go_on, ◌>>=◌}
 use Rattle.ar_space.proofs.Changes.{settle_ok, does_ok}
 use Rattle.ar_tables.specs.declared.tables.Tables.{Tables}
-use Rattle.aml_meaning.specs.State.{State}
-use Rattle.aml_meaning.specs.Predefined.{predefined}
+use Rattle.aml_world.specs.state.State.{State}
+use Rattle.aml_world.specs.state.Predefined.{predefined}
 use Rattle.acpi_machine.specs.Loading.{few_texts, all_loaded, loaded_tables}
 use Rattle.acpi_machine.proofs.Spaces.{predefined_keeps, predefined_passes}
 

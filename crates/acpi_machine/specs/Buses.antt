@@ -7,15 +7,15 @@ use Rattle.ar_space.specs.Accesses.{Accesses}
 use Rattle.ar_space.specs.Outcome.{Outcome}
 use Rattle.ar_space.specs.Change.{Change, settle, ◌>>=◌}
 use Rattle.aml_path.specs.declared.segment.Seg.{Seg}
-use Rattle.aml_meaning.specs.declared.pci_functions.Sought.TheVariants as sought
-use Rattle.aml_meaning.specs.Bridges.{with_scope, bridges_over}
+use Rattle.aml_world.specs.declared.fields.pci_functions.Sought.TheVariants as sought
+use Rattle.aml_world.specs.fields.Bridges.{with_scope, bridges_over}
+use Rattle.aml_world.specs.fields.Fields.{inherited, bus_behind_all}
+use Rattle.aml_world.specs.fields.PciFunctions.{segment_group, base_bus, nearest, behind_asked}
+use Rattle.aml_world.specs.state.Run.{Run, lift}
+use Rattle.aml_world.specs.state.State.{State}
 use Rattle.aml_meaning.specs.Calling.{ending, with_steps}
 use Rattle.aml_meaning.specs.FieldCalls.{called_at}
-use Rattle.aml_meaning.specs.Fields.{inherited, bus_behind_all}
 use Rattle.aml_meaning.specs.Meaning.{meaning}
-use Rattle.aml_meaning.specs.PciFunctions.{segment_group, base_bus, nearest, behind_asked}
-use Rattle.aml_meaning.specs.Run.{Run, lift}
-use Rattle.aml_meaning.specs.State.{State}
 use Rattle.acpi_machine.specs.Calls.{on_world, unless_spent}
 use Rattle.acpi_machine.specs.MachineStates.{MachineState}
 use Rattle.acpi_machine.specs.declared.buses.PciBus.{PciBus}

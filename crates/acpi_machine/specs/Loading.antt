@@ -6,8 +6,8 @@ use Rattle.ar_space.specs.Accesses.{Accesses}
 use Rattle.ar_space.specs.Outcome.{Outcome}
 use Rattle.ar_space.specs.Change.{Change, give, settle, ◌>>◌}
 use Rattle.ar_tables.specs.declared.tables.Tables.{Tables}
-use Rattle.aml_meaning.specs.State.{State}
-use Rattle.aml_meaning.specs.Predefined.{predefined}
+use Rattle.aml_world.specs.state.State.{State}
+use Rattle.aml_world.specs.state.Predefined.{predefined}
 use Rattle.aml_meaning.specs.Calling.{loaded}
 
 -- `_OSI` knows at most 64 texts

@@ -3,7 +3,7 @@ use Rattle.std.specs.Prelude.{ℕ, Bool, true, false, refl, Option}
 use Rattle.std.specs.Coded.{Coded, code_by, coded×, coded_ℕ, coded_bool}
 use Rattle.ar_tables.specs.declared.tables.Tables.{Tables}
 use Rattle.ar_tables.specs.contracts.tables.Tables as tables_type
-use Rattle.aml_meaning.specs.State.{State, state_code}
+use Rattle.aml_world.specs.state.State.{State, state_code}
 use Rattle.ar_tables.specs.declared.mode.Mode.{Mode}
 use Rattle.ar_tables.specs.declared.mode.Mode.TheVariants.{Apic, Pic}
 use Rattle.ar_tables.specs.contracts.mode.Mode as mode_type

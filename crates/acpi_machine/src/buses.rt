@@ -3,8 +3,8 @@ ghost use Rattle.std.specs.Prelude.{◌≡◌, [], ◌∷◌, ◌++◌, Err, IfO
 ghost use Rattle.ar_space.specs.declared.refusal.Refusal.TheVariants.{OutOfMemory};
 ghost use Rattle.ar_space.specs.Change.{Does};
 ghost use Rattle.ar_space.specs.Outcome.{AnswersInPlace, seen};
+ghost use Rattle.aml_world.specs.fields.Fields.{bus_behind, bus_behind_all, inherited};
 ghost use Rattle.aml_meaning.specs.Calling.{ending, with_steps};
-ghost use Rattle.aml_meaning.specs.Fields.{bus_behind, bus_behind_all, inherited};
 ghost use Rattle.acpi_machine.specs.Stops.{Made};
 ghost use Rattle.acpi_machine.specs.Buses.{prt, is_itself, bridges_down_to, bus_numbered};
 ghost use Rattle.acpi_machine.specs.Buses.{address_part, bus_of_table, bus_answered, bus_found};
@@ -12,10 +12,9 @@ ghost use Rattle.acpi_machine.specs.Buses.{address_part, bus_of_table, bus_answe
 use crate::calls::SPENT;
 use crate::machine::Machine;
 use aml_evaluation::ask_integer;
-use aml_meaning::{
-    Running, Sought, World, WorldState, adr, base_bus, secondary_bus, segment_group,
-};
+use aml_meaning::{Running, World};
 use aml_path::{Path, Seg};
+use aml_world::{Sought, WorldState, adr, base_bus, secondary_bus, segment_group};
 use ar_space::{FieldFault, Refusal, Result, Space};
 use std::alloc::Global;
 use std::collections::VecDeque;
@@ -164,7 +163,7 @@ fn is_itself(nearest: Option<Path>, device: &Path) -> bool
 }
 
 /// What the nearest object of a name answers, from a device on upward; 0 where there is none.
-#[tactic(auto, using(aml_meaning::proofs::Runs::running), unfolding(aml_meaning::specs::Fields::inherited))]
+#[tactic(auto, using(aml_meaning::proofs::Runs::running), unfolding(aml_world::specs::fields::Fields::inherited))]
 fn inherited<S: Space>(run: &mut Running<S>, name: Seg, device: &Path) -> Result<u64>
     ensures { Does result run.new (inherited S.accesses (address_part S.accesses) name device.now) run.old }
 {
@@ -196,7 +195,7 @@ fn bus_behind_all<S: Space>(
 }
 
 /// The bus behind one bridge: its address is asked for, and its secondary bus is read.
-#[tactic(auto, using(aml_meaning::proofs::Runs::running, aml_meaning::proofs::Lifted::parts), unfolding(aml_meaning::specs::Fields::bus_behind))]
+#[tactic(auto, using(crate::proofs::Bridged::bridging), unfolding(aml_world::specs::fields::Fields::bus_behind))]
 fn bus_behind<S: Space>(run: &mut Running<S>, segment: u64, bus: u64, bridge: &Path) -> Result<u64>
     ensures { Does result run.new (bus_behind S.accesses (address_part S.accesses) segment bus bridge.now) run.old }
 {

@@ -6,8 +6,8 @@ ghost use Rattle.ar_space.specs.declared.refusal.Refusal.TheVariants as refusals
 ghost use Rattle.ar_space.specs.declared.refusal.MachineFault.TheVariants.{Spent};
 ghost use Rattle.ar_space.specs.Outcome.{Answers, seen};
 ghost use Rattle.ar_space.specs.Change.{Does, DoesInPlace};
-ghost use Rattle.aml_meaning.specs.Given.{given_of};
-ghost use Rattle.aml_meaning.specs.declared.datum.Datum.TheVariants as datum;
+ghost use Rattle.aml_world.specs.state.Given.{given_of};
+ghost use Rattle.aml_world.specs.declared.state.datum.Datum.TheVariants as datum;
 ghost use Rattle.acpi_machine.specs.FixedPaths.{at_root, below_root};
 ghost use Rattle.acpi_machine.specs.Noticing.{noticed, ran_out};
 ghost use Rattle.acpi_machine.specs.Stops.{Made};
@@ -19,9 +19,9 @@ use crate::loading::few_texts;
 use crate::machine::Machine;
 use crate::mode::mode_number;
 use aml_interp::answer;
-use aml_meaning::Datum;
 use aml_objects::Octets;
 use aml_path::{Path, Seg};
+use aml_world::Datum;
 use ar_space::{MachineFault, Refusal, Result, Space};
 use ar_tables::Mode;
 use std::alloc::Global;
@@ -198,7 +198,7 @@ impl<S: Space> Machine<S> {
     pub fn pass_call_over(&mut self, path: &Path, refusal: Refusal) -> Result<()>
         ensures { Does result self.new (refused_call path.now refusal) self.old }
     {
-        if self.profile().is_wide() {
+        if self.world.running.world.profile().is_wide() {
             self.world.running.world.pass_over(path, refusal)
         } else {
             Err(refusal)

@@ -3,13 +3,13 @@ ghost use Rattle.std.specs.Prelude.{◌≡◌, Ok, IfErr, map, option_map};
 ghost use Rattle.ar_space.specs.declared.refusal.Refusal.TheVariants.{OutOfMemory};
 ghost use Rattle.ar_space.specs.Outcome.{Answers, seen};
 ghost use Rattle.ar_space.specs.Change.{Does};
-ghost use Rattle.aml_meaning.specs.Given.{given_of};
+ghost use Rattle.aml_world.specs.state.Given.{given_of};
 ghost use Rattle.acpi_machine.specs.Stops.{AllOrNone};
 ghost use Rattle.acpi_machine.specs.Children.{stands, has_child, some_answer, answer_if_any, child_evaluated};
 
 use crate::machine::Machine;
-use aml_meaning::Datum;
 use aml_path::{Path, Seg};
+use aml_world::Datum;
 use ar_space::{Result, Space};
 use std::alloc::Global;
 
@@ -70,7 +70,7 @@ impl<S: Space> Machine<S> {
     }
 
     /// What the object at a path answers, which has to stand.
-    #[tactic(auto, using(ar_space::proofs::Changes::changing, crate::proofs::Stopping::making), unfolding(crate::specs::Children::some_answer))]
+    #[tactic(auto, using(crate::proofs::Stopping::evaluating), unfolding(crate::specs::Children::some_answer))]
     fn some_answer(
         &mut self,
         alloc: Global,

@@ -11,7 +11,9 @@ mod mode;
 mod named_tables;
 mod nodes;
 
-pub use aml_meaning::{EvaluationSettings, Nesting, Profile, Trace, TraceName, TracePlace};
+pub use aml_world::{
+    EvaluationSettings, Nesting, PassedOver, Profile, Trace, TraceName, TracePlace, WorldState,
+};
 pub use ar_tables::Mode;
 pub use buses::{PciBus, prt};
 pub use kind::Kind;

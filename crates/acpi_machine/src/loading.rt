@@ -3,15 +3,16 @@ ghost use Rattle.std.specs.Prelude.{◌≡◌, ◌≢◌, Ok, Err, IfOk, IfErr};
 ghost use Rattle.ar_space.specs.declared.refusal.Refusal.TheVariants.{OutOfMemory};
 ghost use Rattle.ar_space.specs.Change.{Does};
 ghost use Rattle.ar_space.specs.Outcome.{AnswersInPlace};
-ghost use Rattle.aml_meaning.specs.Predefined.{fresh, fresh_as, predefined};
+ghost use Rattle.aml_world.specs.state.Predefined.{fresh, fresh_as, predefined};
 ghost use Rattle.aml_meaning.specs.Calling.{loaded};
 ghost use Rattle.acpi_machine.specs.MachineStates.{machine_of};
 ghost use Rattle.acpi_machine.specs.Loading.{few_texts, each_loaded, all_loaded, loaded_tables, table_loaded};
 
 use crate::machine::Machine;
 use aml_interp::load;
-use aml_meaning::{EvaluationSettings, PassedOver, Profile, Trace, World};
+use aml_meaning::World;
 use aml_objects::Octets;
+use aml_world::{EvaluationSettings, PassedOver, Profile, Trace};
 use ar_space::{EvaluationFault, MAX_TEXTS, Refusal, Result, Space};
 use ar_tables::{Mode, Table, Tables};
 use std::alloc::Global;
@@ -46,9 +47,9 @@ pub fn load_tables<S: Space>(
     load_tables_as(alloc, settings, tables, space, steps, osi)
 }
 
-/// As `load_tables`, with the AML evaluated by these settings, which nothing changes: in a profile, which
-/// `Machine::profile` shows and which also decides about exclusive offers and about a `_HID` that is a control method,
-/// and within a depth of calls and of terms. `EvaluationSettings::of(Profile::Wide)` are those of the wide profile.
+/// As `load_tables`, with the AML evaluated by these settings, which nothing changes: in a profile, which the world
+/// shows and which also decides about exclusive offers and about a `_HID` that is a control method, and within a depth
+/// of calls and of terms. `EvaluationSettings::of(Profile::Wide)` are those of the wide profile.
 pub fn load_tables_as<S: Space>(
     alloc: Global,
     settings: EvaluationSettings,
@@ -77,8 +78,8 @@ pub fn load_tables_as<S: Space>(
     }
 }
 
-/// As `load_tables_as`. Where a table is refused it also gives what `Machine::trace` would tell of it, and what was
-/// passed over before.
+/// As `load_tables_as`. Where a table is refused it also gives what the trace of `Machine::world` would tell of it, and
+/// what was passed over before.
 pub fn load_tables_traced<S: Space>(
     alloc: Global,
     settings: EvaluationSettings,
@@ -119,10 +120,19 @@ pub fn load_tables_traced<S: Space>(
             spent: false,
         }),
         Err(refusal) => {
-            let (space, trace, passed) = world.into_parts();
+            let (space, trace, passed) = parts_of(world);
             Err((refusal, space, trace, passed))
         }
     }
+}
+
+/// The register space of a world, given back, where the evaluation that was last begun was refused, and what was passed
+/// over.
+fn parts_of<S>(world: World<S>) -> (S, Trace, PassedOver)
+    ensures space { result.0 ≡ world.space }
+    ensures passed { result.2 ≡ world.passed }
+{
+    world.running.world.into_parts()
 }
 
 /// `_OSI` may know so many texts; more are refused as `ObjectLimit`.

@@ -3,7 +3,8 @@ ghost use Rattle.std.specs.Prelude.{◌≡◌, option_map};
 ghost use Rattle.acpi_machine.specs.MachineStates.{sci_of};
 
 use crate::mode::is_apic;
-use aml_meaning::{PassedOver, Profile, Trace, World};
+use aml_meaning::World;
+use aml_world::WorldState;
 use ar_space::Space;
 use ar_tables::{Fadt, Madt, Mode, Tables, sci_source};
 use std::marker::Model;
@@ -41,13 +42,6 @@ impl<S: Space> Machine<S> {
         self.mode
     }
 
-    /// The profile in which its AML is evaluated, which nothing changes.
-    pub fn profile(&self) -> Profile
-        ensures { result ≡ self.now.world.profile }
-    {
-        self.world.profile()
-    }
-
     /// The MADT, where there is one (ACPI 6.5, 5.2.12).
     pub fn madt(&self) -> Option<&Madt>
         ensures { option_map (λ madt. madt.now) result ≡ self.now.tables.madt }
@@ -80,40 +74,31 @@ impl<S: Space> Machine<S> {
         self.world.space()
     }
 
-    /// Where the call that evaluated last was refused: the control methods that were running, the name that was looked
-    /// for, and the steps that were left. Nothing of it where the call wasn't refused, or evaluated nothing.
-    ///
-    /// No contract says that this is the place: it is tested. Reading it changes nothing.
+    /// The world that its tables were loaded into, as it is: its `profile`, its register `space` with the accesses made
+    /// so far, the refusals that were `passed_over` in loading and in initializing, and the `trace` of the call that
+    /// evaluated last, if that was refused: the control methods that were running, the name that was looked for, and
+    /// the steps that were left. No contract says that this is the place of a refusal: it is tested.
     ///
     /// ```
     /// if let Err(refusal) = machine.evaluate_object(alloc, &path, Vec::new(alloc)) {
-    ///     for place in machine.trace().places() {
+    ///     for place in machine.world().trace().places() {
     ///         println!(rt; "{} at {}", path_text(alloc, &place.scope)?, place.at)?;
     ///     }
     /// }
-    /// ```
-    pub fn trace(&self) -> &Trace {
-        self.world.trace()
-    }
-
-    /// The refusals that were passed over in loading and in initializing, in their order; none in the core profile.
-    ///
-    /// ```
-    /// for item in machine.passed_over().kept() {
+    /// for item in machine.world().passed_over().kept() {
     ///     println!(rt; "{} in {}", item.refusal, path_text(alloc, &item.scope)?)?;
     /// }
     /// ```
-    pub fn passed_over(&self) -> &PassedOver
-        ensures { result.now ≡ self.now.world.passed }
+    pub fn world(&self) -> &WorldState<S>
+        ensures { result.now ≡ self.now.world }
     {
-        self.world.passed_over()
+        &self.world.running.world
     }
 
-    /// The register space, with the accesses made so far, what `trace` tells, and what was passed over, given back.
-    pub fn into_parts(self) -> (S, Trace, PassedOver)
-        ensures space { result.0 ≡ self.world.space }
-        ensures passed { result.2 ≡ self.world.passed }
+    /// Its world, given back.
+    pub fn into_world(self) -> WorldState<S>
+        ensures { result ≡ self.world }
     {
-        self.world.into_parts()
+        self.world.running.world
     }
 }

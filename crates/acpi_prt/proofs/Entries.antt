@@ -5,8 +5,8 @@ use Rattle.ar_space.specs.declared.refusal.RoutingTableFault.TheVariants.{BadEnt
 use Rattle.ar_space.specs.Accesses.{Accesses}
 use Rattle.ar_space.specs.Change.{Does}
 use Rattle.ar_space.proofs.Changes.{does_stop}
-use Rattle.aml_meaning.specs.declared.datum.Datum.{Datum}
-use Rattle.aml_meaning.specs.Given.{given_of}
+use Rattle.aml_world.specs.declared.state.datum.Datum.{Datum}
+use Rattle.aml_world.specs.state.Given.{given_of}
 use Rattle.acpi_machine.specs.MachineStates.{MachineState}
 use Rattle.acpi_prt.specs.RoutingTables.{pin_among}
 

@@ -5,9 +5,9 @@ use Rattle.ar_space.specs.declared.refusal.RoutingTableFault.TheVariants.{NotPac
 use Rattle.ar_space.specs.Outcome.{Outcome}
 use Rattle.std.proofs.Common.{ap}
 use mathlib.Core.Former.{Count}
-use Rattle.aml_meaning.specs.declared.datum.Datum as datum
-use Rattle.aml_meaning.specs.Given.{Given, Givens, none, more, given_of, row_of}
-use Rattle.aml_meaning.specs.Given as given
+use Rattle.aml_world.specs.declared.state.datum.Datum as datum
+use Rattle.aml_world.specs.state.Given.{Given, Givens, none, more, given_of, row_of}
+use Rattle.aml_world.specs.state.Given as given
 use Rattle.acpi_prt.specs.Entries.{device_number, entries_of, fits_word, pin_tested, list_of, no_index, source_tested, word_of, zero_source}
 
 pub row_items : (n : Count) (k : datum.Row_of-Datum n) → list_of (row_of k) ≡ map given_of (datum.items-the_row-Datum n k)

@@ -7,8 +7,8 @@ use Rattle.ar_space.specs.Outcome.{Answers}
 use Rattle.ar_space.specs.Change.{Does, give}
 use Rattle.ar_space.proofs.Changes.{does_ok, does_made, does_settle}
 use Rattle.aml_path.specs.declared.segment.Seg.{Seg}
-use Rattle.aml_meaning.specs.declared.datum.Datum.{Datum}
-use Rattle.aml_meaning.specs.Given.{Given, given_of}
+use Rattle.aml_world.specs.declared.state.datum.Datum.{Datum}
+use Rattle.aml_world.specs.state.Given.{Given, given_of}
 use Rattle.acpi_machine.specs.Buses.{prt}
 use Rattle.acpi_machine.specs.MachineStates.{MachineState}
 use Rattle.acpi_machine.specs.Calls.{evaluated_object}

@@ -6,8 +6,8 @@ use Rattle.ar_space.specs.declared.refusal.Refusal.{Refusal}
 use Rattle.ar_space.specs.Accesses.{Accesses}
 use Rattle.ar_space.specs.Outcome.{Outcome, Answers, seen}
 use Rattle.ar_space.specs.Change.{Change, Does, Same, give, ◌>>=◌}
-use Rattle.aml_meaning.specs.declared.datum.Datum.{Datum}
-use Rattle.aml_meaning.specs.Given.{given_of}
+use Rattle.aml_world.specs.declared.state.datum.Datum.{Datum}
+use Rattle.aml_world.specs.state.Given.{given_of}
 use Rattle.acpi_machine.specs.MachineStates.{MachineState}
 use Rattle.acpi_prt.specs.declared.pin.Pin.{Pin}
 use Rattle.acpi_prt.specs.Pins.{taken}

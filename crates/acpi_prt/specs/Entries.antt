@@ -3,8 +3,8 @@ use Rattle.std.specs.Prelude.{◌≡◌, map, refl, ℕ, ◌^◌, ◌/◌, ◌==
 use Rattle.ar_space.specs.declared.refusal.Refusal.TheVariants.{RoutingTable}
 use Rattle.ar_space.specs.declared.refusal.RoutingTableFault.TheVariants.{NotPackage, BadEntry, BadPin, SourceIndex}
 use Rattle.ar_space.specs.Outcome.{Outcome}
-use Rattle.aml_meaning.specs.Given.{Given, Givens, none, more, given_of, row_of}
-use Rattle.aml_meaning.specs.Given as given
+use Rattle.aml_world.specs.state.Given.{Given, Givens, none, more, given_of, row_of}
+use Rattle.aml_world.specs.state.Given as given
 
 abbrev pub list_of : Givens → List Given
 list_of none = []

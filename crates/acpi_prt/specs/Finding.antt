@@ -5,8 +5,8 @@ use Rattle.ar_space.specs.declared.refusal.RoutingTableFault.TheVariants.{NotALi
 use Rattle.ar_space.specs.Outcome.{Outcome, ◌>>=◌, ◌>>◌}
 use Rattle.aml_path.specs.declared.segment.Seg.{Seg}
 use Rattle.aml_namespace.specs.Namespace.{Map}
-use Rattle.aml_meaning.specs.declared.profile.Profile.{Profile}
-use Rattle.aml_meaning.specs.declared.profile.Profile.TheVariants.{Core, Wide}
+use Rattle.aml_world.specs.declared.state.profile.Profile.{Profile}
+use Rattle.aml_world.specs.declared.state.profile.Profile.TheVariants.{Core, Wide}
 use Rattle.acpi_machine.specs.Kinds.{Kind, kind_at}
 use Rattle.acpi_machine.specs.Kinds as kind
 

@@ -5,8 +5,8 @@ use Rattle.ar_space.specs.declared.refusal.RoutingTableFault.TheVariants.{BadEnt
 use Rattle.ar_space.specs.Accesses.{Accesses}
 use Rattle.ar_space.specs.Change.{Change, give, stop, settle, ◌>>=◌, ◌>>◌}
 use Rattle.aml_path.specs.declared.segment.Seg.{Seg}
-use Rattle.aml_meaning.specs.Given.{Given}
-use Rattle.aml_meaning.specs.Given as given
+use Rattle.aml_world.specs.state.Given.{Given}
+use Rattle.aml_world.specs.state.Given as given
 use Rattle.acpi_machine.specs.Buses.{prt}
 use Rattle.acpi_machine.specs.MachineStates.{MachineState}
 use Rattle.acpi_machine.specs.Calls.{evaluated_object}

@@ -1,11 +1,11 @@
 //! The parts of an entry of a routing table, and their tests (ACPI 6.5, table 6.15).
 ghost use Rattle.std.specs.Prelude.{◌≡◌, ◌<◌, ◌≤◌, ◌^◌, IfOk, Ok, map};
 ghost use Rattle.ar_space.specs.Outcome.{Answers, seen};
-ghost use Rattle.aml_meaning.specs.Given.{given_of};
+ghost use Rattle.aml_world.specs.state.Given.{given_of};
 ghost use Rattle.acpi_prt.specs.Entries.{word_of, fits_word, pin_tested, source_tested, no_index, device_number};
 ghost use Rattle.acpi_prt.specs.Entries.{entries_of};
 
-use aml_meaning::Datum;
+use aml_world::Datum;
 use ar_space::{Refusal, Result, RoutingTableFault};
 
 pub(crate) const NOT_PACKAGE: Refusal = Refusal::RoutingTable(RoutingTableFault::NotPackage);

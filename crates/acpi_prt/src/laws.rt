@@ -2,7 +2,7 @@
 ghost use Rattle.std.specs.Prelude.{◌≡◌, ◌↔◌, List, [], Ok, Contains};
 ghost use Rattle.ar_space.specs.Accesses.{Accesses};
 ghost use Rattle.aml_path.specs.declared.segment.Seg.{Seg};
-ghost use Rattle.aml_meaning.specs.Given.{Given};
+ghost use Rattle.aml_world.specs.state.Given.{Given};
 ghost use Rattle.acpi_machine.specs.MachineStates.{MachineState};
 ghost use Rattle.acpi_prt.specs.declared.pin.Pin.{Pin};
 ghost use Rattle.acpi_prt.specs.RoutingTables.{pins_from, routing_table};

@@ -3,15 +3,15 @@ ghost use Rattle.std.specs.Prelude.{◌≡◌, [], ◌∷◌, ◌++◌, Ok, opti
 ghost use Rattle.ar_space.specs.Outcome.{Answers};
 ghost use Rattle.ar_space.specs.Change.{Does};
 ghost use Rattle.acpi_machine.specs.Stops.{AllOrNone};
-ghost use Rattle.aml_meaning.specs.Given.{given_of};
+ghost use Rattle.aml_world.specs.state.Given.{given_of};
 ghost use Rattle.acpi_machine.specs.Kinds.{kind_seen};
 ghost use Rattle.acpi_prt.specs.Children.{child_named};
 ghost use Rattle.acpi_prt.specs.Finding.{followed, device_or_not, method_or_not, id_or_not};
 ghost use Rattle.acpi_prt.specs.Links.{device_at, id_at, is_link_id, link_id_or_not, link_at};
 
 use acpi_machine::{Kind, Machine, Profile};
-use aml_meaning::Datum;
 use aml_path::{Path, Seg};
+use aml_world::Datum;
 use ar_space::{Refusal, Result, RoutingTableFault, Space};
 use std::alloc::Global;
 
@@ -21,7 +21,7 @@ const NOT_A_LINK: Refusal = Refusal::RoutingTable(RoutingTableFault::NotALink);
 const LINK_EISA_ID: u64 = 0x0F0C_D041;
 
 /// The path of the link device that stands at a path, or that an alias there leads to; else `NotALink`.
-#[tactic(auto, using(ar_space::proofs::Changes::changing, acpi_machine::proofs::Stopping::making), unfolding(crate::specs::Links::link_at))]
+#[tactic(auto, using(acpi_machine::proofs::Stopping::evaluating), unfolding(crate::specs::Links::link_at))]
 pub(crate) fn link_at<S: Space>(
     alloc: Global,
     machine: &mut Machine<S>,
@@ -64,7 +64,7 @@ fn id_at<S: Space>(alloc: Global, machine: &Machine<S>, path: &Path) -> Result<P
     ensures { Does result machine.now (id_at path.now) machine.now }
 {
     let found = followed(alloc, machine, path)?;
-    id_or_not(machine.profile(), machine.find_node(&found))?;
+    id_or_not(machine.world().profile(), machine.find_node(&found))?;
     Ok(found)
 }
 

@@ -4,7 +4,7 @@ ghost use Rattle.ar_space.specs.Outcome.{Answers, seen};
 ghost use Rattle.ar_space.specs.Change.{Does};
 ghost use Rattle.acpi_machine.specs.Buses.{prt};
 ghost use Rattle.acpi_machine.specs.Stops.{AllOrNone};
-ghost use Rattle.aml_meaning.specs.Given.{given_of};
+ghost use Rattle.aml_world.specs.state.Given.{given_of};
 ghost use Rattle.acpi_prt.specs.Stops.{StopsInEntries, StopsInTable};
 ghost use Rattle.acpi_prt.specs.RoutingTables.{linked, route_of, pin_among, pin_with, pin_of, pins_from, routing_table};
 
@@ -15,8 +15,8 @@ use crate::first_pins::FirstPins;
 use crate::link::link_at;
 use crate::pin::{Pin, Route};
 use acpi_machine::{Machine, prt};
-use aml_meaning::Datum;
 use aml_path::Path;
+use aml_world::Datum;
 use ar_space::{Result, Space};
 use std::alloc::Global;
 
@@ -73,7 +73,7 @@ fn pins_from<S: Space>(
 }
 
 /// The pin of an entry; none of one that was left out.
-#[tactic(auto, using(ar_space::proofs::Changes::changing, acpi_machine::proofs::Stopping::making, crate::proofs::Rows::rows))]
+#[tactic(auto, using(acpi_machine::proofs::Stopping::evaluating, crate::proofs::Rows::rows))]
 fn pin_of<S: Space>(alloc: Global, machine: &mut Machine<S>, entry: &Datum) -> Result<Option<Pin>>
     ensures value { Does result machine.new (pin_of S.accesses (given_of entry.now)) machine.old }
     ensures evaluated { AllOrNone (pin_of S.accesses (given_of entry.now)) machine.old machine.new }
@@ -102,7 +102,7 @@ fn pin_among<S: Space>(
     pin_with(alloc, machine, address, pin, source, index)
 }
 
-#[tactic(auto, using(ar_space::proofs::Changes::changing, acpi_machine::proofs::Stopping::making), unfolding(crate::specs::RoutingTables::pin_with))]
+#[tactic(auto, using(acpi_machine::proofs::Stopping::evaluating), unfolding(crate::specs::RoutingTables::pin_with))]
 fn pin_with<S: Space>(
     alloc: Global,
     machine: &mut Machine<S>,
@@ -130,7 +130,7 @@ fn pin_with<S: Space>(
 }
 
 /// Where a source leads to with an index.
-#[tactic(auto, using(ar_space::proofs::Changes::changing, acpi_machine::proofs::Stopping::making))]
+#[tactic(auto, using(acpi_machine::proofs::Stopping::evaluating))]
 fn route_of<S: Space>(
     alloc: Global,
     machine: &mut Machine<S>,

@@ -2,7 +2,7 @@
 use Rattle.std.specs.Prelude.{◌≡◌, ◌⊎◌, ℕ, ◌==◌, nat_lt, Bool, true, false, List, [], ◌∷◌, ◌++◌, length, drop, All, codes, if◌then◌else◌}
 use Rattle.std.specs.List.{slice_split}
 use Rattle.std.specs.Str.{IsUtf8}
-use Rattle.acpiroute_words.specs.Deliveries.{Reply}
+use Rattle.acpiroute_shell.specs.Deliveries.{Reply}
 use Rattle.acpiroute_lib.specs.Runs.{IsReply}
 use Rattle.acpiroute_c.specs.declared.call_reply.CallReply.{CallReply}
 use Rattle.acpiroute_c.specs.declared.call_words.Unsaid.{Unsaid}

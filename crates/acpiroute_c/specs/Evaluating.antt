@@ -1,6 +1,6 @@
 -- What a call that evaluates an object comes to: the reply of an evaluation that ended, or the access that it wants.
 use Rattle.std.specs.Prelude.{◌⊎◌, ℕ, List, map}
-use Rattle.aml_meaning.specs.Given as given
+use Rattle.aml_world.specs.state.Given as given
 use Rattle.recorded_route.specs.declared.ending.Ending.{Ending}
 use Rattle.recorded_route.specs.Endings.{IsEvaluatedOver, NotOutOfMemory}
 use Rattle.acpiroute_lib.specs.EvalCommand.{value_written}

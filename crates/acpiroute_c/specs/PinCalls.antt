@@ -10,8 +10,8 @@ use Rattle.recorded_route.specs.declared.pins.Pin.{Pin}
 use Rattle.recorded_route.specs.declared.pins.RoutedInterrupt.{RoutedInterrupt}
 use Rattle.recorded_route.specs.Endings.{IsEndingOver, NotOutOfMemory}
 use Rattle.recorded_route.specs.Pins.{pins_of, routed_sci}
-use Rattle.acpiroute_words.specs.Deliveries.{Reply}
-use Rattle.acpiroute_words.specs.Written.{status_of}
+use Rattle.acpiroute_shell.specs.Deliveries.{Reply}
+use Rattle.acpiroute_shell.specs.Written.{status_of}
 use Rattle.acpiroute_lib.specs.RouteCommand.{completion_of}
 use Rattle.acpiroute_c.specs.declared.call_access.CallAccess.{CallAccess}
 use Rattle.acpiroute_c.specs.declared.call_access.CallWanted.{CallWanted}

@@ -3,15 +3,15 @@ use Rattle.std.specs.Prelude.{◌≡◌, ◌⊎◌, ℕ, ◌==◌, nat_lt, Bool,
 use Rattle.ar_space.specs.Outcome.{Outcome, Answers}
 use Rattle.ar_tables.specs.declared.mode.Mode.{Mode}
 use Rattle.ar_tables.specs.declared.mode.Mode.TheVariants.{Pic, Apic}
-use Rattle.aml_meaning.specs.declared.profile.Profile.{Profile}
-use Rattle.aml_meaning.specs.declared.profile.Profile.TheVariants.{Core, Wide}
-use Rattle.aml_meaning.specs.declared.settings.Nesting.{Nesting}
+use Rattle.aml_world.specs.declared.state.profile.Profile.{Profile}
+use Rattle.aml_world.specs.declared.state.profile.Profile.TheVariants.{Core, Wide}
+use Rattle.aml_world.specs.declared.state.settings.Nesting.{Nesting}
 use Rattle.recorded_space.specs.declared.exchange.Exchange.{Exchange}
 use Rattle.recorded_route.specs.declared.ending.Ending.{Ending}
 use Rattle.recorded_route.specs.declared.ending.Ending.TheVariants as ends
 use Rattle.recorded_route.specs.declared.settings.Settings.{Settings}
-use Rattle.acpiroute_words.specs.Deliveries.{Reply, reply_of, IsToldAs}
-use Rattle.acpiroute_words.specs.Written.{Written}
+use Rattle.acpiroute_shell.specs.Deliveries.{Reply, reply_of, IsToldAs}
+use Rattle.acpiroute_shell.specs.Written.{Written}
 use Rattle.acpiroute_c.specs.Accesses.{exchange_of, wanted_form, IsEntry}
 use Rattle.acpiroute_c.specs.Calls.{Filled, code_of, filled_by}
 use Rattle.acpiroute_c.specs.declared.call_access.CallAccess.{CallAccess}

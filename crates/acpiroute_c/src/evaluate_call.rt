@@ -1,6 +1,6 @@
 //! A call that evaluates an object: its value in the caller's buffers, or the access that is wanted.
 ghost use Rattle.std.specs.Prelude.{◌≡◌, IfOk, IfErr, map};
-ghost use Rattle.aml_meaning.specs.Given as given;
+ghost use Rattle.aml_world.specs.state.Given as given;
 ghost use Rattle.recorded_route.specs.Endings.{IsEvaluatedOver, NotOutOfMemory, seen_ending};
 ghost use Rattle.acpiroute_lib.specs.EvalCommand.{value_written};
 ghost use Rattle.acpiroute_c.specs.Sources.{described_by};
@@ -14,7 +14,7 @@ use crate::call_settings::{CallSettings, settings_of};
 use crate::record_call::{Said, code_of_unmade, reply_to};
 use crate::table_source::TableSource;
 use acpiroute_lib::value_answer;
-use aml_meaning::Datum;
+use aml_world::Datum;
 use recorded_route::{
     Ending, Exchange, Question, Settings, evaluate_recorded, evaluate_tables_recorded,
 };

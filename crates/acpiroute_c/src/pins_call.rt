@@ -1,9 +1,6 @@
 //! A call that configures a machine, where its pins are wanted and no text.
 ghost use Rattle.std.specs.Prelude.{◌≡◌, true, IfOk, IfErr};
-ghost use Rattle.std.specs.List.{list_any};
 ghost use Rattle.recorded_route.specs.declared.ending.Ending.TheVariants as ends;
-ghost use Rattle.acpiroute_words.specs.Written.{status_of};
-ghost use Rattle.acpiroute_lib.specs.RouteCommand.{is_refused, completion_of};
 ghost use Rattle.acpiroute_c.specs.RecordCalls.{IsMalformed};
 ghost use Rattle.acpiroute_c.specs.PinCalls.{IsKernelEndingOf, IsPinsOf, IsPinsSaidOf, ArePinsSaid, IsPinsCall};
 ghost use Rattle.acpiroute_c.specs.declared.call_access.Unmade.TheVariants.{Malformed};
@@ -14,33 +11,11 @@ use crate::call_settings::{CallSettings, settings_of};
 use crate::configure_call::ending_over;
 use crate::record_call::{code_of_unmade, reply_to};
 use crate::table_source::TableSource;
+use acpiroute_lib::completion_of;
 use ar_space::Refusal;
 use recorded_route::{Ending, Settings, pins_of, sci_of};
-use route_report::{Report, SetLine, SetOutcome};
+use route_report::Report;
 use std::alloc::{AllocError, Global};
-
-fn is_refused(outcome: SetOutcome) -> bool
-    ensures { result ≡ is_refused outcome }
-{
-    match outcome {
-        SetOutcome::Done => false,
-        SetOutcome::NoSetting => false,
-        SetOutcome::Refused(_) => true,
-    }
-}
-
-fn any_refused(sets: &[SetLine]) -> bool
-    ensures { result ≡ list_any (λ line. is_refused line.outcome) sets.now }
-{
-    sets.iter().any(|line| is_refused(line.outcome))
-}
-
-/// The status of a run that set these links.
-fn status_of(sets: &[SetLine]) -> u8
-    ensures { result ≡ status_of (completion_of sets.now) }
-{
-    if any_refused(sets) { 3 } else { 0 }
-}
 
 /// What a report says.
 fn said_of_report(alloc: Global, report: &Report) -> Result<SaidPins, AllocError>
@@ -51,7 +26,7 @@ fn said_of_report(alloc: Global, report: &Report) -> Result<SaidPins, AllocError
         pins: pin_forms(alloc, &pins)?,
         line: Vec::new(alloc),
         sci: sci_form(sci_of(report)),
-        status: status_of(&report.sets),
+        status: completion_of(&report.sets).status(),
     })
 }
 

@@ -4,7 +4,7 @@ ghost use Rattle.acpiroute_c.specs.RecordCalls.{IsToldReply, code_of_unmade};
 
 use crate::call_access::Unmade;
 use acpiroute_lib::{Growing, Reply};
-use acpiroute_words::{Answer, deliver_outcome};
+use acpiroute_shell::{Answer, deliver_outcome};
 use ar_space::Result;
 use recorded_route::WantedAccess;
 use std::alloc::{AllocError, Global};

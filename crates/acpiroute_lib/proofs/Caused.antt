@@ -8,16 +8,16 @@ use Rattle.ar_space.specs.Outcome.{Outcome}
 use Rattle.ar_space.specs.declared.refusal.Refusal.{Refusal}
 use Rattle.ar_space.specs.declared.refusal.Refusal.TheVariants as refusal
 use Rattle.ar_space.specs.declared.refusal.InputFault.TheVariants as fault
-use Rattle.acpiroute_words.specs.declared.request.Request.{Request}
-use Rattle.acpiroute_words.specs.declared.request.Asked.TheVariants.{For}
-use Rattle.acpiroute_words.specs.declared.completion.Completion.{Completion}
-use Rattle.acpiroute_words.specs.declared.completion.Completion.TheVariants.{Done, SettingRefused, ClaimInvalid}
-use Rattle.acpiroute_words.specs.CommandLine.{asked_of, faults_of}
-use Rattle.acpiroute_words.specs.Deliveries.{Reply, reply_of}
-use Rattle.acpiroute_words.specs.ErrorLines.{error_line}
-use Rattle.acpiroute_words.specs.Held.{Held, Takes, TakesUnless}
-use Rattle.acpiroute_words.specs.Input.{IsInput}
-use Rattle.acpiroute_words.specs.Written.{Written, status_of}
+use Rattle.acpiroute_shell.specs.declared.request.Request.{Request}
+use Rattle.acpiroute_shell.specs.declared.request.Asked.TheVariants.{For}
+use Rattle.acpiroute_shell.specs.declared.completion.Completion.{Completion}
+use Rattle.acpiroute_shell.specs.declared.completion.Completion.TheVariants.{Done, SettingRefused, ClaimInvalid}
+use Rattle.acpiroute_shell.specs.CommandLine.{asked_of, faults_of}
+use Rattle.acpiroute_shell.specs.Deliveries.{Reply, reply_of}
+use Rattle.acpiroute_shell.specs.ErrorLines.{error_line}
+use Rattle.acpiroute_shell.specs.Held.{Held, Takes, TakesUnless}
+use Rattle.acpiroute_shell.specs.Input.{IsInput}
+use Rattle.acpiroute_shell.specs.Written.{Written, status_of}
 use Rattle.acpiroute_lib.specs.Passed.{told_passed}
 use Rattle.acpiroute_lib.specs.Runs.{ComesTo, Complained, IsReply, Ran, IsHelp, Shows}
 use Rattle.acpiroute_lib.specs.Causes.{IsCause, IsPassed, TellsCause}

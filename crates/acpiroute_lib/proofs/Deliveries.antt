@@ -8,19 +8,19 @@ use Rattle.clap.specs.declared.error.kind.ErrorKind.TheVariants as kind
 use Rattle.ar_space.specs.Outcome.{Outcome, NotMemory}
 use Rattle.ar_space.specs.declared.refusal.Refusal.{Refusal}
 use Rattle.ar_space.specs.declared.refusal.Refusal.TheVariants as refusal
-use Rattle.acpiroute_words.specs.CommandLine.{faults_of, asked_of}
-use Rattle.acpiroute_words.specs.declared.request.Asked.TheVariants.{For, BadAvoid}
-use Rattle.acpiroute_words.specs.Deliveries.{Reply, refusal_told, reply_of, Delivered, IsToldAs, Told}
-use Rattle.acpiroute_words.specs.ErrorLines.{error_line}
-use Rattle.acpiroute_words.specs.Held.{Held}
-use Rattle.acpiroute_words.specs.Input.{input_of, IsRead}
-use Rattle.acpiroute_words.specs.Stops.{refusal_of}
-use Rattle.acpiroute_words.specs.Written.{Written, status_of}
-use Rattle.acpiroute_words.specs.declared.completion.Completion.{Completion}
-use Rattle.acpiroute_words.specs.declared.completion.Completion.TheVariants.{Done, SettingRefused, ClaimInvalid}
-use Rattle.acpiroute_words.specs.declared.input.Stop.{Stop}
-use Rattle.acpiroute_words.specs.declared.input.Stop.TheVariants as stop
-use Rattle.acpiroute_words.specs.declared.request.Request.{Request}
+use Rattle.acpiroute_shell.specs.CommandLine.{faults_of, asked_of}
+use Rattle.acpiroute_shell.specs.declared.request.Asked.TheVariants.{For, BadAvoid}
+use Rattle.acpiroute_shell.specs.Deliveries.{Reply, refusal_told, reply_of, Delivered, IsToldAs, Told}
+use Rattle.acpiroute_shell.specs.ErrorLines.{error_line}
+use Rattle.acpiroute_shell.specs.Held.{Held}
+use Rattle.acpiroute_shell.specs.Input.{input_of, IsRead}
+use Rattle.acpiroute_shell.specs.Stops.{refusal_of}
+use Rattle.acpiroute_shell.specs.Written.{Written, status_of}
+use Rattle.acpiroute_shell.specs.declared.completion.Completion.{Completion}
+use Rattle.acpiroute_shell.specs.declared.completion.Completion.TheVariants.{Done, SettingRefused, ClaimInvalid}
+use Rattle.acpiroute_shell.specs.declared.input.Stop.{Stop}
+use Rattle.acpiroute_shell.specs.declared.input.Stop.TheVariants as stop
+use Rattle.acpiroute_shell.specs.declared.request.Request.{Request}
 use Rattle.acpiroute_lib.specs.Commands.{IsAnswer}
 use Rattle.acpiroute_lib.specs.Passed.{request_passed, told_passed}
 use Rattle.acpiroute_lib.specs.Runs.{IsAnswerOver, ComesTo, IsReply, Ran, Served, IsHelp, Shows, Shown, bad_avoid, no_memory}

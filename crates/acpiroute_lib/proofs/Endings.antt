@@ -17,12 +17,12 @@ use Rattle.acpi_explain.specs.Ends.{IsRouteEnd, IsEvalEnd}
 use Rattle.acpi_explain.specs.declared.end.End.TheVariants as ended
 use Rattle.acpi_explain.specs.declared.told.Phase.{Phase}
 use Rattle.ar_tables.specs.declared.tables.Tables.{Tables}
-use Rattle.aml_meaning.specs.Given.{Given}
-use Rattle.aml_meaning.specs.State.{State}
-use Rattle.acpiroute_words.specs.declared.request.Asking.{Asking}
-use Rattle.acpiroute_words.specs.declared.request.Question.{Question}
-use Rattle.acpiroute_words.specs.declared.request.Question.TheVariants.{Route, Eval}
-use Rattle.acpiroute_words.specs.declared.arguments.Argument.{Argument}
+use Rattle.aml_world.specs.state.Given.{Given}
+use Rattle.aml_world.specs.state.State.{State}
+use Rattle.acpiroute_shell.specs.declared.request.Asking.{Asking}
+use Rattle.acpiroute_shell.specs.declared.request.Question.{Question}
+use Rattle.acpiroute_shell.specs.declared.request.Question.TheVariants.{Route, Eval}
+use Rattle.acpiroute_shell.specs.declared.arguments.Argument.{Argument}
 use Rattle.acpiroute_lib.specs.EvalCommand.{given_argument}
 use Rattle.acpiroute_lib.specs.RunEnds.{dropped, after_loading, started, asks, evaluates, loaded_over, run_of, IsRouted, IsAskedBy, IsQuestionEnd, IsMachineEnd, IsEnd}
 use Rattle.acpiroute_lib.specs.declared.run_end.RunEnd.{RunEnd}

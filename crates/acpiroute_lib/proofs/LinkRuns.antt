@@ -6,14 +6,14 @@ use Rattle.ar_space.specs.Outcome.{Outcome}
 use Rattle.ar_space.specs.declared.refusal.Refusal.{Refusal}
 use Rattle.ar_space.specs.declared.refusal.Refusal.TheVariants.{OutOfMemory}
 use Rattle.ar_tables.specs.declared.tables.Tables.{Tables}
-use Rattle.aml_meaning.specs.State.{State}
+use Rattle.aml_world.specs.state.State.{State}
 use Rattle.acpi_machine.specs.Calls.{initialized}
 use Rattle.acpi_machine.specs.MachineStates.{MachineState, machine_of}
 use Rattle.watched_space.specs.Watching.{Watch, watched}
-use Rattle.acpiroute_words.specs.declared.request.Asking.{Asking}
-use Rattle.acpiroute_words.specs.declared.request.Flags.{Flags}
-use Rattle.acpiroute_words.specs.declared.request.Question.{Question}
-use Rattle.acpiroute_words.specs.declared.request.Question.TheVariants.{Route}
+use Rattle.acpiroute_shell.specs.declared.request.Asking.{Asking}
+use Rattle.acpiroute_shell.specs.declared.request.Flags.{Flags}
+use Rattle.acpiroute_shell.specs.declared.request.Question.{Question}
+use Rattle.acpiroute_shell.specs.declared.request.Question.TheVariants.{Route}
 use Rattle.acpi_configure.specs.Options.{RunOptions}
 use Rattle.acpiroute_lib.specs.RunEnds.{loaded_over, options_of}
 use Rattle.acpiroute_lib.specs.LinksAsked.{AreLinksOf, AreLinksAsked, AreLinksStarted, AreLinksIn}

@@ -7,8 +7,8 @@ use Rattle.acpi_configure.specs.Options.{RunOptions}
 use Rattle.acpi_configure.specs.ForKernels.{IsReportFor}
 use Rattle.route_report.specs.Reports.{RoutingReport}
 use Rattle.ar_tables.specs.declared.mode.Mode.{Mode}
-use Rattle.acpiroute_words.specs.declared.request.Evaluation.{Evaluation}
-use Rattle.acpiroute_words.specs.Written.{Written}
+use Rattle.acpiroute_shell.specs.declared.request.Evaluation.{Evaluation}
+use Rattle.acpiroute_shell.specs.Written.{Written}
 use Rattle.acpiroute_lib.specs.Machines.{Registers, register_accesses, machine_of_text_in}
 use Rattle.acpiroute_lib.specs.RouteCommand.{printed, IsReportOf, IsRouted, IsRoutedOn, IsRouteAnswer}
 

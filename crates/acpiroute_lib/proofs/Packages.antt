@@ -2,9 +2,9 @@
 use Rattle.std.proofs.Common.{◌≡◌, ◌∙◌, ap, sym, refl, ℕ, ◌+◌, ◌<◌, List, [], ◌∷◌, ◌++◌, length, take, map, get_or, arith, append_assoc, append-nil}
 use Rattle.std.specs.Prelude.{codes}
 use Rattle.std.proofs.lemmas.List.{take_more, map-append}
-use Rattle.aml_meaning.proofs.GivenRows.{row_is_list}
-use Rattle.aml_meaning.specs.declared.datum.Datum as datum
-use Rattle.aml_meaning.specs.Given as given
+use Rattle.aml_world.proofs.GivenRows.{row_is_list}
+use Rattle.aml_world.specs.declared.state.datum.Datum as datum
+use Rattle.aml_world.specs.state.Given as given
 use Rattle.acpiroute_lib.specs.ValueText.{count, value_text, elements_text}
 
 pub count_of_list : {X : Type 0} (view : X → given.Given) (xs : List X) → count (given.givens (map view xs)) ≡ length xs

@@ -11,14 +11,14 @@ use Rattle.ar_tables.specs.declared.tables.Tables.{Tables}
 use Rattle.ar_tables.specs.FindTables.{tables_of}
 use Rattle.machine_text.specs.MachineText.{machine_text}
 use Rattle.machine_text.specs.declared.machine_lines.MachineText.{MachineText}
-use Rattle.aml_meaning.specs.PassedOver.{PassedOver, nothing_passed}
-use Rattle.aml_meaning.specs.Predefined.{fresh_as}
-use Rattle.aml_meaning.specs.State.{State}
+use Rattle.aml_world.specs.state.PassedOver.{PassedOver, nothing_passed}
+use Rattle.aml_world.specs.state.Predefined.{fresh_as}
+use Rattle.aml_world.specs.state.State.{State}
 use Rattle.acpi_machine.specs.Calls.{initialized}
 use Rattle.acpi_machine.specs.Loading.{loaded_tables}
 use Rattle.acpi_machine.specs.MachineStates.{MachineState, machine_of}
-use Rattle.acpiroute_words.specs.declared.request.Evaluation.{Evaluation}
-use Rattle.acpiroute_words.specs.PassedLines.{passed_lines}
+use Rattle.acpiroute_shell.specs.declared.request.Evaluation.{Evaluation}
+use Rattle.acpiroute_shell.specs.PassedLines.{passed_lines}
 use Rattle.acpiroute_lib.specs.Machines.{Registers, register_accesses, registers_of, machine_left, machine_with, machine_of_text}
 use Rattle.acpiroute_lib.specs.Passed.{tables_passed, found_passed, said_passed, loading_passed, machine_passed, run_passed}
 

@@ -14,7 +14,7 @@ use Rattle.acpi_machine.specs.Calls.{initialized}
 use Rattle.acpi_machine.specs.MachineStates.{MachineState, machine_of}
 use Rattle.acpi_explain.specs.declared.told.Phase.{Phase}
 use Rattle.acpi_explain.specs.declared.told.Phase.TheVariants.{Loading, Initializing}
-use Rattle.acpiroute_words.specs.declared.request.Asking.{Asking}
+use Rattle.acpiroute_shell.specs.declared.request.Asking.{Asking}
 use Rattle.acpiroute_lib.specs.RunEnds.{loaded_over, IsAskedBy}
 use Rattle.acpiroute_lib.specs.WhyStages.{IsPhase, named_phase, started_phase, machine_phase, loaded_phase, run_phase}
 use Rattle.acpiroute_lib.specs.declared.run_end.RunEnd.{RunEnd}

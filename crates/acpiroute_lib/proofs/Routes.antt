@@ -18,11 +18,11 @@ use Rattle.route_check.specs.declared.flaw.Flaw.TheVariants as flaw
 use Rattle.route_report.specs.Readable.{IsReadable, claim_of_report}
 use Rattle.route_report.specs.Reading.{claim_of_text}
 use Rattle.route_report.specs.Reports.{RoutingReport}
-use Rattle.acpiroute_words.specs.CheckCommand.{Verdict, IsVerdictOn, IsCheckAnswer, check_answer, verdict_answer}
+use Rattle.acpiroute_shell.specs.CheckCommand.{Verdict, IsVerdictOn, IsCheckAnswer, check_answer, verdict_answer}
 use Rattle.acpiroute_lib.specs.Machines.{Registers, register_accesses, machine_of_text_in}
 use Rattle.acpiroute_lib.specs.RouteCommand.{printed, IsRouted, IsRouteAnswer}
-use Rattle.acpiroute_words.specs.declared.request.Evaluation.{Evaluation}
-use Rattle.acpiroute_words.specs.Written.{Written}
+use Rattle.acpiroute_shell.specs.declared.request.Evaluation.{Evaluation}
+use Rattle.acpiroute_shell.specs.Written.{Written}
 
 -- a claim that holds has no flaw
 no_flaw : (c : RoutingClaim) (f : Flaw) → Valid c → (c.spread ≡ true → IsClaimShared c) → IsFirstFlaw c f → ⊥

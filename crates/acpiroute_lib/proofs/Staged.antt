@@ -9,7 +9,7 @@ use Rattle.ar_space.specs.declared.refusal.Refusal.TheVariants.{OutOfMemory}
 use Rattle.ar_tables.specs.declared.tables.Tables.{Tables}
 use Rattle.aml_path.specs.declared.segment.Seg.{Seg}
 use Rattle.aml_path.specs.Text.{path_of_text}
-use Rattle.aml_meaning.specs.State.{State}
+use Rattle.aml_world.specs.state.State.{State}
 use Rattle.acpi_machine.specs.Calls.{initialized}
 use Rattle.acpi_machine.specs.MachineStates.{MachineState, machine_of, sci_of}
 use Rattle.acpi_configure.specs.Options.{RunOptions}
@@ -20,11 +20,11 @@ use Rattle.acpi_explain.specs.declared.stage.Stage.TheVariants as stages
 use Rattle.acpi_explain.specs.declared.told.Phase.{Phase}
 use Rattle.acpi_explain.specs.declared.told.Phase.TheVariants as phases
 use Rattle.acpi_explain.proofs.Spared.{finding_stage}
-use Rattle.acpiroute_words.specs.declared.arguments.Argument.{Argument}
-use Rattle.acpiroute_words.specs.declared.request.Asking.{Asking}
-use Rattle.acpiroute_words.specs.declared.request.Flags.{Flags}
-use Rattle.acpiroute_words.specs.declared.request.Question.{Question}
-use Rattle.acpiroute_words.specs.declared.request.Question.TheVariants.{Route, Eval}
+use Rattle.acpiroute_shell.specs.declared.arguments.Argument.{Argument}
+use Rattle.acpiroute_shell.specs.declared.request.Asking.{Asking}
+use Rattle.acpiroute_shell.specs.declared.request.Flags.{Flags}
+use Rattle.acpiroute_shell.specs.declared.request.Question.{Question}
+use Rattle.acpiroute_shell.specs.declared.request.Question.TheVariants.{Route, Eval}
 use Rattle.acpiroute_lib.specs.RunEnds.{options_of, dropped, after_loading, finds, asks, started, loaded_over}
 use Rattle.acpiroute_lib.specs.WhyStages.{named_phase, asked_phase, started_phase, machine_phase, loaded_phase, run_phase, IsNamedStage, IsLoadingStage, IsCallingStage, IsAskedStage, IsStartedStage, IsMachineStage, IsLoadedStage, IsStageIn}
 

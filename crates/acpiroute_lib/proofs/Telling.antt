@@ -9,8 +9,8 @@ use Rattle.ar_tables.specs.FindTables.{tables_of}
 use Rattle.machine_text.specs.MachineText.{machine_text}
 use Rattle.machine_text.specs.declared.machine_lines.MachineText.{MachineText}
 use Rattle.watched_space.specs.declared.last_access.Accessed.{Accessed}
-use Rattle.acpiroute_words.specs.Written.{Written}
-use Rattle.acpiroute_words.specs.declared.request.Asking.{Asking}
+use Rattle.acpiroute_shell.specs.Written.{Written}
+use Rattle.acpiroute_shell.specs.declared.request.Asking.{Asking}
 use Rattle.acpiroute_lib.specs.Machines.{register_accesses}
 use Rattle.acpi_explain.specs.Explaining.{IsExplanation}
 use Rattle.acpi_explain.specs.declared.explanation.Explanation.{Explanation}

@@ -5,12 +5,12 @@ use Rattle.clap.specs.declared.error.kind.ErrorKind.{ErrorKind}
 use Rattle.ar_space.specs.declared.refusal.Refusal.{Refusal}
 use Rattle.ar_space.specs.declared.refusal.Refusal.TheVariants.{Input, OutOfMemory}
 use Rattle.ar_space.specs.declared.refusal.InputFault.TheVariants.{ReadFault, WriteFault}
-use Rattle.acpiroute_words.specs.declared.request.Request.{Request}
-use Rattle.acpiroute_words.specs.declared.request.Asked.TheVariants.{For}
-use Rattle.acpiroute_words.specs.CommandLine.{asked_of, faults_of}
-use Rattle.acpiroute_words.specs.Deliveries.{refusal_told}
-use Rattle.acpiroute_words.specs.Held.{Held, Takes}
-use Rattle.acpiroute_words.specs.Input.{input_of, IsInput}
+use Rattle.acpiroute_shell.specs.declared.request.Request.{Request}
+use Rattle.acpiroute_shell.specs.declared.request.Asked.TheVariants.{For}
+use Rattle.acpiroute_shell.specs.CommandLine.{asked_of, faults_of}
+use Rattle.acpiroute_shell.specs.Deliveries.{refusal_told}
+use Rattle.acpiroute_shell.specs.Held.{Held, Takes}
+use Rattle.acpiroute_shell.specs.Input.{input_of, IsInput}
 use Rattle.acpiroute_lib.specs.Passed.{told_passed}
 use Rattle.acpiroute_lib.specs.Runs.{IsAnswerOver, IsHelp}
 

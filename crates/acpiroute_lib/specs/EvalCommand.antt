@@ -3,17 +3,17 @@ use Rattle.std.specs.Prelude.{ℕ, List, ◌++◌, map, Ok, codes}
 use Rattle.ar_space.specs.Outcome.{Outcome, ◌>>=◌}
 use Rattle.aml_path.specs.declared.segment.Seg.{Seg}
 use Rattle.aml_path.specs.Text.{path_of_text}
-use Rattle.aml_meaning.specs.Given as given
+use Rattle.aml_world.specs.state.Given as given
 use Rattle.acpi_machine.specs.Calls.{evaluated_object}
 use Rattle.acpi_machine.specs.MachineStates.{MachineState}
 use Rattle.ar_tables.specs.declared.mode.Mode.{Mode}
-use Rattle.acpiroute_words.specs.declared.arguments.Argument.{Argument}
-use Rattle.acpiroute_words.specs.declared.arguments.Argument.TheVariants as argument
-use Rattle.acpiroute_words.specs.declared.request.Evaluation.{Evaluation}
-use Rattle.acpiroute_words.specs.declared.completion.Completion.TheVariants.{Done}
+use Rattle.acpiroute_shell.specs.declared.arguments.Argument.{Argument}
+use Rattle.acpiroute_shell.specs.declared.arguments.Argument.TheVariants as argument
+use Rattle.acpiroute_shell.specs.declared.request.Evaluation.{Evaluation}
+use Rattle.acpiroute_shell.specs.declared.completion.Completion.TheVariants.{Done}
 use Rattle.acpiroute_lib.specs.Machines.{Registers, register_accesses, machine_of_text_in}
 use Rattle.acpiroute_lib.specs.ValueText.{value_text}
-use Rattle.acpiroute_words.specs.Written.{Written}
+use Rattle.acpiroute_shell.specs.Written.{Written}
 
 -- an argument of the command line as a value for the interpreter
 abbrev pub given_argument : Argument → given.Given

@@ -3,16 +3,16 @@ use Rattle.std.specs.Prelude.{◌≡◌, ⊤, ℕ, List, [], Ok, Err}
 use Rattle.ar_space.specs.Accesses.{Accesses}
 use Rattle.ar_space.specs.Outcome.{Outcome}
 use Rattle.ar_tables.specs.declared.tables.Tables.{Tables}
-use Rattle.aml_meaning.specs.State.{State}
+use Rattle.aml_world.specs.state.State.{State}
 use Rattle.acpi_machine.specs.Calls.{initialized}
 use Rattle.acpi_machine.specs.MachineStates.{MachineState, machine_of, sci_of}
 use Rattle.acpi_configure.specs.Options.{RunOptions}
 use Rattle.acpi_configure.specs.WithOptions.{Findings, found_by}
 use Rattle.acpi_explain.specs.LinkLines.{AreLinksExplained}
 use Rattle.watched_space.specs.Watching.{Watch, watched}
-use Rattle.acpiroute_words.specs.declared.request.Asking.{Asking}
-use Rattle.acpiroute_words.specs.declared.request.Question.{Question}
-use Rattle.acpiroute_words.specs.declared.request.Question.TheVariants.{Route, Eval}
+use Rattle.acpiroute_shell.specs.declared.request.Asking.{Asking}
+use Rattle.acpiroute_shell.specs.declared.request.Question.{Question}
+use Rattle.acpiroute_shell.specs.declared.request.Question.TheVariants.{Route, Eval}
 use Rattle.acpiroute_lib.specs.RunEnds.{options_of, loaded_over}
 
 -- accesses: what the register space makes of them, below the one that keeps the last access

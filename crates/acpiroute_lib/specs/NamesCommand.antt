@@ -3,11 +3,11 @@ use Rattle.std.specs.Prelude.{ℕ, List, Ok}
 use Rattle.ar_space.specs.Outcome.{Outcome, ◌>>=◌}
 use Rattle.acpi_machine.specs.Kinds.{kinds_walked}
 use Rattle.acpi_machine.specs.MachineStates.{MachineState}
-use Rattle.acpiroute_words.specs.declared.request.Evaluation.{Evaluation}
-use Rattle.acpiroute_words.specs.declared.completion.Completion.TheVariants.{Done}
+use Rattle.acpiroute_shell.specs.declared.request.Evaluation.{Evaluation}
+use Rattle.acpiroute_shell.specs.declared.completion.Completion.TheVariants.{Done}
 use Rattle.acpiroute_lib.specs.Machines.{Registers, machine_of_text}
 use Rattle.acpiroute_lib.specs.NameLines.{name_lines}
-use Rattle.acpiroute_words.specs.Written.{Written}
+use Rattle.acpiroute_shell.specs.Written.{Written}
 
 -- all names of a machine but the root, in path order
 abbrev pub names_of_machine : MachineState Registers → Written

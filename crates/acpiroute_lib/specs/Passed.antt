@@ -6,16 +6,16 @@ use Rattle.ar_tables.specs.declared.tables.Tables.{Tables}
 use Rattle.ar_tables.specs.FindTables.{tables_of}
 use Rattle.machine_text.specs.MachineText.{machine_text}
 use Rattle.machine_text.specs.declared.machine_lines.MachineText.{MachineText}
-use Rattle.aml_meaning.specs.PassedOver.{PassedOver, nothing_passed}
-use Rattle.aml_meaning.specs.Predefined.{fresh_as}
+use Rattle.aml_world.specs.state.PassedOver.{PassedOver, nothing_passed}
+use Rattle.aml_world.specs.state.Predefined.{fresh_as}
 use Rattle.acpi_machine.specs.Calls.{initialized}
 use Rattle.acpi_machine.specs.Loading.{loaded_tables}
 use Rattle.acpi_machine.specs.MachineStates.{MachineState}
-use Rattle.acpiroute_words.specs.declared.request.Evaluation.{Evaluation}
-use Rattle.acpiroute_words.specs.declared.request.Request.{Request}
-use Rattle.acpiroute_words.specs.declared.request.Request.TheVariants as request
-use Rattle.acpiroute_words.specs.Input.{input_of}
-use Rattle.acpiroute_words.specs.PassedLines.{passed_lines}
+use Rattle.acpiroute_shell.specs.declared.request.Evaluation.{Evaluation}
+use Rattle.acpiroute_shell.specs.declared.request.Request.{Request}
+use Rattle.acpiroute_shell.specs.declared.request.Request.TheVariants as request
+use Rattle.acpiroute_shell.specs.Input.{input_of}
+use Rattle.acpiroute_shell.specs.PassedLines.{passed_lines}
 use Rattle.acpiroute_lib.specs.Machines.{Registers, register_accesses, registers_of, machine_of_text}
 
 -- ---- in loading: nothing, where the text or its tables are refused

@@ -14,12 +14,12 @@ use Rattle.route_report.specs.Readable.{claim_of_report}
 use Rattle.route_report.specs.Reading.{claim_of_text}
 use Rattle.route_report.specs.Reports.{RoutingReport}
 use Rattle.route_report.specs.Printing.{text_of_report}
-use Rattle.acpiroute_words.specs.CheckCommand.{verdict_answer, IsCheckAnswer}
-use Rattle.acpiroute_words.specs.declared.request.Evaluation.{Evaluation}
-use Rattle.acpiroute_words.specs.declared.completion.Completion.{Completion}
-use Rattle.acpiroute_words.specs.declared.completion.Completion.TheVariants.{Done, SettingRefused}
+use Rattle.acpiroute_shell.specs.CheckCommand.{verdict_answer, IsCheckAnswer}
+use Rattle.acpiroute_shell.specs.declared.request.Evaluation.{Evaluation}
+use Rattle.acpiroute_shell.specs.declared.completion.Completion.{Completion}
+use Rattle.acpiroute_shell.specs.declared.completion.Completion.TheVariants.{Done, SettingRefused}
 use Rattle.acpiroute_lib.specs.Machines.{Registers, register_accesses, machine_of_text_in}
-use Rattle.acpiroute_words.specs.Written.{Written}
+use Rattle.acpiroute_shell.specs.Written.{Written}
 
 -- whether setting a link was refused
 abbrev pub is_refused : SetOutcome → Bool

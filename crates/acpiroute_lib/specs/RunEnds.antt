@@ -9,9 +9,9 @@ use Rattle.ar_tables.specs.declared.mode.Mode.{Mode}
 use Rattle.ar_tables.specs.declared.tables.Tables.{Tables}
 use Rattle.aml_path.specs.declared.segment.Seg.{Seg}
 use Rattle.aml_path.specs.Text.{path_of_text}
-use Rattle.aml_meaning.specs.Given.{Given}
-use Rattle.aml_meaning.specs.Predefined.{fresh_as}
-use Rattle.aml_meaning.specs.State.{State}
+use Rattle.aml_world.specs.state.Given.{Given}
+use Rattle.aml_world.specs.state.Predefined.{fresh_as}
+use Rattle.aml_world.specs.state.State.{State}
 use Rattle.acpi_machine.specs.Calls.{initialized, evaluated_object}
 use Rattle.acpi_machine.specs.Loading.{loaded_tables}
 use Rattle.acpi_machine.specs.MachineStates.{MachineState, machine_of, sci_of}
@@ -19,12 +19,12 @@ use Rattle.acpi_configure.specs.Options.{RunOptions}
 use Rattle.acpi_configure.specs.ForKernels.{IsReportFor}
 use Rattle.acpi_configure.specs.WithOptions.{Findings, found_by}
 use Rattle.route_report.specs.Reports.{RoutingReport}
-use Rattle.acpiroute_words.specs.declared.arguments.Argument.{Argument}
+use Rattle.acpiroute_shell.specs.declared.arguments.Argument.{Argument}
 use Rattle.acpiroute_lib.specs.EvalCommand.{given_argument}
-use Rattle.acpiroute_words.specs.declared.request.Asking.{Asking}
-use Rattle.acpiroute_words.specs.declared.request.Flags.{Flags}
-use Rattle.acpiroute_words.specs.declared.request.Question.{Question}
-use Rattle.acpiroute_words.specs.declared.request.Question.TheVariants.{Route, Eval}
+use Rattle.acpiroute_shell.specs.declared.request.Asking.{Asking}
+use Rattle.acpiroute_shell.specs.declared.request.Flags.{Flags}
+use Rattle.acpiroute_shell.specs.declared.request.Question.{Question}
+use Rattle.acpiroute_shell.specs.declared.request.Question.TheVariants.{Route, Eval}
 use Rattle.acpiroute_lib.specs.declared.run_end.RunEnd.{RunEnd}
 use Rattle.acpiroute_lib.specs.declared.run_end.RunEnd.TheVariants.{Refused, Done}
 

@@ -6,13 +6,13 @@ use Rattle.clap.specs.declared.error.kind.ErrorKind.TheVariants as kind
 use Rattle.ar_space.specs.Outcome.{Outcome, NotMemory}
 use Rattle.ar_space.specs.declared.refusal.Refusal.TheVariants.{Input}
 use Rattle.ar_space.specs.declared.refusal.InputFault.TheVariants.{ReadFault}
-use Rattle.acpiroute_words.specs.declared.request.Request.{Request}
-use Rattle.acpiroute_words.specs.declared.request.Asked.TheVariants.{For, BadAvoid}
-use Rattle.acpiroute_words.specs.CommandLine.{asked_of, faults_of}
-use Rattle.acpiroute_words.specs.Deliveries.{Reply, reply_of, Delivered}
-use Rattle.acpiroute_words.specs.Held.{Held}
-use Rattle.acpiroute_words.specs.Input.{input_of, IsInput}
-use Rattle.acpiroute_words.specs.Written.{Written}
+use Rattle.acpiroute_shell.specs.declared.request.Request.{Request}
+use Rattle.acpiroute_shell.specs.declared.request.Asked.TheVariants.{For, BadAvoid}
+use Rattle.acpiroute_shell.specs.CommandLine.{asked_of, faults_of}
+use Rattle.acpiroute_shell.specs.Deliveries.{Reply, reply_of, Delivered}
+use Rattle.acpiroute_shell.specs.Held.{Held}
+use Rattle.acpiroute_shell.specs.Input.{input_of, IsInput}
+use Rattle.acpiroute_shell.specs.Written.{Written}
 use Rattle.acpiroute_lib.specs.Commands.{IsAnswer}
 use Rattle.acpiroute_lib.specs.Passed.{told_passed}
 

@@ -2,7 +2,7 @@
 use Rattle.std.specs.Prelude.{ℕ, ◌+◌, List, [], ◌∷◌, ◌++◌, codes, decimal}
 use Rattle.hex.specs.Hex.{encode_upper}
 use Rattle.aml_path.specs.Text.{text_of}
-use Rattle.aml_meaning.specs.Given as given
+use Rattle.aml_world.specs.state.Given as given
 
 -- two upper-case hexadecimal digits a byte, and `-` for no byte
 abbrev pub bytes_text : List ℕ → List ℕ

@@ -19,17 +19,17 @@ use Rattle.watched_space.specs.Metering.{Meter, metered}
 use Rattle.watched_space.specs.MissingPlaces.{no_missing, missing_places}
 use Rattle.watched_space.specs.Watching.{Watch, watched}
 use Rattle.watched_space.specs.declared.last_access.Accessed.{Accessed}
-use Rattle.acpiroute_words.specs.ErrorLines.{error_line}
-use Rattle.acpiroute_words.specs.Written.{Written}
-use Rattle.acpiroute_words.specs.declared.completion.Completion.TheVariants.{Done}
+use Rattle.acpiroute_shell.specs.ErrorLines.{error_line}
+use Rattle.acpiroute_shell.specs.Written.{Written}
+use Rattle.acpiroute_shell.specs.declared.completion.Completion.TheVariants.{Done}
 use Rattle.acpi_machine.specs.MachineStates.{MachineState}
 use Rattle.acpiroute_lib.specs.RunEnds.{IsMachineEnd, IsEnd}
 use Rattle.acpiroute_lib.specs.LinksAsked.{AreLinksIn}
 use Rattle.acpiroute_lib.specs.Machines.{Registers, register_accesses, registers_of}
 use Rattle.acpiroute_lib.specs.MissingLines.{missing_lines}
 use Rattle.acpiroute_lib.specs.WhyStages.{machine_phase, run_phase, IsPhase, IsStageOf, IsStageIn}
-use Rattle.acpiroute_words.specs.declared.request.Asking.{Asking}
-use Rattle.acpiroute_words.specs.declared.request.Evaluation.{Evaluation}
+use Rattle.acpiroute_shell.specs.declared.request.Asking.{Asking}
+use Rattle.acpiroute_shell.specs.declared.request.Evaluation.{Evaluation}
 use Rattle.acpiroute_lib.specs.declared.run_end.RunEnd.{RunEnd}
 use Rattle.acpiroute_lib.specs.declared.run_end.RunEnd.TheVariants as end
 

@@ -8,7 +8,7 @@ use Rattle.ar_space.specs.declared.refusal.Refusal.TheVariants.{OutOfMemory}
 use Rattle.ar_tables.specs.declared.tables.Tables.{Tables}
 use Rattle.aml_path.specs.declared.segment.Seg.{Seg}
 use Rattle.aml_path.specs.Text.{path_of_text}
-use Rattle.aml_meaning.specs.State.{State}
+use Rattle.aml_world.specs.state.State.{State}
 use Rattle.acpi_machine.specs.Calls.{initialized}
 use Rattle.acpi_machine.specs.Loading.{few_texts}
 use Rattle.acpi_machine.specs.MachineStates.{MachineState, machine_of}
@@ -18,9 +18,9 @@ use Rattle.acpi_explain.specs.declared.stage.Stage.{Stage}
 use Rattle.acpi_explain.specs.declared.stage.Stage.TheVariants as stages
 use Rattle.acpi_explain.specs.declared.told.Phase.{Phase}
 use Rattle.acpi_explain.specs.declared.told.Phase.TheVariants as phases
-use Rattle.acpiroute_words.specs.declared.request.Asking.{Asking}
-use Rattle.acpiroute_words.specs.declared.request.Question.{Question}
-use Rattle.acpiroute_words.specs.declared.request.Question.TheVariants.{Route, Eval}
+use Rattle.acpiroute_shell.specs.declared.request.Asking.{Asking}
+use Rattle.acpiroute_shell.specs.declared.request.Question.{Question}
+use Rattle.acpiroute_shell.specs.declared.request.Question.TheVariants.{Route, Eval}
 use Rattle.acpiroute_lib.specs.RunEnds.{loaded_over, run_of}
 use Rattle.acpiroute_lib.specs.declared.run_end.RunEnd.{RunEnd}
 use Rattle.acpiroute_lib.specs.declared.run_end.RunEnd.TheVariants.{Refused, Done}

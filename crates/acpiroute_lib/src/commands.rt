@@ -9,7 +9,7 @@ use crate::machine_end::options_of;
 use crate::names_command::names_answer;
 use crate::route_command::route_answer;
 use crate::why_command::{registers_answer, why_answer};
-use acpiroute_words::{Answer, Request, check_answer};
+use acpiroute_shell::{Answer, Request, check_answer};
 use ar_space::Result;
 use std::alloc::Global;
 

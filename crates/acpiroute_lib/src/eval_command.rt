@@ -1,18 +1,18 @@
 //! `eval`: loads and initializes a machine, evaluates an object, and writes its value.
 ghost use Rattle.std.specs.Prelude.{◌≡◌, ◌++◌, IfOk, Ok, map};
 ghost use Rattle.ar_space.specs.Outcome.{Answers, NotMemory};
-ghost use Rattle.acpiroute_words.specs.PassedLines.{passed_lines};
+ghost use Rattle.acpiroute_shell.specs.PassedLines.{passed_lines};
 ghost use Rattle.acpiroute_lib.specs.Passed.{run_passed};
-ghost use Rattle.aml_meaning.specs.Given as given;
+ghost use Rattle.aml_world.specs.state.Given as given;
 ghost use Rattle.acpiroute_lib.specs.EvalCommand.{given_argument, value_written, evaluated_text, eval_answer};
 
 use crate::machine::{Registers, machine_of_text_in};
 use crate::value_text::value_line;
 use acpi_machine::Machine;
-use acpiroute_words::{Answer, Argument, ArgumentBytes, Arguments, Completion, Evaluation};
-use aml_meaning::Datum;
+use acpiroute_shell::{Answer, Argument, ArgumentBytes, Arguments, Completion, Evaluation};
 use aml_objects::Octets;
 use aml_path::Path;
+use aml_world::Datum;
 use ar_space::{PathText, Result};
 use route_report::Mode;
 use std::alloc::{AllocError, Global};
@@ -57,7 +57,8 @@ pub fn value_answer(alloc: Global, value: &Datum) -> Result<Answer>
 }
 
 /// The value of the object whose path a text is.
-#[tactic(auto, using(ar_space::proofs::Outcomes::answering, crate::proofs::Evaluated::change_answers), unfolding(crate::specs::EvalCommand::evaluated_text, crate::specs::EvalCommand::value_at))]
+#[tactic(auto, using(crate::proofs::Evaluated::evaluating), //
+unfolding(crate::specs::EvalCommand::evaluated_text, crate::specs::EvalCommand::value_at))]
 fn evaluated_text(
     alloc: Global,
     machine: &mut Machine<Registers>,

@@ -1,5 +1,5 @@
 //! The program over any reader and writers: the command line, the whole input, the commands, the one line that tells
-//! of a refusal, and the exit status. What of it needs no machine stands in `acpiroute_words`.
+//! of a refusal, and the exit status. What of it needs no machine stands in `acpiroute_shell`.
 #![tactic(auto)]
 
 mod commands;
@@ -21,13 +21,13 @@ mod value_text;
 mod watched_run;
 mod why_command;
 
-pub use acpiroute_words::{
+pub use acpiroute_shell::{
     Argument, ArgumentBytes, Arguments, Asked, Asking, Evaluation, Failed, Flags, Growing,
     Interrupts, Outside, Question, Request, Sink, Source, parse, write_error_line,
 };
-pub use aml_meaning::Profile;
+pub use aml_world::Profile;
 pub use eval_command::value_answer;
 pub use memory::{Reply, run_over};
 pub use program::run;
-pub use route_command::report_answer;
+pub use route_command::{completion_of, report_answer};
 pub use value_text::value_line;

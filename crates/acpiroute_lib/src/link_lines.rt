@@ -17,7 +17,7 @@ use crate::watched_run::first_watch;
 use acpi_configure::Options;
 use acpi_explain::explain_links;
 use acpi_machine::Machine;
-use acpiroute_words::{Asking, Evaluation, Question};
+use acpiroute_shell::{Asking, Evaluation, Question};
 use aml_objects::Octets;
 use ar_space::Refusal;
 use ar_tables::Tables;

@@ -1,12 +1,12 @@
 //! Loads the tables of a run.
 ghost use Rattle.std.specs.Prelude.{◌≡◌, ◌≢◌, Ok, Err, IfOk, IfErr};
 ghost use Rattle.ar_space.specs.declared.refusal.Refusal.TheVariants.{OutOfMemory};
-ghost use Rattle.aml_meaning.specs.Predefined.{fresh_as};
+ghost use Rattle.aml_world.specs.state.Predefined.{fresh_as};
 ghost use Rattle.acpi_machine.specs.Loading.{loaded_tables};
 ghost use Rattle.acpi_machine.specs.MachineStates.{machine_of};
 
 use acpi_machine::{Machine, load_tables_as};
-use acpiroute_words::Evaluation;
+use acpiroute_shell::Evaluation;
 use aml_objects::Octets;
 use ar_space::{Refusal, Space};
 use ar_tables::Tables;

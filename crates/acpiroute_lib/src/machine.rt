@@ -4,13 +4,13 @@ ghost use Rattle.ar_space.specs.Change.{Does};
 ghost use Rattle.ar_space.specs.Outcome.{Answers, NotMemory};
 ghost use Rattle.machine_text.specs.MachineText.{machine_text};
 ghost use Rattle.acpi_machine.specs.Calls.{initialized};
-ghost use Rattle.acpiroute_words.specs.PassedLines.{passed_lines};
+ghost use Rattle.acpiroute_shell.specs.PassedLines.{passed_lines};
 ghost use Rattle.acpiroute_lib.specs.Passed.{tables_passed, loading_passed, run_passed};
 ghost use Rattle.acpiroute_lib.specs.Machines.{register_accesses, machine_with, machine_of_text};
 ghost use Rattle.acpiroute_lib.specs.Machines.{initialized_machine, machine_of_text_in};
 
 use acpi_machine::{Machine, Mode, load_tables_traced};
-use acpiroute_words::{Evaluation, put_passed_lines};
+use acpiroute_shell::{Evaluation, put_passed_lines};
 use aml_objects::Octets;
 use ar_space::{Result, Sparse};
 use ar_tables::Tables;
@@ -94,7 +94,7 @@ fn initialize(
         passed_lines (initialized register_accesses mode machine.old).1.world.passed }
 {
     let outcome = machine.initialize(alloc, mode);
-    put_passed_lines(alloc, told, machine.passed_over())?;
+    put_passed_lines(alloc, told, machine.world().passed_over())?;
     outcome
 }
 

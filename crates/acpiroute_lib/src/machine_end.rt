@@ -1,6 +1,6 @@
 //! How the run of a machine ends whose tables are loaded.
 ghost use Rattle.std.specs.Prelude.{◌≡◌, map, Some, None};
-ghost use Rattle.aml_meaning.specs.Given.{given_of};
+ghost use Rattle.aml_world.specs.state.Given.{given_of};
 ghost use Rattle.aml_path.specs.Text.{path_of_text};
 ghost use Rattle.acpi_machine.specs.Calls.{initialized};
 ghost use Rattle.acpi_explain.specs.declared.told.Phase.TheVariants.{Running};
@@ -13,9 +13,9 @@ use crate::run_end::RunEnd;
 use acpi_configure::Options;
 use acpi_explain::{End, Phase, eval_end, route_end};
 use acpi_machine::Machine;
-use acpiroute_words::{Argument, Asking, Flags, Question};
-use aml_meaning::Datum;
+use acpiroute_shell::{Argument, Asking, Flags, Question};
 use aml_path::Path;
+use aml_world::Datum;
 use ar_space::{Refusal, Space};
 use route_report::Mode;
 use std::alloc::Global;

@@ -3,7 +3,7 @@ ghost use Rattle.std.specs.Prelude.{IfOk, map, false};
 ghost use Rattle.acpiroute_lib.specs.Runs.{IsReply};
 
 use crate::program::run;
-use acpiroute_words::Growing;
+use acpiroute_shell::Growing;
 use std::alloc::{AllocError, Global};
 use std::marker::Model;
 
@@ -19,7 +19,7 @@ pub struct Reply {
 }
 
 impl Model for Reply {
-    ghost use Rattle.acpiroute_words.specs.Deliveries.{Reply as Said};
+    ghost use Rattle.acpiroute_shell.specs.Deliveries.{Reply as Said};
 
     ghost Value = { Said };
 

@@ -5,7 +5,7 @@ ghost use Rattle.acpi_machine.specs.Kinds.{kind_seen};
 ghost use Rattle.acpiroute_lib.specs.NameLines.{kind_text, name_line, name_lines};
 
 use acpi_machine::Kind;
-use acpiroute_words::{put_number, put_path};
+use acpiroute_shell::{put_number, put_path};
 use aml_path::Path;
 use std::alloc::{AllocError, Global};
 

@@ -1,14 +1,14 @@
 //! `names`: loads a machine, and writes its names.
 ghost use Rattle.std.specs.Prelude.{◌≡◌, ◌++◌, Ok};
 ghost use Rattle.ar_space.specs.Outcome.{Answers, NotMemory};
-ghost use Rattle.acpiroute_words.specs.PassedLines.{passed_lines};
+ghost use Rattle.acpiroute_shell.specs.PassedLines.{passed_lines};
 ghost use Rattle.acpiroute_lib.specs.Passed.{loading_passed};
 ghost use Rattle.acpiroute_lib.specs.NamesCommand.{names_answer, names_of_machine};
 
 use crate::machine::{Registers, machine_of_text};
 use crate::name_lines::name_lines;
 use acpi_machine::Machine;
-use acpiroute_words::{Answer, Completion, Evaluation, put_passed_lines};
+use acpiroute_shell::{Answer, Completion, Evaluation, put_passed_lines};
 use ar_space::Result;
 use std::alloc::Global;
 
@@ -21,7 +21,7 @@ fn names_of_machine(
     ensures answer { Answers result (Ok (names_of_machine machine.now)) }
     ensures told { NotMemory result → told.new.items ≡ told.old.items ++ passed_lines machine.now.world.passed }
 {
-    put_passed_lines(alloc, told, machine.passed_over())?;
+    put_passed_lines(alloc, told, machine.world().passed_over())?;
     let nodes = machine.walk_namespace(alloc)?;
     Ok(Answer {
         text: name_lines(alloc, nodes.as_slice())?,

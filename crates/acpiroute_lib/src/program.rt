@@ -1,13 +1,13 @@
 //! The program, from its words and its input to its output, its error line and its status.
 ghost use Rattle.std.specs.Prelude.{◌≡◌, ◌≢◌, ◌<◌, [], length, map, false, IfOk};
 ghost use Rattle.clap.specs.Words.{kind_of};
-ghost use Rattle.acpiroute_words.specs.CommandLine.{faults_of};
-ghost use Rattle.acpiroute_words.specs.Deliveries.{Delivered};
-ghost use Rattle.acpiroute_words.specs.Reads.{ReadsWithin};
+ghost use Rattle.acpiroute_shell.specs.CommandLine.{faults_of};
+ghost use Rattle.acpiroute_shell.specs.Deliveries.{Delivered};
+ghost use Rattle.acpiroute_shell.specs.Reads.{ReadsWithin};
 ghost use Rattle.acpiroute_lib.specs.Runs.{Ran, Served, Shown, bad_avoid, no_memory};
 
 use crate::commands::answer_request;
-use acpiroute_words::{Asked, Request, Sink, Source, deliver, deliver_outcome, parse, read_input};
+use acpiroute_shell::{Asked, Request, Sink, Source, deliver, deliver_outcome, parse, read_input};
 use clap::Error;
 use clap::error::ErrorKind;
 use std::alloc::{AllocError, Global};

@@ -4,20 +4,20 @@ ghost use Rattle.std.specs.List.{list_any};
 ghost use Rattle.ar_space.specs.Outcome.{Answers, NotMemory};
 ghost use Rattle.route_report.specs.Readable.{IsReadable, claim_of_report};
 ghost use Rattle.route_report.specs.Reading.{claim_of_text};
-ghost use Rattle.acpiroute_words.specs.PassedLines.{passed_lines};
+ghost use Rattle.acpiroute_shell.specs.PassedLines.{passed_lines};
 ghost use Rattle.acpiroute_lib.specs.Passed.{run_passed};
 ghost use Rattle.acpiroute_lib.specs.RouteCommand.{is_refused, completion_of, printed, IsRouted, IsRouteAnswer};
 
 use crate::machine::{Registers, machine_of_text_in};
 use acpi_configure::{Options, configure_with};
 use acpi_machine::Machine;
-use acpiroute_words::{Answer, Completion, Evaluation};
+use acpiroute_shell::{Answer, Completion, Evaluation};
 use ar_space::Result;
 use route_report::{Mode, Report, SetLine, SetOutcome, print};
 use std::alloc::Global;
 
 /// How a run came out that set these links.
-fn completion_of(sets: &[SetLine]) -> Completion
+pub fn completion_of(sets: &[SetLine]) -> Completion
     ensures { result ≡ completion_of sets.now }
 {
     if any_refused(sets) {

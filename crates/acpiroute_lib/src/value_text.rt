@@ -1,11 +1,11 @@
 //! A value as text, put behind a text.
 ghost use Rattle.std.specs.Prelude.{◌≡◌, ◌++◌, IfOk, OnOk, codes, length, map};
-ghost use Rattle.aml_meaning.specs.Given as given;
+ghost use Rattle.aml_world.specs.state.Given as given;
 ghost use Rattle.acpiroute_lib.specs.ValueText.{bytes_text, package_text, value_text, elements_text};
 
-use acpiroute_words::{put_number, put_path};
-use aml_meaning::Datum;
+use acpiroute_shell::{put_number, put_path};
 use aml_path::Path;
+use aml_world::Datum;
 use std::alloc::{AllocError, Global};
 
 /// Bytes in upper-case hexadecimal digits, `-` where there is none.

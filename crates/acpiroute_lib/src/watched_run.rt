@@ -11,9 +11,9 @@ use crate::machine_end::machine_end;
 use crate::run_end::RunEnd;
 use acpi_explain::Phase;
 use acpi_machine::{Machine, load_tables_traced};
-use acpiroute_words::{Asking, Evaluation};
-use aml_meaning::Trace;
+use acpiroute_shell::{Asking, Evaluation};
 use aml_objects::Octets;
+use aml_world::Trace;
 use ar_space::{Place, Result, Sparse};
 use ar_tables::Tables;
 use machine_description::describe;
@@ -54,7 +54,7 @@ fn watched_machine(
 {
     let mut machine = machine;
     let end = machine_end(alloc, asking, &mut machine);
-    let (space, trace, passed) = machine.into_parts();
+    let (space, trace, passed) = machine.into_world().into_parts();
     drop(passed);
     let last = space.last();
     // (by a call: what a scope drops at its end is dropped part by part, and long to prove)

@@ -14,19 +14,20 @@ use Rattle.aml_objects.specs.declared.entry.Field.TheVariants as field
 use Rattle.aml_objects.specs.declared.entry.FieldSource.TheVariants as sources
 use Rattle.aml_objects.specs.declared.entry.FieldUnit.{FieldUnit}
 use Rattle.aml_objects.specs.declared.value.Value.TheVariants as value
+use Rattle.aml_world.specs.declared.state.invocation.Invocation.{Invocation}
+use Rattle.aml_world.specs.declared.fields.regions.RegionField.{RegionField}
+use Rattle.aml_world.specs.state.State.{State, on_space}
+use Rattle.aml_world.specs.state.Run.{Run, lift}
+use Rattle.aml_world.specs.fields.PciFunctions.{adr, segment_group, base_bus, pci_function}
+use Rattle.aml_world.specs.fields.Bridges.{bridges_above}
+use Rattle.aml_world.specs.fields.Regions.{space_numbered, region_declared, integer_only, integer_alone, pci_space}
+use Rattle.aml_world.specs.fields.Fields.{field_unit_bits, field_unit_written, region_bits, region_written, located, space_at, pci_address, inherited, bus_behind_all, field_part, bits_in}
+use Rattle.aml_world.specs.state.Invocations.{call_allowed}
 use Rattle.aml_meaning.specs.declared.flow.Flow.{Flow}
 use Rattle.aml_meaning.specs.declared.flow.Flow.TheVariants as flow
-use Rattle.aml_meaning.specs.declared.invocation.Invocation.{Invocation}
-use Rattle.aml_meaning.specs.declared.regions.RegionField.{RegionField}
-use Rattle.aml_meaning.specs.State.{State, on_space}
-use Rattle.aml_meaning.specs.Run.{Run, lift}
 use Rattle.aml_meaning.specs.Meaning.{meaning}
-use Rattle.aml_meaning.specs.PciFunctions.{adr, segment_group, base_bus, pci_function}
-use Rattle.aml_meaning.specs.Bridges.{bridges_above}
-use Rattle.aml_meaning.specs.Regions.{space_numbered, region_declared, integer_only, integer_alone, pci_space}
-use Rattle.aml_meaning.specs.Fields.{field_unit_bits, field_unit_written, region_bits, region_written, located, space_at, pci_address, inherited, bus_behind_all, field_part, bits_in}
 use Rattle.aml_meaning.specs.FieldCalls.{asked, answer_within, answer_over, method_integer}
-use Rattle.aml_meaning.specs.Invocations.{invoked, method_value, call_allowed, value_of_call}
+use Rattle.aml_meaning.specs.Calls.{invoked, method_value, value_of_call}
 use Rattle.aml_meaning.proofs.Runs.{running, does_lift}
 use Rattle.aml_frames.specs.declared.addresses.Asked.{Asked}
 use Rattle.aml_frames.specs.declared.addresses.Asked.TheVariants as answers

@@ -13,13 +13,13 @@ use Rattle.aml_fields.specs.declared.region.AddressSpace.{AddressSpace}
 use Rattle.aml_fields.specs.Regions.{read_unit, write_whole}
 use Rattle.aml_fields.specs.Units.{units_of}
 use Rattle.aml_fields.specs.UnitByUnit.{kept}
+use Rattle.aml_world.specs.state.State.{State, on_space}
+use Rattle.aml_world.specs.state.Run.{Run, lift}
+use Rattle.aml_world.specs.fields.Regions.{bank_held}
+use Rattle.aml_world.specs.fields.Fields.{unit_bytes, bank_selected, bank_unit, region_written}
 use Rattle.aml_meaning.specs.declared.flow.Flow.{Flow}
 use Rattle.aml_meaning.specs.declared.flow.Flow.TheVariants as flow
-use Rattle.aml_meaning.specs.State.{State, on_space}
-use Rattle.aml_meaning.specs.Run.{Run, lift}
 use Rattle.aml_meaning.specs.Meaning.{meaning}
-use Rattle.aml_meaning.specs.Regions.{bank_held}
-use Rattle.aml_meaning.specs.Fields.{unit_bytes, bank_selected, bank_unit, region_written}
 use Rattle.aml_frames.specs.declared.addresses.RegionAccess.{RegionAccess}
 use Rattle.aml_frames.specs.declared.banked.BankReads.{BankReads}
 use Rattle.aml_frames.specs.declared.banked.BankWrites.{BankWrites}

@@ -17,14 +17,14 @@ use Rattle.aml_objects.specs.declared.entry.Bank.{Bank}
 use Rattle.aml_objects.specs.declared.entry.Field.TheVariants as field
 use Rattle.aml_objects.specs.declared.entry.FieldSource.TheVariants as sources
 use Rattle.aml_objects.specs.declared.entry.FieldUnit.{FieldUnit}
+use Rattle.aml_world.specs.declared.fields.regions.RegionField.{RegionField}
+use Rattle.aml_world.specs.state.State.{State, on_space}
+use Rattle.aml_world.specs.state.Run.{Run, lift}
+use Rattle.aml_world.specs.fields.Regions.{space_numbered, region_declared, field_declared}
+use Rattle.aml_world.specs.fields.Fields.{space_at, located, bank_unit_written, bank_bits, bank_written, field_unit_bits, field_unit_written}
 use Rattle.aml_meaning.specs.declared.flow.Flow.{Flow}
 use Rattle.aml_meaning.specs.declared.flow.Flow.TheVariants as flow
-use Rattle.aml_meaning.specs.declared.regions.RegionField.{RegionField}
-use Rattle.aml_meaning.specs.State.{State, on_space}
-use Rattle.aml_meaning.specs.Run.{Run, lift}
 use Rattle.aml_meaning.specs.Meaning.{meaning}
-use Rattle.aml_meaning.specs.Regions.{space_numbered, region_declared, field_declared}
-use Rattle.aml_meaning.specs.Fields.{space_at, located, bank_unit_written, bank_bits, bank_written, field_unit_bits, field_unit_written}
 use Rattle.aml_frames.specs.declared.banked.BankedField.{BankedField}
 use Rattle.aml_frames.specs.declared.banked.Selector.{Selector}
 use Rattle.aml_frames.specs.declared.uses.Accessed.TheVariants as object

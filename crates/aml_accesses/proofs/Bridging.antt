@@ -6,12 +6,12 @@ use Rattle.ar_space.specs.Accesses.{Accesses}
 use Rattle.ar_space.specs.Outcome.{Outcome}
 use Rattle.ar_space.specs.Change.{give, settle, go_on, ◌>>=◌}
 use Rattle.aml_path.specs.declared.segment.Seg.{Seg}
-use Rattle.aml_meaning.specs.State.{State, on_space}
-use Rattle.aml_meaning.specs.Run.{lift}
+use Rattle.aml_world.specs.state.State.{State, on_space}
+use Rattle.aml_world.specs.state.Run.{lift}
+use Rattle.aml_world.specs.fields.Bridges.{secondary_bus}
+use Rattle.aml_world.specs.fields.PciFunctions.{adr}
+use Rattle.aml_world.specs.fields.Fields.{bus_behind, bus_behind_all}
 use Rattle.aml_meaning.specs.Meaning.{meaning}
-use Rattle.aml_meaning.specs.Bridges.{secondary_bus}
-use Rattle.aml_meaning.specs.PciFunctions.{adr}
-use Rattle.aml_meaning.specs.Fields.{bus_behind, bus_behind_all}
 use Rattle.aml_frames.specs.declared.addresses.PciAccess.{PciAccess}
 use Rattle.aml_frames.specs.declared.addresses.RegionAccess.{RegionAccess}
 use Rattle.aml_frames.specs.declared.frames.Frame.TheVariants as frames

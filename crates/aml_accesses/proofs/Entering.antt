@@ -9,21 +9,21 @@ use Rattle.ar_space.specs.declared.refusal.Refusal.TheVariants.{OutOfMemory}
 use Rattle.aml_path.specs.declared.segment.Seg.{Seg}
 use Rattle.aml_grammar.specs.State.{until_end}
 use Rattle.aml_grammar.specs.Grammar.{items, term_list, by_arities}
-use Rattle.aml_grammar.specs.declared.arities.Arity.{Arity}
+use Rattle.aml_arities.specs.declared.arities.Arity.{Arity}
 use Rattle.aml_grammar.specs.Shape.{trees_of}
 use Rattle.aml_grammar.specs.declared.marks.Mark.{Mark}
-use Rattle.aml_marked.specs.Marked.{trees_by}
+use Rattle.aml_marks.specs.Marked.{trees_by}
 use Rattle.aml_objects.specs.declared.entry.Field.{Field}
 use Rattle.aml_objects.specs.declared.value.Value.TheVariants as value
 use Rattle.aml_scan.specs.Scanned.{marked}
+use Rattle.aml_world.specs.state.State.{State}
+use Rattle.aml_world.specs.state.Run.{Run, lift}
+use Rattle.aml_world.specs.fields.Fields.{field_part, bits_in}
+use Rattle.aml_world.specs.fields.Regions.{integer_only, integer_alone}
 use Rattle.aml_meaning.specs.declared.flow.Flow.{Flow}
 use Rattle.aml_meaning.specs.declared.flow.Flow.TheVariants as flow
-use Rattle.aml_meaning.specs.State.{State}
-use Rattle.aml_meaning.specs.Run.{Run, lift}
 use Rattle.aml_meaning.specs.Tasks.{in_turn}
-use Rattle.aml_meaning.specs.Invocations.{leaving, value_of_call}
-use Rattle.aml_meaning.specs.Fields.{field_part, bits_in}
-use Rattle.aml_meaning.specs.Regions.{integer_only, integer_alone}
+use Rattle.aml_meaning.specs.Calls.{leaving, value_of_call}
 use Rattle.aml_meaning.specs.Meaning.{meaning}
 use Rattle.aml_meaning.proofs.Runs.{running, does_lift}
 use Rattle.aml_frames.specs.declared.addresses.Asked.TheVariants as answers

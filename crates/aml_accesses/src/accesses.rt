@@ -41,7 +41,7 @@ pub fn read_access(act: &Activation, field: Field, reading: Reading) -> Access
 }
 
 /// A value is written to a field by a term, which has a value then.
-#[tactic(auto, using(aml_frames::proofs::Using::using_targets), unfolding(aml_meaning::specs::Fields::field_stored))]
+#[tactic(auto, using(aml_frames::proofs::Using::using_targets), unfolding(aml_world::specs::fields::Fields::field_stored))]
 pub fn begin_write<S: Space>(
     run: &Running<S>,
     act: &Activation,

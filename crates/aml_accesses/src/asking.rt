@@ -1,24 +1,22 @@
 //! What an object answers that is a part of an address (ACPI 6.5, 5.5.2.4): one more call is made, of those that may
 //! be made one inside another.
-ghost use Rattle.std.specs.Prelude.{◌≡◌, ◌≤◌, ◌<◌, ◌-◌, [], IfOk, Ok};
-ghost use Rattle.ar_space.specs.Change.{Does, settle};
-ghost use Rattle.ar_space.specs.Outcome.{Answers, NotMemory};
+ghost use Rattle.std.specs.Prelude.{◌≤◌, ◌<◌, ◌-◌, IfOk};
+ghost use Rattle.ar_space.specs.Change.{settle};
+ghost use Rattle.ar_space.specs.Outcome.{NotMemory};
+ghost use Rattle.aml_world.specs.fields.Regions.{integer_only};
 ghost use Rattle.aml_meaning.specs.Meaning.{meaning};
-ghost use Rattle.aml_meaning.specs.Readings.{absolute};
-ghost use Rattle.aml_meaning.specs.Invocations.{invocation_found};
 ghost use Rattle.aml_meaning.specs.FieldCalls.{answer_within, answer_over, asked};
-ghost use Rattle.aml_meaning.specs.Regions.{integer_only};
 ghost use Rattle.aml_frames.specs.Addresses.{Asks};
 ghost use Rattle.aml_frames.specs.Uses.{asking};
 ghost use Rattle.aml_frames.specs.Weights.{part_weight, asked_weight};
 
 use crate::accesses::MAX_CALLS;
-use aml_frames::{Asked, Waited, told_path};
-use aml_meaning::{Invocation, Running, WorldState, integer_only};
+use aml_frames::{Asked, Waited, invocation_at, told_path};
+use aml_meaning::Running;
 use aml_objects::Value;
-use aml_path::{NameString, Path, Prefix};
+use aml_path::Path;
+use aml_world::{Invocation, integer_only};
 use ar_space::{EvaluationFault, Refusal, Result, Space, ValueFault};
-use std::alloc::Global;
 
 /// The integer that the object at a path answers, where so many calls may still be made, or what gives it.
 #[tactic(auto, using(crate::proofs::Addressing::answering), unfolding(aml_meaning::specs::FieldCalls::asked))]
@@ -28,7 +26,7 @@ pub fn ask<S: Space>(run: &mut Running<S>, calls: usize, path: &Path) -> Result<
     ensures means { Asks S.accesses (meaning S.accesses) result run.new
         (asking S.accesses (meaning S.accesses) calls path.now) run.old }
 {
-    let answered = invocation(&run.world, path);
+    let answered = invocation_at(&run.world, path, 0);
     let found = told_path(&mut run.world, path, answered)?;
     answer(run, calls, found)
 }
@@ -78,29 +76,4 @@ fn known<S: Space>(run: &Running<S>, value: Value) -> Result<Asked>
         Ok(number) => Ok(Asked::Known(number)),
         Err(refusal) => Err(refusal),
     }
-}
-
-/// What the object at a path is that is asked for without arguments.
-fn invocation<S: Space>(world: &WorldState<S>, path: &Path) -> Result<Invocation>
-    ensures { Does result world.now (invocation_found [] (absolute path.now) 0) world.now }
-{
-    match absolute(world.alloc, path) {
-        Ok(name) => from_root(world, &name),
-        Err(refusal) => Err(refusal),
-    }
-}
-
-/// What the object is that a name finds from the root and that is asked for without arguments.
-fn from_root<S: Space>(world: &WorldState<S>, name: &NameString) -> Result<Invocation>
-    ensures { Does result world.now (invocation_found [] name.now 0) world.now }
-{
-    let root = Path::root(world.alloc);
-    world.invocation(world.scope(&root), name, 0)
-}
-
-/// A path, as a name that stands for it anywhere.
-fn absolute(alloc: Global, path: &Path) -> Result<NameString>
-    ensures { Answers result (Ok (absolute path.now)) }
-{
-    Ok(NameString::new(Prefix::Root, path.copy(alloc)?.into_vec()))
 }

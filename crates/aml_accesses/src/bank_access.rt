@@ -19,8 +19,9 @@ use aml_frames::{
     Activation, BankReads, BankWrites, BankedField, BanksLeft, Boxed, Doing, Frame, Next,
     RegionAccess, Selector, is_kept, merge_unit, put_unit, zeros,
 };
-use aml_meaning::{Flow, RegionField, Running, space_numbered};
+use aml_meaning::{Flow, Running};
 use aml_objects::{Bank, FieldUnit};
+use aml_world::{RegionField, space_numbered};
 use ar_space::{Result, Space};
 
 /// The field that selects a bank and the region with these numbers of declarations are looked up, and the region is

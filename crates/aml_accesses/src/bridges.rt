@@ -8,8 +8,9 @@ ghost use Rattle.aml_frames.specs.Steps.{Steps};
 
 use crate::pci::{ask_address, begin_function, wait};
 use aml_frames::{Activation, AddressPart, Asked, Boxed, Frame, FunctionAddress, Next, PciAccess};
-use aml_meaning::{Running, secondary_bus};
+use aml_meaning::Running;
 use aml_path::Path;
+use aml_world::secondary_bus;
 use ar_space::{Result, Space};
 
 /// The bus is known of the outermost of the bridges that are left: its address is asked for. Where none is left, it is

@@ -2,7 +2,7 @@
 ghost use Rattle.std.specs.Prelude.{◌≡◌, ◌≤◌, ◌+◌, IfErr, slice_index_or};
 ghost use Rattle.aml_objects.specs.declared.value.Value.TheVariants.{Uninitialized};
 ghost use Rattle.aml_meaning.specs.Meaning.{meaning};
-ghost use Rattle.aml_meaning.specs.Invocations.{frame_arguments, invoked};
+ghost use Rattle.aml_meaning.specs.Calls.{frame_arguments, invoked};
 ghost use Rattle.aml_frames.specs.declared.frames.Frame.TheVariants as frames;
 ghost use Rattle.aml_frames.specs.Entering.{Enters};
 ghost use Rattle.aml_frames.specs.Follow.{called, entered_then, arguments_left, behind_arguments, ends};
@@ -12,9 +12,10 @@ ghost use Rattle.aml_frames.specs.Steps.{Steps, frame_at};
 use aml_frames::{
     Activation, Boxed, Call, Callee, Frame, MethodPath, Next, PciAccess, known_integer, told_path,
 };
-use aml_meaning::{Flow, Running, WorldState};
+use aml_meaning::{Flow, Running};
 use aml_objects::{Body, NodeId, Value};
 use aml_path::Path;
+use aml_world::WorldState;
 use ar_space::{Result, Space};
 
 /// Evaluates the arguments that are left of a call, and then makes it. Arguments that `known_integer` gives need no
@@ -107,7 +108,7 @@ pub(crate) fn enter_then<S: Space>(
 /// Enters a control method, whose node this is where it is known: tests the depth of calls, scans the body, and opens a
 /// frame of slots. Gives the activation at the first byte of the body. Where it is refused, or memory runs out, nothing
 /// changes that a contract sees: no frame is open.
-#[tactic(auto, using(crate::proofs::Entering::entering), unfolding(aml_meaning::specs::Invocations::invoked))]
+#[tactic(auto, using(crate::proofs::Entering::entering), unfolding(aml_meaning::specs::Calls::invoked))]
 pub fn enter<S: Space>(
     run: &mut Running<S>,
     depth: usize,

@@ -2,11 +2,9 @@
 ghost use Rattle.std.specs.Prelude.{◌≡◌, ◌≤◌, ◌+◌};
 ghost use Rattle.ar_space.specs.Change.{Does};
 ghost use Rattle.ar_space.specs.Outcome.{NotMemory};
-ghost use Rattle.aml_meaning.specs.declared.regions.RegionSpace.TheVariants as kinds;
-ghost use Rattle.aml_meaning.specs.Fields.{unit_of};
-ghost use Rattle.aml_meaning.specs.Regions.{region_declared};
-ghost use Rattle.aml_meaning.specs.Run.{lift};
-ghost use Rattle.ar_space.specs.Accesses.{bit_count};
+ghost use Rattle.aml_world.specs.declared.fields.regions.RegionSpace.TheVariants as kinds;
+ghost use Rattle.aml_world.specs.fields.Regions.{region_declared};
+ghost use Rattle.aml_world.specs.state.Run.{lift};
 ghost use Rattle.aml_meaning.specs.Meaning.{meaning};
 ghost use Rattle.aml_objects.specs.declared.entry.Field.TheVariants as fields;
 ghost use Rattle.aml_frames.specs.declared.uses.Accessed.TheVariants as object;
@@ -19,17 +17,17 @@ use crate::bank_access::{begin_banked, begin_units};
 use crate::index_access::begin_indexed;
 use crate::pci::begin_pci;
 use aml_fields::{
-    AddressSpace, Region, merge, read_buffer_field, read_field, write_buffer_field, write_field,
+    AddressSpace, Region, read_buffer_field, read_field, write_buffer_field, write_field,
 };
 use aml_frames::{
     Access, Accessed, Activation, BankedField, Doing, Next, Reading, RegionAccess, size_or_type,
+    unit_of,
 };
-use aml_meaning::{Flow, RegionField, RegionSpace, Running, space_numbered};
-use aml_objects::{
-    BufferField, Field, FieldSource, FieldUnit, Octets, OperationRegion, UpdateRule, Value,
-};
+use aml_meaning::{Flow, Running};
+use aml_objects::{BufferField, Field, FieldSource, FieldUnit, Octets, OperationRegion, Value};
 use aml_path::Path;
-use ar_space::{EvaluationFault, Refusal, Result, Space, Width};
+use aml_world::{RegionField, RegionSpace, space_numbered};
+use ar_space::{EvaluationFault, Refusal, Result, Space};
 
 /// An access of a field: of a buffer, of a region, or behind an index field and a data field.
 #[tactic(auto, using(crate::proofs::Addressing::fields))]
@@ -258,33 +256,5 @@ pub(crate) fn finish_read<S: Space>(
             let value = size_or_type(&run.world, inquiry, referent)?;
             Ok(Next::Flow(Flow::Value(value)))
         }
-    }
-}
-
-/// The unit that the bits of a data field make, cut or with zeros behind them.
-fn unit_of(width: Width, bytes: &[u8]) -> u64
-    ensures { result ≡ unit_of width bytes.now }
-{
-    merge(
-        UpdateRule::WriteAsZeros,
-        width,
-        0,
-        0,
-        bytes,
-        0,
-        bit_count(width),
-    )
-}
-
-/// How many bits an access of a width has.
-fn bit_count(width: Width) -> usize
-    ensures count { result ≡ bit_count width }
-    ensures few { result ≤ 64 }
-{
-    match width {
-        Width::W8 => 8,
-        Width::W16 => 16,
-        Width::W32 => 32,
-        Width::W64 => 64,
     }
 }

@@ -3,7 +3,7 @@
 //! of these accesses is waited for.
 ghost use Rattle.std.specs.Prelude.{◌<◌, ◌+◌, ◌*◌, Ok};
 ghost use Rattle.ar_space.specs.Outcome.{Answers};
-ghost use Rattle.aml_meaning.specs.Fields.{unit_bytes};
+ghost use Rattle.aml_world.specs.fields.Fields.{unit_bytes};
 ghost use Rattle.aml_meaning.specs.Meaning.{meaning};
 ghost use Rattle.aml_frames.specs.declared.indexed.UnitsLeft.TheVariants as units_left;
 ghost use Rattle.aml_frames.specs.Follow.{number_written_then, ends};
@@ -19,8 +19,9 @@ use aml_frames::{
     Access, Accessed, Activation, Boxed, Doing, Frame, IndexedField, Next, Reading, UnitReads,
     UnitWrites, UnitsLeft, is_kept, merge_unit, put_unit, value_of_call, zeros,
 };
-use aml_meaning::{Flow, RegionField, Running, integer_only};
+use aml_meaning::{Flow, Running};
 use aml_objects::{FieldUnit, Octets};
+use aml_world::{RegionField, integer_only};
 use ar_space::{Result, Space};
 use std::alloc::Global;
 

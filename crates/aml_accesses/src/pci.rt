@@ -2,9 +2,9 @@
 //! (ACPI 6.5, 5.5.2.4, 6.1.1, 6.5.5 and 6.5.6), and the bridges above it between the bus and the address. A control
 //! method or a field that gives one of them is waited for.
 ghost use Rattle.std.specs.Prelude.{◌≤◌, ◌+◌, ◌*◌, ◌++◌, ◌∷◌, [], IfOk, length};
+ghost use Rattle.aml_world.specs.fields.Fields.{inherited};
+ghost use Rattle.aml_world.specs.fields.PciFunctions.{adr};
 ghost use Rattle.aml_meaning.specs.Meaning.{meaning};
-ghost use Rattle.aml_meaning.specs.Fields.{inherited};
-ghost use Rattle.aml_meaning.specs.PciFunctions.{adr};
 ghost use Rattle.aml_frames.specs.Addresses.{pci_run, device_known, bridges_known, segment_known, bus_known};
 ghost use Rattle.aml_frames.specs.Addresses.{function_known, waited_met, part_met, Asks};
 ghost use Rattle.aml_frames.specs.Uses.{asking};
@@ -20,8 +20,9 @@ use aml_frames::{
     Access, Accessed, Activation, AddressPart, Asked, Boxed, Doing, Frame, FunctionAddress, Next,
     PciAccess, Reading, RegionAccess, Waited, value_of_call,
 };
-use aml_meaning::{Flow, Running, Sought, adr, base_bus, integer_only, pci_space, segment_group};
+use aml_meaning::{Flow, Running};
 use aml_path::{Path, Seg};
+use aml_world::{Sought, adr, base_bus, integer_only, pci_space, segment_group};
 use ar_space::{Result, Space};
 
 /// The function that a scope belongs to is found, and the parts of its address are asked for.
@@ -236,7 +237,7 @@ pub fn resume_address<S: Space>(
 }
 
 /// What the nearest object of a name answers, from a device on upward; 0 where there is none.
-#[tactic(auto, using(crate::proofs::Addressing::answering), unfolding(aml_meaning::specs::Fields::inherited))]
+#[tactic(auto, using(crate::proofs::Addressing::answering), unfolding(aml_world::specs::fields::Fields::inherited))]
 fn ask_inherited<S: Space>(
     run: &mut Running<S>,
     calls: usize,

@@ -67,8 +67,8 @@ abbrev pub logical_result_of : LogicalOperator → IntegerWidth → ℕ → ℕ 
 logical_result_of logical.And w x y = truth w (is_true x && is_true y)
 logical_result_of logical.Or w x y = truth w (is_true x || is_true y)
 
-abbrev pub negated : IntegerWidth → ℕ → ℕ
-negated w x = truth w (x == 0)
+abbrev pub lnot : IntegerWidth → ℕ → ℕ
+lnot w x = truth w (x == 0)
 
 -- whether an order is the one that is asked for
 abbrev pub holds : Comparison → Ordering → Bool

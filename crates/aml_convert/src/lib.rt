@@ -24,9 +24,7 @@ pub use decimals::{code_decimal, decode_decimal};
 pub use digits::Base;
 pub use formed::Formed;
 pub use integers::{explicit_integer, to_integer};
-pub use logic::{
-    Comparison, LogicalOperator, holds, is_true, logical_not, operate_logically, truth,
-};
+pub use logic::{Comparison, LogicalOperator, holds, is_true, lnot, operate_logically, truth};
 pub use matching::{MatchOperator, is_match};
 pub use operators::{BinaryOperator, Division, UnaryOperator, divide, operate, operate_on_one};
 pub use strings::{middle, to_decimal_string, to_hexadecimal_string, to_string};

@@ -1,7 +1,7 @@
 //! What is true (ACPI 6.5, 19.6.69 to 19.6.76).
 ghost use Rattle.std.specs.Prelude.{◌≡◌};
 ghost use Rattle.aml_convert.specs.Integers.{truth};
-ghost use Rattle.aml_convert.specs.Operators.{is_true, logical_result_of, negated, holds};
+ghost use Rattle.aml_convert.specs.Operators.{is_true, logical_result_of, lnot, holds};
 
 use crate::widths::ones;
 use ar_space::IntegerWidth;
@@ -47,8 +47,8 @@ pub fn operate_logically(operator: LogicalOperator, width: IntegerWidth, x: u64,
 }
 
 /// LNot of an integer.
-pub fn logical_not(width: IntegerWidth, x: u64) -> u64
-    ensures { result ≡ negated width x }
+pub fn lnot(width: IntegerWidth, x: u64) -> u64
+    ensures { result ≡ lnot width x }
 {
     truth(width, x == 0)
 }

@@ -5,15 +5,16 @@ use Rattle.ar_space.specs.Accesses.{Accesses}
 use Rattle.ar_space.specs.Outcome.{Outcome}
 use Rattle.ar_space.specs.Change.{Does, settle, go_on, ◌>>=◌}
 use Rattle.aml_grammar.specs.Tree.{Trees}
-use Rattle.aml_marked.specs.Marked.{a_name, an_integer, first, over}
+use Rattle.aml_marks.specs.Marked.{a_name, an_integer, first, over}
 use Rattle.aml_objects.specs.declared.entry.FieldSource.{FieldSource}
+use Rattle.aml_world.specs.state.State.{State}
+use Rattle.aml_world.specs.state.Run.{lift}
+use Rattle.aml_world.specs.fields.FieldLayouts.{field_found}
 use Rattle.aml_meaning.specs.declared.flow.Flow.{Flow}
 use Rattle.aml_meaning.specs.declared.term_kind.WideKind.TheVariants as wides
-use Rattle.aml_meaning.specs.State.{State}
 use Rattle.aml_meaning.specs.Meaning.{meaning}
 use Rattle.aml_meaning.specs.Tasks.{value_at}
-use Rattle.aml_meaning.specs.Run.{lift}
-use Rattle.aml_meaning.specs.FieldTerms.{field_found, fields_laid}
+use Rattle.aml_meaning.specs.FieldTerms.{fields_laid}
 use Rattle.aml_meaning.specs.BankTerms.{bank_list_rule}
 use Rattle.aml_frames.specs.declared.position.Position.{Position}
 use Rattle.aml_frames.specs.declared.frames.DeclarationPart.TheVariants as parts

@@ -2,10 +2,11 @@
 //! selects. The operands stand next.
 ghost use Rattle.std.specs.Prelude.{◌≡◌, ◌≤◌, IfOk};
 ghost use Rattle.ar_space.specs.Change.{Does};
-ghost use Rattle.aml_marked.specs.Marked.{a_name, an_integer, over};
-ghost use Rattle.aml_meaning.specs.FieldTerms.{region_found, field_found, fields_laid};
+ghost use Rattle.aml_marks.specs.Marked.{a_name, an_integer, over};
+ghost use Rattle.aml_world.specs.fields.FieldLayouts.{region_found, field_found};
+ghost use Rattle.aml_world.specs.state.Run.{lift};
+ghost use Rattle.aml_meaning.specs.FieldTerms.{fields_laid};
 ghost use Rattle.aml_meaning.specs.Meaning.{meaning};
-ghost use Rattle.aml_meaning.specs.Run.{lift};
 ghost use Rattle.aml_meaning.specs.declared.term_kind.WideKind.TheVariants as wides;
 ghost use Rattle.aml_frames.specs.Places.{at_place, terms};
 ghost use Rattle.aml_frames.specs.RegionTerms.{behind_name, bank_declared, bank_names_run};
@@ -53,7 +54,7 @@ fn begin_bank_names<S: Space>(
 }
 
 /// The number of the declaration of the operation region whose name stands next.
-#[tactic(auto, using(aml_meaning::proofs::Runs::running), unfolding(aml_marked::specs::Marked::a_name))]
+#[tactic(auto, using(aml_meaning::proofs::Runs::running), unfolding(aml_marks::specs::Marked::a_name))]
 fn take_region<S: Space>(run: &mut Running<S>, act: &mut Activation) -> Result<u64>
     ensures spent { run.new.1 ≤ run.old.1 }
     ensures change { Does result run.new (lift (region_found act.old.scope (a_name act.old.place).0)) run.old }
@@ -67,7 +68,7 @@ fn take_region<S: Space>(run: &mut Running<S>, act: &mut Activation) -> Result<u
 }
 
 /// The number of the declaration of the bank field whose name stands next.
-#[tactic(auto, using(aml_meaning::proofs::Runs::running), unfolding(aml_marked::specs::Marked::a_name))]
+#[tactic(auto, using(aml_meaning::proofs::Runs::running), unfolding(aml_marks::specs::Marked::a_name))]
 fn take_bank<S: Space>(run: &mut Running<S>, act: &mut Activation) -> Result<u64>
     ensures spent { run.new.1 ≤ run.old.1 }
     ensures change { Does result run.new (lift (field_found act.old.scope (a_name act.old.place).0)) run.old }

@@ -3,7 +3,7 @@
 ghost use Rattle.std.specs.Prelude.{◌≡◌, OnOk, Ok};
 ghost use Rattle.ar_space.specs.Change.{Does};
 ghost use Rattle.ar_space.specs.Outcome.{Answers, NotMemory};
-ghost use Rattle.aml_marked.specs.Marked.{a_text};
+ghost use Rattle.aml_marks.specs.Marked.{a_text};
 ghost use Rattle.aml_meaning.specs.declared.term_kind.DataKind.TheVariants as datas;
 ghost use Rattle.aml_meaning.specs.Meaning.{meaning};
 ghost use Rattle.aml_meaning.specs.DataTerms.{constant_rule};
@@ -87,7 +87,7 @@ fn begin_string<S: Space>(run: &mut Running<S>, act: &mut Activation) -> Result<
 }
 
 /// A string of the characters that stand before the next zero. Evaluation goes over them and the zero.
-#[tactic(auto, using(aml_meaning::proofs::Runs::running, aml_meaning::proofs::Lifted::parts))]
+#[tactic(auto, using(aml_meaning::proofs::Runs::running, aml_world::proofs::Lifted::parts))]
 pub fn make_text<S: Space>(run: &mut Running<S>, act: &mut Activation) -> Result<Value>
     ensures steps { run.new.1 ≡ run.old.1 }
     ensures made { Does result run.new (text_made act.old) run.old }

@@ -2,13 +2,13 @@
 //! next.
 ghost use Rattle.std.specs.Prelude.{◌≡◌, ◌≤◌, Ok};
 ghost use Rattle.ar_space.specs.Change.{Does};
-ghost use Rattle.aml_marked.specs.Marked.{a_name};
+ghost use Rattle.aml_marks.specs.Marked.{a_name};
 ghost use Rattle.aml_path.specs.Paths.{resolved};
 ghost use Rattle.ar_space.specs.Outcome.{Answers, NotMemory};
+ghost use Rattle.aml_world.specs.state.Declaring.{new_name};
 ghost use Rattle.aml_meaning.specs.Meaning.{meaning};
 ghost use Rattle.aml_meaning.specs.Tasks.{module_level};
 ghost use Rattle.aml_meaning.specs.DeclarationTerms.{declaring, alias_rule, method_rule};
-ghost use Rattle.aml_meaning.specs.Declaring.{new_name};
 ghost use Rattle.aml_frames.specs.declared.frames.Frame.TheVariants as frames;
 ghost use Rattle.aml_frames.specs.declared.frames.Next.TheVariants as next;
 ghost use Rattle.aml_frames.specs.Places.{at_place, terms};
@@ -23,10 +23,11 @@ use aml_frames::{
     Activation, Frame, MethodPath, Next, Position, bytes_operand, leave, number_operand, told,
 };
 use aml_grammar::TermReader;
-use aml_meaning::{DeclarationKind, Flow, Running, WorldState};
+use aml_meaning::{DeclarationKind, Flow, Running};
 use aml_objects::{MethodFlags, NamedObject, NodeId};
 use aml_path::{NameString, Path};
 use aml_terms::RowPlace;
+use aml_world::WorldState;
 use ar_space::{Result, Space};
 
 /// A term that declares something, or a Scope, by its kind and the place of its row: it is done, or its first part is
@@ -175,7 +176,7 @@ fn declare_method<S: Space>(
 // ---- names that are declared behind a value
 
 /// Name: its datum is evaluated.
-#[tactic(auto, using(aml_frames::proofs::Declaring::naming), unfolding(aml_marked::specs::Marked::a_name))]
+#[tactic(auto, using(aml_frames::proofs::Declaring::naming), unfolding(aml_marks::specs::Marked::a_name))]
 fn begin_named<S: Space>(run: &Running<S>, act: &mut Activation, levels: u8) -> Next
     ensures { Steps S.accesses 6 (Ok result) act.new run.now (
       named_run (meaning S.accesses) act.old levels,
@@ -221,7 +222,7 @@ pub(crate) fn declare_at<S: Space>(
 // ---- scopes: their lists stand in them
 
 /// Scope: its list is evaluated in the scope that its name finds.
-#[tactic(auto, using(aml_frames::proofs::Declaring::entering), unfolding(aml_frames::specs::Declarations::scope_run, aml_marked::specs::Marked::a_name))]
+#[tactic(auto, using(aml_frames::proofs::Declaring::entering), unfolding(aml_frames::specs::Declarations::scope_run, aml_marks::specs::Marked::a_name))]
 fn begin_scope<S: Space>(run: &mut Running<S>, act: &mut Activation, levels: u8) -> Result<Next>
     ensures { Steps S.accesses 10 result act.new run.new
         (scope_run (meaning S.accesses) act.old levels, at_place act.old (outside_at act.old.place)) run.old }
@@ -237,7 +238,7 @@ fn begin_scope<S: Space>(run: &mut Running<S>, act: &mut Activation, levels: u8)
 }
 
 /// Device, Processor, PowerResource or ThermalZone: its name is declared, and its list is evaluated in it.
-#[tactic(auto, using(aml_frames::proofs::Declaring::entering), unfolding(aml_frames::specs::Declarations::new_scope_run, aml_marked::specs::Marked::a_name))]
+#[tactic(auto, using(aml_frames::proofs::Declaring::entering), unfolding(aml_frames::specs::Declarations::new_scope_run, aml_marks::specs::Marked::a_name))]
 fn begin_new_scope<S: Space>(
     run: &mut Running<S>,
     act: &mut Activation,

@@ -14,9 +14,10 @@ ghost use Rattle.aml_frames.specs.Declarations.{coded_tree};
 
 use aml_frames::{Activation, is_named, list_operand, number_operand, told};
 use aml_grammar::{Opcode, TermCode, TermReader};
-use aml_meaning::{FieldGroup, FieldLayout, Flow, Running, WorldState, access_width, update_rule};
+use aml_meaning::{Flow, Running};
 use aml_objects::FieldSource;
 use aml_terms::{At, RowPlace};
+use aml_world::{FieldGroup, FieldLayout, WorldState, access_width, update_rule};
 use ar_space::{NameFault, Refusal, Result, Space};
 
 /// Field: the fields of an operation region.

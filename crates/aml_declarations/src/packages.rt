@@ -12,8 +12,9 @@ ghost use Rattle.aml_frames.specs.Weights.{next_weight, charged};
 ghost use Rattle.aml_frames.specs.Steps.{Steps, frame_at};
 
 use aml_frames::{Activation, Boxed, Frame, Next, Package, Position, integer_of};
-use aml_meaning::{Flow, MAX_ELEMENTS, Running};
+use aml_meaning::{Flow, Running};
 use aml_objects::{Element, Elements};
+use aml_world::MAX_ELEMENTS;
 use ar_space::{Result, Space};
 use std::alloc::Global;
 
@@ -134,7 +135,7 @@ fn finish_package<S: Space>(
 }
 
 /// A name is an element: it costs a step, and isn't searched for.
-#[tactic(auto, using(aml_frames::proofs::Forming::naming), unfolding(aml_frames::specs::Data::named_left, aml_marked::specs::Marked::a_name))]
+#[tactic(auto, using(aml_frames::proofs::Forming::naming), unfolding(aml_frames::specs::Data::named_left, aml_marks::specs::Marked::a_name))]
 fn put_name<S: Space>(
     run: &mut Running<S>,
     act: &mut Activation,

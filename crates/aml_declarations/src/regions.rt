@@ -17,9 +17,10 @@ use crate::declarations::{declare_at, done};
 use crate::field_lists::{declare_fields, declare_index_fields};
 use aml_fields::new_buffer_field;
 use aml_frames::{Activation, DeclarationPart, Frame, Next, Position, integer_of};
-use aml_meaning::{BufferFieldSize, Flow, RegionKind, Running, buffer_of, field_size};
+use aml_meaning::{Flow, RegionKind, Running};
 use aml_objects::{NamedObject, OperationRegion, Value};
 use aml_terms::RowPlace;
+use aml_world::{BufferFieldSize, buffer_of, field_size};
 use ar_space::{Result, Space};
 
 /// A term that declares an operation region, fields or a buffer field, by its kind and the place of its row: it is
@@ -58,7 +59,7 @@ pub fn begin_region_term<S: Space>(
 }
 
 /// OperationRegion: its offset is evaluated, behind its name and its address space.
-#[tactic(auto, unfolding(aml_marked::specs::Marked::a_name))]
+#[tactic(auto, unfolding(aml_marks::specs::Marked::a_name))]
 fn begin_operation_region<S: Space>(run: &Running<S>, act: &mut Activation, levels: u8) -> Next
     ensures { Steps S.accesses 6 (Ok result) act.new run.now (
       operation_region_run (meaning S.accesses) act.old levels,
@@ -196,7 +197,7 @@ fn declare_bits_field<S: Space>(
 }
 
 /// The name that stands next is declared.
-#[tactic(auto, using(crate::proofs::DeclaringFields::next_names), unfolding(aml_marked::specs::Marked::a_name))]
+#[tactic(auto, using(crate::proofs::DeclaringFields::next_names), unfolding(aml_marks::specs::Marked::a_name))]
 fn declare_next<S: Space>(
     run: &mut Running<S>,
     act: &mut Activation,

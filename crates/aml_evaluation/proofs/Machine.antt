@@ -7,21 +7,23 @@ use Rattle.ar_space.specs.declared.refusal.Refusal.TheVariants.{OutOfMemory}
 use Rattle.ar_space.specs.Outcome.{Outcome, NotMemory, seen}
 use Rattle.ar_space.specs.Change.{Does, Same, give, stop, settle, go_on, ◌>>=◌}
 use Rattle.aml_path.specs.declared.segment.Seg.{Seg}
-use Rattle.aml_marked.specs.Marked.{first, over, all_items, walk_levels}
+use Rattle.aml_marks.specs.Marked.{first, over, all_items, walk_levels}
 use Rattle.aml_objects.specs.declared.node.NodeId.{NodeId}
 use Rattle.aml_objects.specs.declared.value.Reference.{Reference}
 use Rattle.aml_objects.specs.declared.value.Value.{Value}
 use Rattle.aml_objects.specs.declared.value.Value.TheVariants as value
+use Rattle.aml_world.specs.state.State.{State}
+use Rattle.aml_world.specs.state.Run.{Run, charge}
+use Rattle.aml_world.specs.state.PassedOver.{is_passable}
+use Rattle.aml_world.specs.state.Noting.{with_passed}
+use Rattle.aml_world.specs.state.Invocations.{left}
 use Rattle.aml_meaning.specs.declared.flow.Flow.{Flow}
 use Rattle.aml_meaning.specs.declared.flow.Flow.TheVariants as flow
 use Rattle.aml_meaning.specs.declared.term_kind.OperatorKind.{OperatorKind}
 use Rattle.aml_meaning.specs.declared.term_kind.TermKind.TheVariants as kinds
-use Rattle.aml_meaning.specs.State.{State}
-use Rattle.aml_meaning.specs.Run.{Run, charge}
-use Rattle.aml_meaning.specs.PassedOver.{is_passable}
-use Rattle.aml_meaning.specs.Passing.{with_passed, item_done, passing}
+use Rattle.aml_meaning.specs.Passing.{item_done, passing}
 use Rattle.aml_meaning.specs.Tasks.{Task, passes_over, goes_on}
-use Rattle.aml_meaning.specs.Invocations.{left, returned_by, leaving}
+use Rattle.aml_meaning.specs.Calls.{returned_by, leaving}
 use Rattle.aml_frames.specs.declared.frames.Control.{Control}
 use Rattle.aml_frames.specs.declared.frames.Control.TheVariants as control
 use Rattle.aml_frames.specs.declared.frames.Entry.{Entry}
@@ -46,7 +48,7 @@ use Rattle.aml_frames.proofs.Stepping.{leads_goes_on, leads_goes_off, leads_item
 use Rattle.aml_frames.proofs.Weighing.{charged_step, step_enough, falling}
 use Rattle.aml_frames.proofs.ShortOperators.{begun_by_operator, behind_by_operator}
 use Rattle.aml_frames.specs.Operands.{row_kind}
-use Rattle.aml_frames.specs.ShortTerms.{row_alone}
+use Rattle.aml_frames.specs.at_once.ShortTerms.{row_alone}
 use Rattle.aml_frames.specs.Places.{Site, at_place, behind_term}
 use Rattle.aml_frames.specs.Data.{package_run}
 use Rattle.aml_frames.specs.Follow.{at_position, ends, turn_items, term_run, items_run, list_run, all_left, operator_run, behind_operator_at, body_run, resumed, next_run, next_ends, Leads}

@@ -2,9 +2,9 @@
 ghost use Rattle.std.specs.Prelude.{◌≡◌, ℕ, [], Ok};
 ghost use Rattle.ar_space.specs.Change.{Does};
 ghost use Rattle.ar_space.specs.Outcome.{Answers, seen};
-ghost use Rattle.aml_meaning.specs.Fields.{field_part};
+ghost use Rattle.aml_world.specs.fields.Fields.{field_part};
 ghost use Rattle.aml_meaning.specs.FieldCalls.{method_integer};
-ghost use Rattle.aml_meaning.specs.Invocations.{invoked, method_value};
+ghost use Rattle.aml_meaning.specs.Calls.{invoked, method_value};
 ghost use Rattle.aml_meaning.specs.Meaning.{meaning};
 ghost use Rattle.aml_frames.specs.Addresses.{waited_run};
 ghost use Rattle.aml_frames.specs.Uses.{asking};
@@ -12,10 +12,11 @@ ghost use Rattle.aml_frames.specs.Uses.{asking};
 use crate::stack::{access_field, evaluate};
 use aml_accesses::{ask, enter};
 use aml_frames::{Activation, Asked, MethodPath, Waited, value_of_call};
-use aml_meaning::{Flow, Running, integer_only};
+use aml_meaning::{Flow, Running};
 use aml_objects::{Body, Field, Octets, Value};
 use aml_path::Path;
 use aml_terms::{Arities, scan_list};
+use aml_world::integer_only;
 use ar_space::{Result, Space};
 
 /// Calls the control method at a path, with its body, where so many are being called already, and gives its value;
@@ -24,7 +25,7 @@ use ar_space::{Result, Space};
 ///
 /// Refused: `CallDepth` where 32 are being called, as a scan of the body refuses it, and as its evaluation is.
 /// `OutOfMemory` where memory runs out: then nothing is said of the world.
-#[tactic(auto, using(aml_meaning::proofs::Runs::running), unfolding(aml_meaning::specs::Invocations::method_value))]
+#[tactic(auto, using(aml_meaning::proofs::Runs::running), unfolding(aml_meaning::specs::Calls::method_value))]
 pub fn call_method<S: Space>(
     run: &mut Running<S>,
     depth: usize,

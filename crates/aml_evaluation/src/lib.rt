@@ -1,4 +1,4 @@
-//! The machine: one loop over a stack of frames in memory, in place of functions that call themselves.
+//! The machine: one loop over a stack of frames in memory, in place of functions that call themselves for terms in terms.
 //!
 //! Begin with `evaluation` (`call_method`, `ask_integer`) and `stack` (`evaluate_list`). The loop is in `stack`: it takes a term's first step
 //! (`terms`), or has the frame on top go on with what it waited for (`resuming`). Items of lists are in `lists`, those

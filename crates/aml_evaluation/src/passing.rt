@@ -5,8 +5,8 @@ ghost use Rattle.std.specs.Prelude.{◌≡◌, ◌+◌, ◌<◌, [], ◌∷◌, 
 ghost use Rattle.ar_space.specs.Change.{stop};
 ghost use Rattle.ar_space.specs.Outcome.{NotMemory};
 ghost use Rattle.ar_space.specs.declared.refusal.Refusal.TheVariants.{OutOfMemory};
+ghost use Rattle.aml_world.specs.state.PassedOver.{is_passable};
 ghost use Rattle.aml_meaning.specs.Meaning.{meaning};
-ghost use Rattle.aml_meaning.specs.PassedOver.{is_passable};
 ghost use Rattle.aml_meaning.specs.Tasks.{passes_over};
 ghost use Rattle.aml_frames.specs.declared.frames.Control.TheVariants as control;
 ghost use Rattle.aml_frames.specs.declared.frames.Entry.TheVariants as entry;

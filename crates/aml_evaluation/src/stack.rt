@@ -3,9 +3,10 @@ ghost use Rattle.std.specs.Prelude.{◌≡◌, ◌≢◌, ◌≤◌, ◌<◌, �
 ghost use Rattle.ar_space.specs.Change.{Does, stop};
 ghost use Rattle.ar_space.specs.Outcome.{NotMemory, seen};
 ghost use Rattle.ar_space.specs.declared.refusal.Refusal.TheVariants.{OutOfMemory};
-ghost use Rattle.aml_meaning.specs.Invocations.{left, returned_by};
+ghost use Rattle.aml_world.specs.state.Invocations.{left};
+ghost use Rattle.aml_world.specs.state.PassedOver.{is_passable};
+ghost use Rattle.aml_meaning.specs.Calls.{returned_by};
 ghost use Rattle.aml_meaning.specs.Meaning.{meaning};
-ghost use Rattle.aml_meaning.specs.PassedOver.{is_passable};
 ghost use Rattle.aml_frames.specs.declared.frames.Control.TheVariants as control;
 ghost use Rattle.aml_frames.specs.declared.frames.Entry.TheVariants as entry;
 ghost use Rattle.aml_frames.specs.declared.frames.Next.TheVariants as next;
@@ -13,10 +14,10 @@ ghost use Rattle.aml_frames.specs.declared.uses.Accessed.TheVariants as object;
 ghost use Rattle.aml_frames.specs.declared.uses.Doing.TheVariants as doing;
 ghost use Rattle.aml_frames.specs.declared.uses.Reading.TheVariants as reading;
 ghost use Rattle.aml_frames.specs.Follow.{body_run, list_run, all_left};
-ghost use Rattle.aml_marked.specs.Marked.{walk_levels};
+ghost use Rattle.aml_marks.specs.Marked.{walk_levels};
 ghost use Rattle.aml_frames.specs.Uses.{access_done};
 ghost use Rattle.aml_frames.specs.Stack.{whole, then_all, machine, stack_weight, entry_weight, control_weight};
-ghost use Rattle.aml_frames.specs.Stack.{Goes, Stepped, Follows, Turns};
+ghost use Rattle.aml_frames.specs.Stack.{Goes, Stepped, Follows, Turns, Waits};
 ghost use Rattle.aml_frames.specs.Weights.{next_weight, target_weight, access_weight, charged};
 
 use crate::lists::{next_item, step_items};
@@ -30,11 +31,12 @@ use aml_frames::{
     Access, Accessed, Activation, Boxed, Control, Doing, Entry, Frame, Items, MethodPath, Next,
     Package, PciAccess, Position, Reading, Target, TargetUse, give_up, tell_last, tell_place,
 };
-use aml_meaning::{Flow, Running, is_passable};
+use aml_meaning::{Flow, Running};
 use aml_objects::{Field, NodeId, Reference, Value};
 use aml_path::Path;
 use aml_targets::begin_target;
 use aml_terms::LEVELS;
+use aml_world::is_passable;
 use ar_space::{Refusal, Result, Space};
 
 /// Evaluates the body of a control method whose slots stand already, in one loop; `body` stands at its first byte.
@@ -44,7 +46,7 @@ use ar_space::{Refusal, Result, Space};
 pub fn evaluate<S: Space>(run: &mut Running<S>, body: Activation) -> Result<Flow>
     ensures { Does result run.new (body_run S.accesses (meaning S.accesses) body) run.old }
 {
-    let path = match body.share_scope() {
+    let path = match body.scope_path().share() {
         Ok(path) => path,
         Err(refusal) => {
             end_call(run, body.scope().path);
@@ -317,14 +319,11 @@ fn run_in<S: Space>(
 ) -> Result<Control>
     ensures steps { run.new.1 ≡ run.old.1 }
     ensures kept { OnOk result (run.new ≡ run.old) }
-    ensures act { OnOk result (stack.new.act ≡ body) }
-    ensures pushed { OnOk result (stack.new.entries.items ≡ stack.old.entries.items ++
-        entry.Leave stack.old.act body.scope ∷ []) }
-    ensures list { IfOk result (λ c. c ≡ control.Items (whole body)) }
+    ensures waits { Waits result stack.new.act stack.new.entries.items (entry.Leave stack.old.act body.scope)
+        (control.Items (whole body)) body stack.old.entries.items }
     ensures ended { IfErr result (λ e. run.new ≡ (left body.scope run.old.0, run.old.1)) }
-    ensures memory { IfErr result (λ e. e ≡ OutOfMemory) }
 {
-    let method = match body.get().share_scope() {
+    let method = match body.get().scope_path().share() {
         Ok(method) => method,
         Err(refusal) => {
             end_call(run, body.get().scope().path);

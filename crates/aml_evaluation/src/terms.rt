@@ -4,8 +4,8 @@ ghost use Rattle.std.specs.Prelude.{◌≡◌, ◌≢◌, ◌<◌, true, OnOk, I
 ghost use Rattle.aml_grammar.specs.Apart.{code_of};
 ghost use Rattle.aml_grammar.specs.declared.opcode.Opcode.{Opcode};
 ghost use Rattle.aml_grammar.specs.declared.opcode.TermCode.TheVariants as codes;
+ghost use Rattle.aml_world.specs.state.PassedOver.{is_passable};
 ghost use Rattle.aml_meaning.specs.Meaning.{meaning};
-ghost use Rattle.aml_meaning.specs.PassedOver.{is_passable};
 ghost use Rattle.aml_frames.specs.Places.{next_term, behind_term};
 ghost use Rattle.aml_frames.specs.Follow.{term_run, begun_run, coded_run, behind_coded, Leads, EndsAt};
 ghost use Rattle.aml_frames.specs.Weights.{step_weight, next_weight};

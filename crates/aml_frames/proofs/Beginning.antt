@@ -18,16 +18,16 @@ use Rattle.aml_grammar.specs.declared.kinds.Row.{Row}
 use Rattle.aml_grammar.specs.declared.opcode.TermCode.{TermCode}
 use Rattle.aml_grammar.specs.declared.opcode.TermCode.TheVariants as codes
 use Rattle.aml_grammar.specs.declared.opcode.Opcode.{Opcode}
-use Rattle.aml_marked.specs.Marked.{Place, Below, Walk, after, gives, count_at, a_term, a_name, a_call, turns_of, with_row}
+use Rattle.aml_marks.specs.Marked.{Place, Below, Walk, after, gives, count_at, a_term, a_name, a_call, turns_of, with_row}
 use Rattle.aml_scan.specs.RowsAt.{row_at}
 use Rattle.aml_scan.specs.declared.row_places.RowPlace.{RowPlace}
+use Rattle.aml_world.specs.state.State.{State}
+use Rattle.aml_world.specs.state.Run.{Run, lift}
+use Rattle.aml_world.specs.state.Invocations.{invocation_found}
 use Rattle.aml_meaning.specs.declared.flow.Flow.{Flow}
 use Rattle.aml_meaning.specs.declared.term_kind.TermKind.TheVariants as kinds
-use Rattle.aml_meaning.specs.State.{State}
-use Rattle.aml_meaning.specs.Run.{Run, lift}
 use Rattle.aml_meaning.specs.Terms.{kind_of, count_of}
 use Rattle.aml_meaning.specs.Tasks.{Task}
-use Rattle.aml_meaning.specs.Invocations.{invocation_found}
 use Rattle.aml_meaning.specs.InvocationTerms.{name_value, invocation_rule}
 use Rattle.aml_meaning.specs.Evaluation.{kind_rule, code_rule}
 use Rattle.aml_meaning.specs.Meaning.{meaning}

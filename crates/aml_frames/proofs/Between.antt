@@ -3,9 +3,9 @@ use Rattle.std.specs.Prelude.{◌≡◌, ℕ, ◌+◌, ◌-◌, ◌≤◌, ◌<�
 use Rattle.std.proofs.Common.{◌∙◌, sym, ap, subst, arith, length-drop}
 use Rattle.std.proofs.lemmas.List.{drop-drop, drop-take, take_min, take_rest, length-take}
 use Rattle.aml_grammar.specs.declared.kinds.Row.{Row}
-use Rattle.aml_marked.specs.Marked.{Place, Below, past, over, first, name_length, count_at, a_term, a_target, a_size, turns_of, with_row, maybe_else}
-use Rattle.aml_marked.specs.Moving.{MovesOn}
-use Rattle.aml_marked.proofs.Onward.{moves_over, moves_on_term, moves_on_row, moves_on_target, moves_on_turns, moves_on_else, moves_on_size}
+use Rattle.aml_marks.specs.Marked.{Place, Below, past, over, first, name_length, count_at, a_term, a_target, a_size, turns_of, with_row, maybe_else}
+use Rattle.aml_marks.specs.Moving.{MovesOn}
+use Rattle.aml_marks.proofs.Onward.{moves_over, moves_on_term, moves_on_row, moves_on_target, moves_on_turns, moves_on_else, moves_on_size}
 use Rattle.aml_frames.specs.Places.{Site, Stands, place_between, end_of, at_place, terms, behind_term}
 
 prefix : (n : ℕ) (xs : List ℕ) → take (length (take n xs)) xs ≡ take n xs

@@ -12,11 +12,11 @@ use Rattle.aml_grammar.specs.Names.{starts_name}
 use Rattle.aml_grammar.specs.Shape.{parts_of}
 use Rattle.aml_grammar.specs.Table.{row_of}
 use Rattle.aml_grammar.specs.Tree.{Tree, term, name}
-use Rattle.aml_marked.specs.Marked.{Place, Below, first, a_name, an_opcode, a_coded, a_call, a_term, a_term_in, with_row, after, gives, no_term}
-use Rattle.aml_marked.proofs.Walking.{some_levels}
+use Rattle.aml_marks.specs.Marked.{Place, Below, first, a_name, an_opcode, a_coded, a_call, a_term, a_term_in, with_row, after, gives, no_term}
+use Rattle.aml_marks.proofs.Walking.{some_levels}
 use Rattle.aml_grammar.specs.Grammar.{is_if}
-use Rattle.aml_meaning.specs.State.{State}
-use Rattle.aml_meaning.specs.Run.{Run, charge}
+use Rattle.aml_world.specs.state.State.{State}
+use Rattle.aml_world.specs.state.Run.{Run, charge}
 use Rattle.aml_meaning.specs.Tasks.{task, operand_value}
 use Rattle.aml_meaning.specs.Meaning.{meaning}
 use Rattle.aml_meaning.specs.Evaluation.{rule}

@@ -10,18 +10,18 @@ use Rattle.aml_grammar.specs.Apart.{code_of}
 use Rattle.aml_grammar.specs.Shape.{trees_of, parts_of}
 use Rattle.aml_grammar.specs.State.{little_endian}
 use Rattle.aml_grammar.specs.Tree.{Tree, Trees, term, name, no_trees, tree}
-use Rattle.aml_marked.specs.Marked.{Place, Walk, first, an_integer, over, count_at, a_name, a_call, a_term, all_items, to_end}
-use Rattle.aml_marked.proofs.Walking.{one_more, at_end, no_more}
+use Rattle.aml_marks.specs.Marked.{Place, Walk, first, an_integer, over, count_at, a_name, a_call, a_term, all_items, to_end}
+use Rattle.aml_marks.proofs.Walking.{one_more, at_end, no_more}
 use Rattle.aml_objects.specs.declared.object.Element.{Element}
 use Rattle.aml_objects.specs.declared.object.Element.TheVariants as element
 use Rattle.aml_objects.specs.declared.value.Value.{Value}
 use Rattle.aml_objects.specs.declared.value.Value.TheVariants as value
+use Rattle.aml_world.specs.state.State.{State}
+use Rattle.aml_world.specs.state.Run.{Run, lift, charge}
+use Rattle.aml_world.specs.state.Readings.{integer_in}
+use Rattle.aml_world.specs.state.NewObjects.{within, new_buffer}
 use Rattle.aml_meaning.specs.declared.flow.Flow.{Flow}
 use Rattle.aml_meaning.specs.declared.flow.Flow.TheVariants as flow
-use Rattle.aml_meaning.specs.State.{State}
-use Rattle.aml_meaning.specs.Run.{Run, lift, charge}
-use Rattle.aml_meaning.specs.Readings.{integer_in}
-use Rattle.aml_meaning.specs.NewObjects.{within, new_buffer}
 use Rattle.aml_meaning.specs.Tasks.{Task, operand_value}
 use Rattle.aml_meaning.specs.Meaning.{meaning}
 use Rattle.aml_meaning.specs.DataTerms.{buffer_rule, package_rule, var_package_rule, package_of, element_by, named_element, valued_element, elements_in_turn}

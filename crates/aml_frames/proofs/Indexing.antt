@@ -20,13 +20,13 @@ use Rattle.aml_fields.specs.declared.field_units.Unit.{Unit as UnitAccess}
 use Rattle.aml_fields.specs.Covering.{Cover}
 use Rattle.aml_fields.specs.Units.{units_of}
 use Rattle.aml_fields.proofs.Covers.{units_cover}
+use Rattle.aml_world.specs.declared.fields.regions.RegionField.{RegionField}
+use Rattle.aml_world.specs.state.State.{State}
+use Rattle.aml_world.specs.state.Run.{Run, lift}
+use Rattle.aml_world.specs.fields.Regions.{field_declared}
+use Rattle.aml_world.specs.fields.Fields.{unit_bytes, region_written, index_unit_written, index_bits, index_written, field_unit_bits, field_unit_written}
 use Rattle.aml_meaning.specs.declared.flow.Flow.TheVariants as flow
-use Rattle.aml_meaning.specs.declared.regions.RegionField.{RegionField}
-use Rattle.aml_meaning.specs.State.{State}
-use Rattle.aml_meaning.specs.Run.{Run, lift}
 use Rattle.aml_meaning.specs.Meaning.{meaning}
-use Rattle.aml_meaning.specs.Regions.{field_declared}
-use Rattle.aml_meaning.specs.Fields.{unit_bytes, region_written, index_unit_written, index_bits, index_written, field_unit_bits, field_unit_written}
 use Rattle.aml_frames.specs.declared.indexed.IndexedField.{IndexedField}
 use Rattle.aml_frames.specs.declared.uses.Accessed.TheVariants as object
 use Rattle.aml_frames.specs.declared.uses.Doing.{Doing}

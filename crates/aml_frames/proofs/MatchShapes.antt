@@ -5,7 +5,7 @@ use Rattle.aml_grammar.specs.declared.opcode.TermCode.TheVariants as codes
 use Rattle.aml_grammar.specs.declared.kinds.OperandKind.{OperandKind}
 use Rattle.aml_grammar.specs.declared.kinds.Row.{Row}
 use Rattle.aml_grammar.specs.Tree.{term, Part}
-use Rattle.aml_marked.specs.Marked.{Place, Below, Walk, gives, all_operands, with_row}
+use Rattle.aml_marks.specs.Marked.{Place, Below, Walk, gives, all_operands, with_row}
 use Rattle.aml_frames.specs.Operands.{match_at, behind_match}
 use Rattle.aml_frames.proofs.OperandShapes.{◌and◌, is_argument, is_byte, is_plain, both, Reads, argument_reads, byte_reads, one_more, plain_row}
 

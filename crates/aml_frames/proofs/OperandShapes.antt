@@ -10,7 +10,7 @@ use Rattle.aml_grammar.specs.Grammar.{is_if, is_nothing, kinds_of}
 use Rattle.aml_grammar.specs.Shape.{parts_of}
 use Rattle.aml_grammar.specs.Table.{table}
 use Rattle.aml_grammar.specs.Tree.{term, Part, name, number, bytes, inner, list, no_parts, part}
-use Rattle.aml_marked.specs.Marked.{Place, Below, Walk, to_part, list_part, over, after, gives, inside, an_operand, all_operands, of_row, with_row, a_name, a_target, a_super_name, all_items, fields_left, all_left, a_text, an_integer, maybe_else}
+use Rattle.aml_marks.specs.Marked.{Place, Below, Walk, to_part, list_part, over, after, gives, inside, an_operand, all_operands, of_row, with_row, a_name, a_target, a_super_name, all_items, fields_left, all_left, a_text, an_integer, maybe_else}
 use Rattle.aml_scan.specs.RowsAt.{row_at}
 use Rattle.aml_scan.specs.declared.row_places.RowPlace.{RowPlace}
 use Rattle.aml_meaning.specs.declared.term_kind.TermKind.{TermKind}
@@ -21,8 +21,8 @@ use Rattle.aml_meaning.specs.declared.term_kind.RegionKind.TheVariants as region
 use Rattle.aml_meaning.specs.declared.term_kind.OperatorKind.TheVariants as operator
 use Rattle.aml_meaning.specs.declared.term_kind.StatementKind.TheVariants as statement
 use Rattle.aml_meaning.specs.declared.term_kind.WideKind.TheVariants as wide
-use Rattle.aml_meaning.specs.declared.store_target.TargetKind.{TargetKind}
-use Rattle.aml_meaning.specs.declared.store_target.TargetKind.TheVariants as target
+use Rattle.aml_meaning.specs.declared.term_kind.TargetKind.{TargetKind}
+use Rattle.aml_meaning.specs.declared.term_kind.TargetKind.TheVariants as target
 use Rattle.aml_meaning.specs.Terms.{kind_of, target_kind}
 use Rattle.aml_frames.specs.Operands.{bank_at, elements_at, behind_one, behind_two, inside_at, outside_at, items_at, row_kind}
 use Rattle.aml_frames.specs.Declarations.{datum_at, scope_at, power_resource_at, processor_at}
@@ -107,7 +107,7 @@ fits (term.Operator (operator.Two k)) row = is_plain row and is_argument row.3.0
 fits (term.Operator operator.Divide) row = is_plain row and is_argument row.3.0 and is_argument row.3.1 and is_target row.3.2 and is_target row.3.3 and is_nothing row.3.4
 fits (term.Operator (operator.One k)) row = is_plain row and is_argument row.3.0 and is_target row.3.1 and is_nothing row.3.2
 fits (term.Operator (operator.Test k)) row = is_plain row and is_argument row.3.0 and is_argument row.3.1 and is_nothing row.3.2
-fits (term.Operator operator.LogicalNot) row = is_plain row and is_argument row.3.0 and is_nothing row.3.1
+fits (term.Operator operator.LNot) row = is_plain row and is_argument row.3.0 and is_nothing row.3.1
 fits (term.Operator (operator.Count k)) row = is_plain row and is_super row.3.0 and is_nothing row.3.1
 fits (term.Operator operator.SizeOf) row = is_plain row and is_super row.3.0 and is_nothing row.3.1
 fits (term.Operator operator.ObjectType) row = is_plain row and is_super row.3.0 and is_nothing row.3.1

@@ -8,12 +8,13 @@ use Rattle.aml_grammar.specs.declared.opcode.TermCode.TheVariants as codes
 use Rattle.aml_grammar.specs.declared.kinds.Row.{Row}
 use Rattle.aml_grammar.specs.Tree.{Tree, term, Part, null, name, number, bytes, inner, list, Parts, no_parts}
 use Rattle.aml_grammar.specs.Apart.{code_of}
-use Rattle.aml_marked.specs.Marked.{Place, Below, a_name, a_text, with_row}
+use Rattle.aml_marks.specs.Marked.{Place, Below, a_name, a_text, with_row}
 use Rattle.aml_scan.specs.RowsAt.{row_at}
 use Rattle.aml_scan.specs.declared.row_places.RowPlace.{RowPlace}
+use Rattle.aml_world.specs.state.Run.{Run}
 use Rattle.aml_meaning.specs.declared.flow.Flow.{Flow}
-use Rattle.aml_meaning.specs.declared.store_target.TargetKind.{TargetKind}
-use Rattle.aml_meaning.specs.declared.store_target.TargetKind.TheVariants as targets
+use Rattle.aml_meaning.specs.declared.term_kind.TargetKind.{TargetKind}
+use Rattle.aml_meaning.specs.declared.term_kind.TargetKind.TheVariants as targets
 use Rattle.aml_meaning.specs.declared.term_kind.TermKind.{TermKind}
 use Rattle.aml_meaning.specs.declared.term_kind.TermKind.TheVariants as kinds
 use Rattle.aml_meaning.specs.declared.term_kind.DataKind.{DataKind}
@@ -26,14 +27,13 @@ use Rattle.aml_meaning.specs.declared.term_kind.RegionKind.{RegionKind}
 use Rattle.aml_meaning.specs.declared.term_kind.RegionKind.TheVariants as regions
 use Rattle.aml_meaning.specs.declared.term_kind.StatementKind.{StatementKind}
 use Rattle.aml_meaning.specs.declared.term_kind.StatementKind.TheVariants as statements
-use Rattle.aml_meaning.specs.Run.{Run}
 use Rattle.aml_meaning.specs.Tasks.{Task, value_at, two_values}
 use Rattle.aml_meaning.specs.Terms.{target_kind, kind_of}
 use Rattle.aml_meaning.specs.TargetTerms.{target_at, targeted, name_target}
 use Rattle.aml_meaning.specs.DataTerms.{integer_rule, string_rule, buffer_rule, package_rule, var_package_rule, data_rule}
 use Rattle.aml_meaning.specs.DeclarationTerms.{declaring, name_rule, alias_rule, method_rule, scope_rule, new_scope, declaration_rule}
 use Rattle.aml_meaning.specs.FieldTerms.{region_rule, field_list_rule, index_list_rule, sized_field_rule, bits_field_rule, region_term_rule}
-use Rattle.aml_meaning.specs.OperatorTerms.{store_rule, copy_rule, two_rule, divide_rule, one_rule, test_rule, not_rule, count_rule, referent_of_target, referent_by_kind, referent_by, size_rule, type_rule, acquire_rule, reference_rule, dereference_rule, sought_name, sought_target, reference_stored, conditional_rule, operator_rule}
+use Rattle.aml_meaning.specs.OperatorTerms.{store_rule, copy_rule, two_rule, divide_rule, one_rule, test_rule, lnot_rule, count_rule, referent_of_target, referent_by_kind, referent_by, size_rule, type_rule, acquire_rule, reference_rule, dereference_rule, sought_name, sought_target, reference_stored, conditional_rule, operator_rule}
 use Rattle.aml_meaning.specs.StatementTerms.{if_rule, else_rule, while_rule, return_rule, release_rule, notify_rule, pause_rule, fatal_rule, statement_rule}
 use Rattle.aml_meaning.specs.declared.term_kind.WideKind.{WideKind}
 use Rattle.aml_meaning.specs.declared.term_kind.WideKind.TheVariants as wides
@@ -65,7 +65,7 @@ operator_shape b (operators.Two k) o p e = let x = stands (kinds.Operator (opera
 operator_shape b operators.Divide o p e = let x = stands (kinds.Operator operators.Divide) o e (λ h. absurd (cc h)) in shaped x.0 x.1.0 (arguments_targets b x.0 p x.1.1)
 operator_shape b (operators.One k) o p e = let x = stands (kinds.Operator (operators.One k)) o e (λ h. absurd (cc h)) in shaped x.0 x.1.0 (argument_target b x.0 p x.1.1)
 operator_shape b (operators.Test k) o p e = let x = stands (kinds.Operator (operators.Test k)) o e (λ h. absurd (cc h)) in shaped x.0 x.1.0 (two_arguments b x.0 p x.1.1)
-operator_shape b operators.LogicalNot o p e = let x = stands (kinds.Operator operators.LogicalNot) o e (λ h. absurd (cc h)) in shaped x.0 x.1.0 (an_argument b x.0 p x.1.1)
+operator_shape b operators.LNot o p e = let x = stands (kinds.Operator operators.LNot) o e (λ h. absurd (cc h)) in shaped x.0 x.1.0 (an_argument b x.0 p x.1.1)
 operator_shape b (operators.Count k) o p e = let x = stands (kinds.Operator (operators.Count k)) o e (λ h. absurd (cc h)) in shaped x.0 x.1.0 (a_super b x.0 p x.1.1)
 operator_shape b operators.SizeOf o p e = let x = stands (kinds.Operator operators.SizeOf) o e (λ h. absurd (cc h)) in shaped x.0 x.1.0 (a_super b x.0 p x.1.1)
 operator_shape b operators.ObjectType o p e = let x = stands (kinds.Operator operators.ObjectType) o e (λ h. absurd (cc h)) in shaped x.0 x.1.0 (a_super b x.0 p x.1.1)
@@ -165,7 +165,7 @@ module _ {S : Type 0} (accesses : Accesses S) (ev : Task → Run S Flow) (scope 
   same_referent ps (Some (list ts)) = refl
 
   pub same_operator : (k : OperatorKind) (ps : Parts) → operator_rule accesses ev k scope depth (term c ps) ≡ operator_rule accesses ev k scope depth (term d ps)
-  unfolding store_rule copy_rule two_rule divide_rule one_rule test_rule not_rule count_rule size_rule type_rule acquire_rule reference_rule dereference_rule conditional_rule value_at two_values targeted name_target referent_of_target sought_name sought_target reference_stored
+  unfolding store_rule copy_rule two_rule divide_rule one_rule test_rule lnot_rule count_rule size_rule type_rule acquire_rule reference_rule dereference_rule conditional_rule value_at two_values targeted name_target referent_of_target sought_name sought_target reference_stored
   same_operator (operators.Slot slot) ps = refl
   same_operator operators.Store ps = refl
   same_operator operators.CopyObject ps = refl
@@ -173,7 +173,7 @@ module _ {S : Type 0} (accesses : Accesses S) (ev : Task → Run S Flow) (scope 
   same_operator operators.Divide ps = refl
   same_operator (operators.One k) ps = refl
   same_operator (operators.Test k) ps = refl
-  same_operator operators.LogicalNot ps = refl
+  same_operator operators.LNot ps = refl
   same_operator (operators.Count k) ps = refl
   same_operator operators.SizeOf ps = refl
   same_operator operators.ObjectType ps = refl

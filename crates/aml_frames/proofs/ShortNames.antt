@@ -16,8 +16,8 @@ use Rattle.aml_grammar.specs.State.{State as Reading, bad_name, past, byte, peek
 use Rattle.aml_grammar.specs.Names.{carets, segments_at, name_at, starts_name, lead_name_char, name_char, segment, segments, parents, relative_name, name_string}
 use Rattle.aml_grammar.specs.Shape.{parts_of, trees_of}
 use Rattle.aml_grammar.specs.Tree.{Tree, term, Part, name, list, no_trees}
-use Rattle.aml_marked.specs.Marked.{Place, Below, count_at, over, first, after, gives, prefix_length, segments_length, name_length, bare_state, or_root, a_name, a_super_name, a_call, a_term_in, a_term}
-use Rattle.aml_marked.proofs.Walking.{some_levels, no_turns}
+use Rattle.aml_marks.specs.Marked.{Place, Below, count_at, over, first, after, gives, prefix_length, segments_length, name_length, bare_state, or_root, a_name, a_super_name, a_call, a_term_in, a_term}
+use Rattle.aml_marks.proofs.Walking.{some_levels, no_turns}
 use Rattle.aml_objects.specs.declared.entry.Entry.{Entry}
 use Rattle.aml_objects.specs.declared.entry.NamedObject.TheVariants as object
 use Rattle.aml_objects.specs.declared.entry.FieldUnit.{FieldUnit}
@@ -30,37 +30,37 @@ use Rattle.aml_namespace.specs.Namespace.{numbered}
 use Rattle.aml_namespace.specs.OneSegment.{segment_name}
 use Rattle.aml_namespace.specs.Search.{found, found_or_not}
 use Rattle.aml_namespace.proofs.Numbering.{numbered_stands}
+use Rattle.aml_world.specs.declared.state.invocation.Invocation.TheVariants as invocation
+use Rattle.aml_world.specs.declared.values.store_target.StoreTarget.TheVariants as targets
+use Rattle.aml_world.specs.declared.values.store_target.Stored.TheVariants as store
+use Rattle.aml_world.specs.declared.values.store_target.Held.TheVariants as held
+use Rattle.aml_world.specs.declared.values.operation_kind.Count.{Count}
+use Rattle.aml_world.specs.state.State.{State}
+use Rattle.aml_world.specs.state.Run.{Run, lift, charge}
+use Rattle.aml_world.specs.state.Readings.{path_found, integer_in}
+use Rattle.aml_world.specs.fields.Fields.{field_value, field_stored}
+use Rattle.aml_world.specs.values.Stores.{stored}
+use Rattle.aml_world.specs.values.StoreTargets.{held_at, name_read, target_read, target_named}
+use Rattle.aml_world.specs.values.Operations.{counted_by}
+use Rattle.aml_world.specs.state.Mutexes.{acquired_at, given_back_at}
+use Rattle.aml_world.specs.state.Invocations.{use_found}
+use Rattle.aml_world.proofs.Uses.{found_is, used}
 use Rattle.aml_meaning.specs.declared.flow.Flow.{Flow}
 use Rattle.aml_meaning.specs.declared.flow.Flow.TheVariants as flow
-use Rattle.aml_meaning.specs.declared.invocation.Invocation.TheVariants as invocation
-use Rattle.aml_meaning.specs.declared.store_target.StoreTarget.TheVariants as targets
-use Rattle.aml_meaning.specs.declared.store_target.Stored.TheVariants as store
-use Rattle.aml_meaning.specs.declared.store_target.Held.TheVariants as held
-use Rattle.aml_meaning.specs.declared.term_kind.Count.{Count}
-use Rattle.aml_meaning.specs.State.{State}
-use Rattle.aml_meaning.specs.Run.{Run, lift, charge}
-use Rattle.aml_meaning.specs.Readings.{path_found, integer_in}
 use Rattle.aml_meaning.specs.Tasks.{Task, task}
-use Rattle.aml_meaning.specs.Fields.{field_value, field_stored}
-use Rattle.aml_meaning.specs.Stores.{stored}
-use Rattle.aml_meaning.specs.StoreTargets.{held_at, name_read, target_read}
-use Rattle.aml_meaning.specs.OperatorTerms.{counted_by}
-use Rattle.aml_meaning.specs.Mutexes.{acquired_at, given_back_at}
-use Rattle.aml_meaning.specs.TargetTerms.{target_named, part_target}
+use Rattle.aml_meaning.specs.TargetTerms.{part_target}
 use Rattle.aml_meaning.specs.FieldCalls.{asked, answer_within, called_at, stored_to}
-use Rattle.aml_meaning.specs.Invocations.{use_found}
 use Rattle.aml_meaning.specs.InvocationTerms.{field_rule, invocation_rule, name_value}
 use Rattle.aml_meaning.specs.Evaluation.{rule}
 use Rattle.aml_meaning.specs.Meaning.{meaning}
 use Rattle.aml_meaning.proofs.Agree.{not_zero}
 use Rattle.aml_meaning.proofs.Meanings.{does_meaning}
 use Rattle.aml_meaning.proofs.Runs.{lift_ok}
-use Rattle.aml_meaning.proofs.Uses.{found_is, used}
 use Rattle.aml_frames.specs.declared.uses.TargetUse.TheVariants as uses
 use Rattle.aml_frames.specs.Places.{Site, at_place, terms, behind_term}
 use Rattle.aml_frames.specs.Follow.{term_run}
 use Rattle.aml_frames.specs.Uses.{super, behind_target as behind_super_of, target_ends, target_run, stored_at, counted_back}
-use Rattle.aml_frames.specs.ShortNames.{IsSegmentAt, FindsAt, node_value, Reads, Puts}
+use Rattle.aml_frames.specs.at_once.ShortNames.{IsSegmentAt, FindsAt, node_value, Reads, Puts}
 
 -- ---- a segment that stands next is a name
 

@@ -4,21 +4,20 @@ use Rattle.std.proofs.Common.{◌∙◌, ap, sym}
 use Rattle.ar_space.specs.Accesses.{Accesses}
 use Rattle.ar_space.specs.Outcome.{Outcome}
 use Rattle.ar_space.specs.Change.{Change, Does, give, settle, go_on, ◌>>=◌}
-use Rattle.aml_marked.specs.Marked.{first, over}
+use Rattle.aml_marks.specs.Marked.{first, over}
 use Rattle.aml_objects.specs.declared.value.Value.{Value}
 use Rattle.aml_objects.specs.declared.value.Value.TheVariants as value
+use Rattle.aml_world.specs.declared.values.store_target.StoreTarget.TheVariants as targets
+use Rattle.aml_world.specs.declared.values.operation_kind.TwoOperands.{TwoOperands}
+use Rattle.aml_world.specs.declared.values.operation_kind.Test.{Test}
+use Rattle.aml_world.specs.state.State.{State}
+use Rattle.aml_world.specs.state.Run.{Run, lift}
+use Rattle.aml_world.specs.values.Operations.{lnot_in, result_of_two, result_of_test}
 use Rattle.aml_meaning.specs.declared.flow.Flow.{Flow}
 use Rattle.aml_meaning.specs.declared.flow.Flow.TheVariants as flow
-use Rattle.aml_meaning.specs.declared.store_target.StoreTarget.TheVariants as targets
 use Rattle.aml_meaning.specs.declared.term_kind.OperatorKind.TheVariants as operators
-use Rattle.aml_meaning.specs.declared.term_kind.TwoOperands.{TwoOperands}
-use Rattle.aml_meaning.specs.declared.term_kind.Test.{Test}
-use Rattle.aml_meaning.specs.State.{State}
-use Rattle.aml_meaning.specs.Run.{Run, lift}
 use Rattle.aml_meaning.specs.Meaning.{meaning}
 use Rattle.aml_meaning.specs.FieldCalls.{stored_to}
-use Rattle.aml_meaning.specs.Operations.{turned}
-use Rattle.aml_meaning.specs.OperatorTerms.{result_of_two, result_of_test}
 use Rattle.aml_frames.specs.declared.frames.Frame.TheVariants as frames
 use Rattle.aml_frames.specs.declared.frames.Next.{Next}
 use Rattle.aml_frames.specs.declared.frames.Next.TheVariants as next
@@ -92,12 +91,12 @@ module _ {S : Type 0} {ac : Accesses S} where
 
   pub not_leads : {f : Site} {s s1 : State S × ℕ} (c d : Site) (levels x n : ℕ)
       → Does (Ok (flow.Value (value.Integer x))) s1 (term_run ac (meaning ac) c levels) s → d ≡ behind_term c levels
-      → Does (Ok (value.Integer n)) s1.0 (turned (value.Integer x)) s1.0
-      → Leads ac (meaning ac) (leaves n) f s1 (operator_run ac (meaning ac) operators.LogicalNot c levels) s
+      → Does (Ok (value.Integer n)) s1.0 (lnot_in (value.Integer x)) s1.0
+      → Leads ac (meaning ac) (leaves n) f s1 (operator_run ac (meaning ac) operators.LNot c levels) s
   not_leads c d levels x n g there is =
-      leads_on (next.Term levels (frames.Operand monadic.LogicalNot levels)) c _
-      (taken_known c levels x (frames.Operand monadic.LogicalNot levels) g there
-      (leads_settled (value.Integer x) (λ v. monadic_done ac (meaning ac) monadic.LogicalNot levels v d) (lifted (value.Integer n) _ _ is (left n))))
+      leads_on (next.Term levels (frames.Operand monadic.LNot levels)) c _
+      (taken_known c levels x (frames.Operand monadic.LNot levels) g there
+      (leads_settled (value.Integer x) (λ v. monadic_done ac (meaning ac) monadic.LNot levels v d) (lifted (value.Integer n) _ _ is (left n))))
       (leads_not levels)
 
   -- what a step leaves that finishes its term

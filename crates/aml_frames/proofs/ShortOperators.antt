@@ -8,21 +8,21 @@ use Rattle.aml_grammar.specs.declared.kinds.Row.{Row}
 use Rattle.aml_grammar.specs.Names.{starts_name}
 use Rattle.aml_grammar.specs.Table.{table, row_of}
 use Rattle.aml_grammar.specs.Tree.{Tree}
-use Rattle.aml_marked.specs.Marked.{Place, count_at, first, over, with_row, a_term}
+use Rattle.aml_marks.specs.Marked.{Place, count_at, first, over, with_row, a_term}
 use Rattle.aml_scan.specs.RowPlaces.{place_of}
 use Rattle.aml_scan.specs.RowsAt.{row_at}
 use Rattle.aml_scan.specs.declared.row_places.RowPlace.{RowPlace}
 use Rattle.aml_scan.proofs.RowPlaces.{row_there}
+use Rattle.aml_world.specs.state.State.{State}
+use Rattle.aml_world.specs.state.Run.{Run, charge}
 use Rattle.aml_meaning.specs.declared.term_kind.OperatorKind.{OperatorKind}
 use Rattle.aml_meaning.specs.declared.term_kind.TermKind.TheVariants as kinds
-use Rattle.aml_meaning.specs.State.{State}
-use Rattle.aml_meaning.specs.Run.{Run, charge}
 use Rattle.aml_meaning.specs.Evaluation.{rule}
 use Rattle.aml_meaning.specs.Meaning.{meaning}
 use Rattle.aml_frames.specs.declared.frames.Next.{Next}
 use Rattle.aml_frames.specs.Operands.{row_kind}
 use Rattle.aml_frames.specs.Places.{Site, at_place, behind_term}
-use Rattle.aml_frames.specs.ShortTerms.{row_alone}
+use Rattle.aml_frames.specs.at_once.ShortTerms.{row_alone}
 use Rattle.aml_frames.specs.Follow.{term_run, operator_run, behind_operator_at, Leads}
 use Rattle.aml_frames.proofs.RuleShapes.{behind_operator_is}
 use Rattle.aml_frames.proofs.ShortTerms.{alone, alone_term}

@@ -20,43 +20,44 @@ use Rattle.aml_grammar.specs.Grammar.{is_if, is_nothing}
 use Rattle.aml_grammar.specs.Names.{starts_name}
 use Rattle.aml_grammar.specs.Table.{row_of}
 use Rattle.aml_grammar.specs.Tree.{Tree, term, Part, null, number, inner, Parts, no_parts, part}
-use Rattle.aml_marked.specs.Marked.{Place, Below, count_at, to_part, over, first, after, gives, inside, an_integer, an_operand, all_operands, of_row, with_row, an_opcode, a_coded, a_term_in, a_term, a_target, a_super_name}
-use Rattle.aml_marked.proofs.Walking.{some_levels}
+use Rattle.aml_marks.specs.Marked.{Place, Below, count_at, to_part, over, first, after, gives, inside, an_integer, an_operand, all_operands, of_row, with_row, an_opcode, a_coded, a_term_in, a_term, a_target, a_super_name}
+use Rattle.aml_marks.proofs.Walking.{some_levels}
 use Rattle.aml_objects.specs.declared.value.Slot.{Slot}
 use Rattle.aml_objects.specs.declared.value.Value.{Value}
 use Rattle.aml_objects.specs.declared.value.Value.TheVariants as value
 use Rattle.aml_convert.specs.Integers.{truncated}
+use Rattle.aml_world.specs.declared.values.store_target.StoreTarget.{StoreTarget}
+use Rattle.aml_world.specs.declared.values.store_target.StoreTarget.TheVariants as place
+use Rattle.aml_world.specs.declared.values.store_target.Stored.TheVariants.{Done}
+use Rattle.aml_world.specs.declared.values.operation_kind.Count.{Count}
+use Rattle.aml_world.specs.state.State.{State}
+use Rattle.aml_world.specs.state.Run.{charge}
+use Rattle.aml_world.specs.values.Operations.{counted_by}
+use Rattle.aml_world.specs.state.Readings.{integer_kept}
+use Rattle.aml_world.specs.values.Stores.{stored}
+use Rattle.aml_world.specs.values.StoreTargets.{slot_read, held_in_slot}
+use Rattle.aml_world.proofs.IntegerOperations.{does_integer}
 use Rattle.aml_meaning.specs.declared.flow.Flow.{Flow}
 use Rattle.aml_meaning.specs.declared.flow.Flow.TheVariants as flow
-use Rattle.aml_meaning.specs.declared.store_target.StoreTarget.{StoreTarget}
-use Rattle.aml_meaning.specs.declared.store_target.StoreTarget.TheVariants as place
-use Rattle.aml_meaning.specs.declared.store_target.Stored.TheVariants.{Done}
-use Rattle.aml_meaning.specs.declared.store_target.TargetKind.TheVariants as targets
-use Rattle.aml_meaning.specs.declared.term_kind.Count.{Count}
+use Rattle.aml_meaning.specs.declared.term_kind.TargetKind.TheVariants as targets
 use Rattle.aml_meaning.specs.declared.term_kind.TermKind.{TermKind}
-use Rattle.aml_meaning.specs.State.{State}
-use Rattle.aml_meaning.specs.Run.{charge}
 use Rattle.aml_meaning.specs.Terms.{kind_of, target_kind_of}
 use Rattle.aml_meaning.specs.Tasks.{task}
 use Rattle.aml_meaning.specs.Meaning.{meaning}
 use Rattle.aml_meaning.specs.Evaluation.{rule, kind_rule}
 use Rattle.aml_meaning.specs.DataTerms.{constant_rule, integer_rule}
-use Rattle.aml_meaning.specs.OperatorTerms.{slot_rule, counted_by}
-use Rattle.aml_meaning.specs.Readings.{integer_kept}
-use Rattle.aml_meaning.specs.Stores.{stored}
-use Rattle.aml_meaning.specs.StoreTargets.{slot_read, held_in_slot}
+use Rattle.aml_meaning.specs.OperatorTerms.{slot_rule}
 use Rattle.aml_meaning.specs.TargetTerms.{part_target}
 use Rattle.aml_meaning.specs.FieldCalls.{stored_to}
 use Rattle.aml_meaning.proofs.Agree.{not_zero}
-use Rattle.aml_meaning.proofs.IntegerOperations.{does_integer}
 use Rattle.aml_meaning.proofs.Meanings.{does_meaning}
 use Rattle.aml_meaning.proofs.Runs.{does_lift}
 use Rattle.aml_meaning.proofs.TargetKinds.{does_target_of}
 use Rattle.aml_frames.specs.declared.uses.TargetUse.TheVariants as uses
 use Rattle.aml_frames.specs.Places.{Site, at_place, terms, behind_term}
 use Rattle.aml_frames.specs.Uses.{super, behind_target, target_run, stored_at, counted_back}
-use Rattle.aml_frames.specs.ShortTerms.{unless, row_alone, is_bare, has_width, width_of, is_number, IsShort}
-use Rattle.aml_frames.specs.declared.short_terms.Short.TheVariants as shorts
+use Rattle.aml_frames.specs.at_once.ShortTerms.{unless, row_alone, is_bare, has_width, width_of, is_number, IsShort}
+use Rattle.aml_frames.specs.declared.at_once.short_terms.Short.TheVariants as shorts
 
 -- ---- the row of a byte that is an opcode by itself
 

@@ -10,29 +10,29 @@ use Rattle.aml_path.specs.declared.segment.Seg.{Seg}
 use Rattle.aml_grammar.specs.Apart.{code_of, operand_of}
 use Rattle.aml_grammar.specs.Shape.{trees_of}
 use Rattle.aml_grammar.specs.Tree.{Tree}
-use Rattle.aml_marked.specs.Marked.{Place, trees_by, count_at, a_term, over, inside, after, gives, with_row, all_items, an_else, maybe_else}
+use Rattle.aml_marks.specs.Marked.{Place, trees_by, count_at, a_term, over, inside, after, gives, with_row, all_items, an_else, maybe_else}
 use Rattle.aml_grammar.specs.State.{is_next}
-use Rattle.aml_marked.proofs.Walking.{some_turns, no_turns, one_more, at_end, no_more}
+use Rattle.aml_marks.proofs.Walking.{some_turns, no_turns, one_more, at_end, no_more}
 use Rattle.aml_scan.specs.RowsAt.{row_at}
 use Rattle.aml_scan.specs.declared.row_places.RowPlace.{RowPlace}
 use Rattle.aml_convert.specs.Operators.{is_true}
 use Rattle.aml_objects.specs.declared.value.Value.{Value}
+use Rattle.aml_world.specs.state.State.{State}
+use Rattle.aml_world.specs.state.Run.{Run, lift, charge}
+use Rattle.aml_world.specs.state.Readings.{integer_in}
 use Rattle.aml_meaning.specs.declared.flow.Flow.{Flow}
 use Rattle.aml_meaning.specs.declared.flow.Flow.TheVariants as flow
 use Rattle.aml_meaning.specs.declared.term_kind.TermKind.TheVariants as kinds
 use Rattle.aml_meaning.specs.declared.term_kind.DataKind.{DataKind}
 use Rattle.aml_meaning.specs.declared.term_kind.OperatorKind.{OperatorKind}
 use Rattle.aml_meaning.specs.declared.term_kind.StatementKind.{StatementKind}
-use Rattle.aml_meaning.specs.State.{State}
-use Rattle.aml_meaning.specs.Run.{Run, lift, charge}
-use Rattle.aml_meaning.specs.Readings.{value_in, integer_in}
+use Rattle.aml_meaning.specs.Tasks.{value_in, Task, operand_value, operand_integer, value_at, item, in_turn, passes_over, goes_on, after_item}
 use Rattle.aml_grammar.specs.declared.kinds.Row.{Row}
 use Rattle.aml_meaning.specs.Terms.{inner_of, else_of, kind_of}
 use Rattle.aml_meaning.specs.Passing.{passing}
-use Rattle.aml_meaning.specs.Tasks.{Task, operand_value, operand_integer, value_at, item, in_turn, passes_over, goes_on, after_item}
-use Rattle.aml_grammar.specs.declared.marks.Mark.{Mark}
 use Rattle.aml_meaning.specs.InvocationTerms.{arguments_in_turn}
-use Rattle.aml_meaning.specs.Invocations.{leaving}
+use Rattle.aml_grammar.specs.declared.marks.Mark.{Mark}
+use Rattle.aml_meaning.specs.Calls.{leaving}
 use Rattle.aml_meaning.specs.Meaning.{meaning}
 use Rattle.aml_meaning.specs.Evaluation.{rule, code_rule}
 use Rattle.aml_meaning.specs.OperatorTerms.{operator_rule}

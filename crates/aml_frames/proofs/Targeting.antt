@@ -10,7 +10,7 @@ use Rattle.aml_grammar.specs.declared.opcode.TermCode.{TermCode}
 use Rattle.aml_grammar.specs.declared.opcode.TermCode.TheVariants as codes
 use Rattle.aml_grammar.specs.Tree.{Tree, term, Part, null, name, number, bytes, inner, list, Parts, no_parts, part}
 use Rattle.aml_grammar.specs.Apart.{code_of, part_at}
-use Rattle.aml_marked.specs.Marked.{Place, Below, first, over, count_at, a_term, a_name, a_super_name, a_target, with_row}
+use Rattle.aml_marks.specs.Marked.{Place, Below, first, over, count_at, a_term, a_name, a_super_name, a_target, with_row}
 use Rattle.aml_scan.specs.RowsAt.{row_at}
 use Rattle.aml_scan.specs.declared.row_places.RowPlace.{RowPlace}
 use Rattle.aml_objects.specs.declared.value.Value.{Value}
@@ -19,19 +19,19 @@ use Rattle.aml_objects.specs.declared.value.Slot.{Slot}
 use Rattle.ar_space.specs.declared.refusal.Refusal.{Refusal}
 use Rattle.ar_space.specs.declared.refusal.Refusal.TheVariants as refusal
 use Rattle.ar_space.specs.declared.refusal.NameFault.TheVariants.{BadName}
+use Rattle.aml_world.specs.declared.values.store_target.StoreTarget.{StoreTarget}
+use Rattle.aml_world.specs.declared.values.store_target.StoreTarget.TheVariants as targets
+use Rattle.aml_world.specs.state.State.{State}
+use Rattle.aml_world.specs.state.Run.{Run, lift, charge}
+use Rattle.aml_world.specs.values.StoreTargets.{tested, reference_in, target_named}
 use Rattle.aml_meaning.specs.declared.flow.Flow.{Flow}
-use Rattle.aml_meaning.specs.declared.store_target.StoreTarget.{StoreTarget}
-use Rattle.aml_meaning.specs.declared.store_target.StoreTarget.TheVariants as targets
-use Rattle.aml_meaning.specs.declared.store_target.TargetKind.{TargetKind}
-use Rattle.aml_meaning.specs.declared.store_target.TargetKind.TheVariants as kinds
-use Rattle.aml_meaning.specs.State.{State}
-use Rattle.aml_meaning.specs.Run.{Run, lift, charge}
+use Rattle.aml_meaning.specs.declared.term_kind.TargetKind.{TargetKind}
+use Rattle.aml_meaning.specs.declared.term_kind.TargetKind.TheVariants as kinds
 use Rattle.aml_meaning.specs.Tasks.{Task, operand_value, value_at}
 use Rattle.aml_meaning.specs.Terms.{target_kind}
 use Rattle.aml_meaning.specs.Meaning.{meaning}
 use Rattle.aml_meaning.proofs.Agree.{not_zero}
-use Rattle.aml_meaning.specs.StoreTargets.{tested}
-use Rattle.aml_meaning.specs.TargetTerms.{reference_in, target_named, name_target, target_by_kind, target_of, first_target, part_target, target_at, indexed_target, dereferenced_target}
+use Rattle.aml_meaning.specs.TargetTerms.{name_target, target_by_kind, target_of, first_target, part_target, target_at, indexed_target, dereferenced_target}
 use Rattle.aml_frames.specs.declared.frames.Frame.TheVariants as frames
 use Rattle.aml_frames.specs.declared.frames.Next.TheVariants as next
 use Rattle.aml_frames.specs.declared.uses.TargetUse.{TargetUse}

@@ -10,36 +10,36 @@ use Rattle.aml_grammar.specs.Names.{starts_name}
 use Rattle.aml_grammar.specs.declared.opcode.TermCode.TheVariants as codes
 use Rattle.aml_grammar.specs.Apart.{code_of}
 use Rattle.aml_grammar.specs.Tree.{Tree, term, Part, name, inner, no_parts, part}
-use Rattle.aml_marked.specs.Marked.{Place, first, a_name, a_super_name, a_target}
+use Rattle.aml_marks.specs.Marked.{Place, first, a_name, a_super_name, a_target}
 use Rattle.aml_objects.specs.declared.entry.Field.{Field}
 use Rattle.aml_objects.specs.declared.value.Reference.{Reference}
 use Rattle.aml_objects.specs.declared.value.Value.{Value}
 use Rattle.aml_objects.specs.declared.value.Value.TheVariants as value
+use Rattle.aml_world.specs.declared.values.store_target.Held.TheVariants as held
+use Rattle.aml_world.specs.declared.values.store_target.StoreTarget.{StoreTarget}
+use Rattle.aml_world.specs.declared.values.operation_kind.Count.{Count}
+use Rattle.aml_world.specs.declared.values.operation_kind.OneOperand.{OneOperand}
+use Rattle.aml_world.specs.declared.values.operation_kind.TwoOperands.{TwoOperands}
+use Rattle.aml_world.specs.declared.values.operation_kind.Test.{Test}
+use Rattle.aml_world.specs.state.State.{State}
+use Rattle.aml_world.specs.state.Run.{Run, lift}
+use Rattle.aml_world.specs.state.Readings.{integer_in}
+use Rattle.aml_world.specs.fields.Regions.{integer_of_bits, value_of_bits, referent_of_bits}
+use Rattle.aml_world.specs.fields.Fields.{field_value, field_integer, field_referent, bits_in, written_in}
+use Rattle.aml_world.specs.values.Operations.{type_number, type_of_referent}
+use Rattle.aml_world.specs.values.StoreTargets.{reference_if_found, reference_of, if_initialized, target_referent, value_followed, followed, most_references}
 use Rattle.aml_meaning.specs.declared.flow.Flow.{Flow}
 use Rattle.aml_meaning.specs.declared.flow.Flow.TheVariants as flow
-use Rattle.aml_meaning.specs.declared.store_target.Held.TheVariants as held
-use Rattle.aml_meaning.specs.declared.store_target.StoreTarget.{StoreTarget}
-use Rattle.aml_meaning.specs.declared.store_target.TargetKind.{TargetKind}
-use Rattle.aml_meaning.specs.declared.store_target.TargetKind.TheVariants as kinds
-use Rattle.aml_meaning.specs.declared.term_kind.Count.{Count}
-use Rattle.aml_meaning.specs.declared.term_kind.OneOperand.{OneOperand}
-use Rattle.aml_meaning.specs.declared.term_kind.TwoOperands.{TwoOperands}
-use Rattle.aml_meaning.specs.declared.term_kind.Test.{Test}
+use Rattle.aml_meaning.specs.declared.term_kind.TargetKind.{TargetKind}
+use Rattle.aml_meaning.specs.declared.term_kind.TargetKind.TheVariants as kinds
 use Rattle.aml_meaning.specs.declared.term_kind.OperatorKind.TheVariants as operators
 use Rattle.aml_meaning.specs.declared.term_kind.StatementKind.TheVariants as statements
-use Rattle.aml_meaning.specs.State.{State}
-use Rattle.aml_meaning.specs.Run.{Run, lift}
-use Rattle.aml_meaning.specs.Readings.{integer_in, value_in}
-use Rattle.aml_meaning.specs.Tasks.{operand_value, value_at, two_values}
+use Rattle.aml_meaning.specs.Tasks.{value_in, operand_value, value_at, two_values}
 use Rattle.aml_meaning.specs.Terms.{target_kind}
 use Rattle.aml_meaning.specs.Meaning.{meaning}
-use Rattle.aml_meaning.specs.Regions.{integer_of_bits, value_of_bits, referent_of_bits}
-use Rattle.aml_meaning.specs.Fields.{field_value, field_integer, field_referent, bits_in, written_in}
 use Rattle.aml_meaning.specs.FieldCalls.{asked, answer_within, referent_read}
-use Rattle.aml_meaning.specs.Operations.{type_number, type_of_referent}
-use Rattle.aml_meaning.specs.StoreTargets.{reference_if_found, reference_of, if_initialized, target_referent, value_followed, followed, most_references}
 use Rattle.aml_meaning.specs.TargetTerms.{targeted, part_target}
-use Rattle.aml_meaning.specs.OperatorTerms.{store_rule, copy_rule, two_rule, divide_rule, one_rule, test_rule, not_rule, count_rule, size_rule, type_rule, acquire_rule, reference_rule, dereference_rule, conditional_rule, referent_of_value, referent_of_target, referent_by_kind, referent_by, referent_at, sought, sought_name, sought_target, reference_found, reference_stored}
+use Rattle.aml_meaning.specs.OperatorTerms.{store_rule, copy_rule, two_rule, divide_rule, one_rule, test_rule, lnot_rule, count_rule, size_rule, type_rule, acquire_rule, reference_rule, dereference_rule, conditional_rule, referent_of_value, referent_of_target, referent_by_kind, referent_by, referent_at, sought, sought_name, sought_target, reference_found, reference_stored}
 use Rattle.aml_meaning.specs.StatementTerms.{release_rule, notify_rule}
 use Rattle.aml_frames.specs.declared.frames.Frame.TheVariants as frames
 use Rattle.aml_frames.specs.declared.frames.Next.{Next}
@@ -222,9 +222,9 @@ module _ {S : Type 0} {ac : Accesses S} where
   unfolding one_rule targeted stored_at
   leads_one {c = c} {s = s} levels k = rw (target_part_is (meaning ac) c.scope c.depth codes.Name (argument_target_at (terms c levels) c.place) 1 (a_target (terms c levels) (behind_one (terms c levels) c.place)).0 refl) (leads_value_at {c = c} {s = s} levels (frames.Operand (monadic.One k) levels) (operator_tree (terms c levels) (operators.One k) c.place) 0 _ refl refl)
 
-  pub leads_not : {c : Site} {s : State S × ℕ} (levels : ℕ) → Leads ac (meaning ac) (Ok (next.Term levels (frames.Operand monadic.LogicalNot levels))) c s (operator_run ac (meaning ac) operators.LogicalNot c levels) s
-  unfolding not_rule
-  leads_not {c = c} {s = s} levels = leads_value_at {c = c} {s = s} levels (frames.Operand monadic.LogicalNot levels) (operator_tree (terms c levels) operators.LogicalNot c.place) 0 _ refl refl
+  pub leads_not : {c : Site} {s : State S × ℕ} (levels : ℕ) → Leads ac (meaning ac) (Ok (next.Term levels (frames.Operand monadic.LNot levels))) c s (operator_run ac (meaning ac) operators.LNot c levels) s
+  unfolding lnot_rule
+  leads_not {c = c} {s = s} levels = leads_value_at {c = c} {s = s} levels (frames.Operand monadic.LNot levels) (operator_tree (terms c levels) operators.LNot c.place) 0 _ refl refl
 
   pub leads_deref_of : {c : Site} {s : State S × ℕ} (levels : ℕ) → Leads ac (meaning ac) (Ok (next.Term levels (frames.Operand monadic.DerefOf levels))) c s (operator_run ac (meaning ac) operators.DerefOf c levels) s
   unfolding dereference_rule

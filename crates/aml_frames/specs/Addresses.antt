@@ -12,18 +12,18 @@ use Rattle.aml_objects.specs.declared.entry.OperationRegion.{OperationRegion}
 use Rattle.aml_fields.specs.declared.region.AddressSpace.{AddressSpace}
 use Rattle.aml_fields.specs.declared.region.Region.{Region}
 use Rattle.aml_fields.specs.Regions.{read_field, write_field}
+use Rattle.aml_world.specs.declared.fields.regions.RegionField.{RegionField}
+use Rattle.aml_world.specs.declared.fields.regions.RegionSpace.{RegionSpace}
+use Rattle.aml_world.specs.state.State.{State, on_space}
+use Rattle.aml_world.specs.state.Run.{Run, lift}
+use Rattle.aml_world.specs.fields.PciFunctions.{adr, segment_group, base_bus}
+use Rattle.aml_world.specs.fields.Bridges.{bridges_above, secondary_bus}
+use Rattle.aml_world.specs.fields.Regions.{space_numbered, integer_only, pci_space, region_declared, field_declared}
+use Rattle.aml_world.specs.fields.Fields.{inherited, bus_behind_all, pci_address, space_at, field_part}
 use Rattle.aml_meaning.specs.declared.flow.Flow.{Flow}
 use Rattle.aml_meaning.specs.declared.flow.Flow.TheVariants as flow
-use Rattle.aml_meaning.specs.declared.regions.RegionField.{RegionField}
-use Rattle.aml_meaning.specs.declared.regions.RegionSpace.{RegionSpace}
-use Rattle.aml_meaning.specs.State.{State, on_space}
-use Rattle.aml_meaning.specs.Run.{Run, lift}
 use Rattle.aml_meaning.specs.Tasks.{Task}
-use Rattle.aml_meaning.specs.PciFunctions.{adr, segment_group, base_bus}
-use Rattle.aml_meaning.specs.Bridges.{bridges_above, secondary_bus}
-use Rattle.aml_meaning.specs.Regions.{space_numbered, integer_only, pci_space, region_declared, field_declared}
-use Rattle.aml_meaning.specs.Fields.{inherited, bus_behind_all, pci_address, space_at, field_part}
-use Rattle.aml_meaning.specs.Invocations.{value_of_call}
+use Rattle.aml_meaning.specs.Calls.{value_of_call}
 use Rattle.aml_meaning.specs.FieldCalls.{method_integer}
 use Rattle.aml_frames.specs.declared.addresses.AddressPart.{AddressPart}
 use Rattle.aml_frames.specs.declared.addresses.AddressPart.TheVariants as parts

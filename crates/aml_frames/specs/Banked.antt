@@ -9,12 +9,12 @@ use Rattle.aml_fields.specs.Bits.{byte_count}
 use Rattle.aml_fields.specs.Regions.{read_unit, write_whole}
 use Rattle.aml_fields.specs.Units.{units_of}
 use Rattle.aml_fields.specs.UnitByUnit.{kept}
+use Rattle.aml_world.specs.state.State.{on_space}
+use Rattle.aml_world.specs.state.Run.{Run, lift}
+use Rattle.aml_world.specs.fields.Fields.{bank_selected, bank_unit}
 use Rattle.aml_meaning.specs.declared.flow.Flow.{Flow}
 use Rattle.aml_meaning.specs.declared.flow.Flow.TheVariants as flow
-use Rattle.aml_meaning.specs.State.{on_space}
-use Rattle.aml_meaning.specs.Run.{Run, lift}
 use Rattle.aml_meaning.specs.Tasks.{Task}
-use Rattle.aml_meaning.specs.Fields.{bank_selected, bank_unit}
 use Rattle.aml_frames.specs.declared.banked.BankedField.{BankedField}
 use Rattle.aml_frames.specs.declared.banked.BankReads.{BankReads}
 use Rattle.aml_frames.specs.declared.banked.BankWrites.{BankWrites}

@@ -5,18 +5,18 @@ use Rattle.ar_space.specs.Change.{give, ◌>>=◌}
 use Rattle.aml_grammar.specs.declared.opcode.TermCode.TheVariants as codes
 use Rattle.aml_grammar.specs.Shape.{trees_of}
 use Rattle.aml_grammar.specs.Tree.{term, Trees}
-use Rattle.aml_marked.specs.Marked.{a_name, a_text, to_end}
+use Rattle.aml_marks.specs.Marked.{a_name, a_text, to_end}
 use Rattle.aml_scan.specs.declared.row_places.RowPlace.{RowPlace}
 use Rattle.aml_objects.specs.declared.object.Element.{Element}
 use Rattle.aml_objects.specs.declared.object.Element.TheVariants as element
 use Rattle.aml_objects.specs.declared.value.Value.{Value}
 use Rattle.aml_objects.specs.Objects.{make_string}
+use Rattle.aml_world.specs.state.State.{on_objects}
+use Rattle.aml_world.specs.state.Run.{Run, lift, charge}
+use Rattle.aml_world.specs.state.NewObjects.{new_buffer, new_package}
 use Rattle.aml_meaning.specs.declared.flow.Flow.{Flow}
 use Rattle.aml_meaning.specs.declared.flow.Flow.TheVariants as flow
 use Rattle.aml_meaning.specs.declared.term_kind.DataKind.{DataKind}
-use Rattle.aml_meaning.specs.State.{on_objects}
-use Rattle.aml_meaning.specs.Run.{Run, lift, charge}
-use Rattle.aml_meaning.specs.NewObjects.{new_buffer, new_package}
 use Rattle.aml_meaning.specs.Tasks.{Task}
 use Rattle.aml_meaning.specs.DataTerms.{data_rule, string_rule, buffer_rule, package_rule, var_package_rule, elements_in_turn, package_of}
 use Rattle.aml_frames.specs.declared.position.Position.{Position}

@@ -6,18 +6,18 @@ use Rattle.aml_path.specs.declared.segment.Seg.{Seg}
 use Rattle.aml_path.specs.Paths.{resolved}
 use Rattle.aml_grammar.specs.declared.opcode.TermCode.TheVariants as codes
 use Rattle.aml_grammar.specs.Tree.{Tree, term, name, number, inner, list, Parts, no_parts, part}
-use Rattle.aml_marked.specs.Marked.{Place, Below, over, an_integer, a_name, with_row}
+use Rattle.aml_marks.specs.Marked.{Place, Below, over, an_integer, a_name, with_row}
 use Rattle.aml_scan.specs.RowsAt.{row_at}
 use Rattle.aml_scan.specs.declared.row_places.RowPlace.{RowPlace}
 use Rattle.aml_objects.specs.declared.entry.NamedObject.{NamedObject}
 use Rattle.aml_objects.specs.declared.entry.NamedObject.TheVariants as object
+use Rattle.aml_world.specs.state.Run.{Run, lift}
+use Rattle.aml_world.specs.state.Readings.{scope_found}
+use Rattle.aml_world.specs.state.Declaring.{new_name}
 use Rattle.aml_meaning.specs.declared.flow.Flow.{Flow}
 use Rattle.aml_meaning.specs.declared.flow.Flow.TheVariants as flow
 use Rattle.aml_meaning.specs.declared.term_kind.DeclarationKind.{DeclarationKind}
 use Rattle.aml_meaning.specs.declared.term_kind.DeclarationKind.TheVariants as declarations
-use Rattle.aml_meaning.specs.Run.{Run, lift}
-use Rattle.aml_meaning.specs.Readings.{scope_found}
-use Rattle.aml_meaning.specs.Declaring.{new_name}
 use Rattle.aml_meaning.specs.Tasks.{Task, module_level, operand_value, in_turn}
 use Rattle.aml_meaning.specs.DeclarationTerms.{declaration_rule}
 use Rattle.aml_frames.specs.Places.{Site, at_place, terms}

@@ -10,7 +10,7 @@ use Rattle.aml_grammar.specs.Apart.{code_of}
 use Rattle.aml_grammar.specs.declared.opcode.Opcode.{Opcode}
 use Rattle.aml_grammar.specs.Shape.{trees_of}
 use Rattle.aml_grammar.specs.Tree.{Trees}
-use Rattle.aml_marked.specs.Marked.{Place, count_at, a_name, turns_of, to_end, all_items, maybe_else, walk_levels, with_row}
+use Rattle.aml_marks.specs.Marked.{Place, count_at, a_name, turns_of, to_end, all_items, maybe_else, walk_levels, with_row}
 use Rattle.aml_scan.specs.RowsAt.{row_at}
 use Rattle.aml_scan.specs.declared.row_places.RowPlace.{RowPlace}
 use Rattle.aml_convert.specs.Operators.{is_true}
@@ -19,33 +19,32 @@ use Rattle.aml_objects.specs.declared.object.Element.TheVariants as element
 use Rattle.aml_objects.specs.declared.entry.Field.{Field}
 use Rattle.aml_objects.specs.declared.value.Value.{Value}
 use Rattle.aml_objects.specs.declared.value.Value.TheVariants as values
+use Rattle.aml_world.specs.state.State.{State}
+use Rattle.aml_world.specs.state.Run.{Run, lift}
+use Rattle.aml_world.specs.state.Readings.{integer_in, integer_kept}
+use Rattle.aml_world.specs.state.NewObjects.{within}
+use Rattle.aml_world.specs.declared.values.store_target.Held.TheVariants as held
+use Rattle.aml_world.specs.declared.values.store_target.StoreTarget.TheVariants as targets
+use Rattle.aml_world.specs.values.StoreTargets.{tested, value_followed, most_references, followed as references_followed, reference_in}
+use Rattle.aml_world.specs.state.Osi.{osi_answered}
+use Rattle.aml_world.specs.declared.fields.regions.RegionField.{RegionField}
+use Rattle.aml_world.specs.fields.Regions.{bank_held}
+use Rattle.aml_world.specs.fields.Fields.{unit_bytes, region_written}
+use Rattle.aml_world.specs.state.Invocations.{invocation_found, call_allowed}
 use Rattle.aml_meaning.specs.declared.flow.Flow.{Flow}
 use Rattle.aml_meaning.specs.declared.flow.Flow.TheVariants as flow
 use Rattle.aml_meaning.specs.declared.term_kind.OperatorKind.{OperatorKind}
 use Rattle.aml_meaning.specs.declared.term_kind.OperatorKind.TheVariants as operators
 use Rattle.aml_meaning.specs.declared.term_kind.StatementKind.{StatementKind}
 use Rattle.aml_meaning.specs.declared.term_kind.WideKind.{WideKind}
-use Rattle.aml_meaning.specs.State.{State}
-use Rattle.aml_meaning.specs.Run.{Run, lift}
-use Rattle.aml_meaning.specs.Readings.{value_in, integer_in, integer_kept}
-use Rattle.aml_meaning.specs.NewObjects.{within}
-use Rattle.aml_meaning.specs.declared.store_target.Held.TheVariants as held
-use Rattle.aml_meaning.specs.declared.store_target.StoreTarget.TheVariants as targets
-use Rattle.aml_meaning.specs.StoreTargets.{tested, value_followed, most_references}
-use Rattle.aml_meaning.specs.StoreTargets.{followed as references_followed}
-use Rattle.aml_meaning.specs.TargetTerms.{reference_in}
-use Rattle.aml_meaning.specs.Osi.{osi_answered}
-use Rattle.aml_meaning.specs.declared.regions.RegionField.{RegionField}
-use Rattle.aml_meaning.specs.Regions.{bank_held}
-use Rattle.aml_meaning.specs.Fields.{unit_bytes, region_written}
+use Rattle.aml_meaning.specs.Tasks.{value_in, Task, task, operand_value, after_item, in_turn}
 use Rattle.aml_meaning.specs.Terms.{else_of}
-use Rattle.aml_meaning.specs.Tasks.{Task, task, operand_value, after_item, in_turn}
 use Rattle.aml_meaning.specs.Evaluation.{code_rule}
 use Rattle.aml_meaning.specs.OperatorTerms.{operator_rule}
 use Rattle.aml_meaning.specs.WideTerms.{in_wide, wide_rule}
 use Rattle.aml_meaning.specs.StatementTerms.{statement_rule, branch, turn_of, after_turn, loop, loop_end}
 use Rattle.aml_meaning.specs.InvocationTerms.{arguments_in_turn, invocation_rule}
-use Rattle.aml_meaning.specs.Invocations.{leaving, invoked, invocation_found, call_allowed}
+use Rattle.aml_meaning.specs.Calls.{leaving, invoked}
 use Rattle.aml_frames.specs.declared.position.Position.{Position}
 use Rattle.aml_frames.specs.declared.frames.Call.{Call}
 use Rattle.aml_frames.specs.declared.frames.Callee.{Callee}

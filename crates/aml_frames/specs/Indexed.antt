@@ -9,14 +9,14 @@ use Rattle.aml_fields.specs.declared.field_units.Unit.{Unit as Access}
 use Rattle.aml_fields.specs.Bits.{bits_from, bits_of, byte_count, bytes_within, extended, field_bits, merged, put, rest_of_unit}
 use Rattle.aml_fields.specs.Units.{units_of}
 use Rattle.aml_fields.specs.UnitByUnit.{kept}
+use Rattle.aml_world.specs.declared.fields.regions.RegionField.{RegionField}
+use Rattle.aml_world.specs.state.Run.{Run, lift}
+use Rattle.aml_world.specs.fields.Regions.{field_declared, integer_only}
+use Rattle.aml_world.specs.fields.Fields.{unit_bytes, unit_of, index_unit, region_bits, region_written}
 use Rattle.aml_meaning.specs.declared.flow.Flow.{Flow}
 use Rattle.aml_meaning.specs.declared.flow.Flow.TheVariants as flow
-use Rattle.aml_meaning.specs.declared.regions.RegionField.{RegionField}
-use Rattle.aml_meaning.specs.Run.{Run, lift}
 use Rattle.aml_meaning.specs.Tasks.{Task}
-use Rattle.aml_meaning.specs.Regions.{field_declared, integer_only}
-use Rattle.aml_meaning.specs.Fields.{unit_bytes, unit_of, index_unit, region_bits, region_written}
-use Rattle.aml_meaning.specs.Invocations.{value_of_call}
+use Rattle.aml_meaning.specs.Calls.{value_of_call}
 use Rattle.aml_frames.specs.declared.indexed.IndexedField.{IndexedField}
 use Rattle.aml_frames.specs.declared.indexed.UnitReads.{UnitReads}
 use Rattle.aml_frames.specs.declared.indexed.UnitWrites.{UnitWrites}

@@ -5,7 +5,6 @@ pub mod Entering
 pub mod Declarations
 pub mod Follow
 pub mod Indexed
-pub mod Known
 pub mod Matching
 pub mod Operands
 pub mod Places
@@ -14,5 +13,4 @@ pub mod Stack
 pub mod Steps
 pub mod Uses
 pub mod Weights
-pub mod ShortNames
-pub mod ShortTerms
+pub mod at_once

@@ -4,12 +4,13 @@ use Rattle.ar_space.specs.Accesses.{Accesses}
 use Rattle.ar_space.specs.Change.{settle, ◌>>=◌}
 use Rattle.aml_grammar.specs.declared.opcode.TermCode.TheVariants as codes
 use Rattle.aml_grammar.specs.Tree.{term}
-use Rattle.aml_marked.specs.Marked.{over, an_integer}
+use Rattle.aml_marks.specs.Marked.{over, an_integer}
 use Rattle.aml_objects.specs.declared.value.Value.{Value}
+use Rattle.aml_world.specs.declared.values.searches.Searching.{Searching}
+use Rattle.aml_world.specs.state.Run.{Run, lift}
+use Rattle.aml_world.specs.values.Searches.{search_begun, value_meets}
 use Rattle.aml_meaning.specs.declared.flow.Flow.{Flow}
-use Rattle.aml_meaning.specs.declared.searches.Searching.{Searching}
-use Rattle.aml_meaning.specs.Run.{Run, lift}
-use Rattle.aml_meaning.specs.MatchTerms.{search_begun, value_meets, found_or, searched_last, searched, match_rule}
+use Rattle.aml_meaning.specs.MatchTerms.{found_or, searched_last, searched, match_rule}
 use Rattle.aml_meaning.specs.Tasks.{Task, operand_value}
 use Rattle.aml_frames.specs.declared.frames.MatchPart.{MatchPart}
 use Rattle.aml_frames.specs.declared.frames.MatchPart.TheVariants as parts

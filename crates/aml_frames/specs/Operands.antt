@@ -4,7 +4,7 @@ use Rattle.aml_grammar.specs.declared.opcode.TermCode.TheVariants as codes
 use Rattle.aml_grammar.specs.declared.kinds.Row.{Row}
 use Rattle.aml_grammar.specs.Tree.{Tree, term, name, number, bytes, inner, list, Parts, no_parts, part, Trees}
 use Rattle.aml_grammar.specs.Shape.{trees_of}
-use Rattle.aml_marked.specs.Marked.{Place, Below, over, an_integer, a_name, a_text, a_size, a_target, a_super_name, all_items, fields_left, maybe_else, with_row}
+use Rattle.aml_marks.specs.Marked.{Place, Below, over, an_integer, a_name, a_text, a_size, a_target, a_super_name, all_items, fields_left, maybe_else, with_row}
 use Rattle.aml_scan.specs.RowsAt.{row_at}
 use Rattle.aml_scan.specs.declared.row_places.RowPlace.{RowPlace}
 use Rattle.aml_meaning.specs.declared.term_kind.TermKind.{TermKind}
@@ -147,7 +147,7 @@ module _ (b : Below) where
   operator_parts operators.Divide p = arguments_targets_at p
   operator_parts (operators.One k) p = argument_target_at p
   operator_parts (operators.Test k) p = two_arguments_at p
-  operator_parts operators.LogicalNot p = argument_at p
+  operator_parts operators.LNot p = argument_at p
   operator_parts (operators.Count k) p = super_at p
   operator_parts operators.SizeOf p = super_at p
   operator_parts operators.ObjectType p = super_at p
@@ -164,7 +164,7 @@ module _ (b : Below) where
   behind_operator operators.Divide p = (a_target b (a_target b (behind_two b p)).1).1
   behind_operator (operators.One k) p = (a_target b (behind_one b p)).1
   behind_operator (operators.Test k) p = behind_two b p
-  behind_operator operators.LogicalNot p = behind_one b p
+  behind_operator operators.LNot p = behind_one b p
   behind_operator (operators.Count k) p = (a_super_name b p).1
   behind_operator operators.SizeOf p = (a_super_name b p).1
   behind_operator operators.ObjectType p = (a_super_name b p).1

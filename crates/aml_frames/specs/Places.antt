@@ -3,7 +3,7 @@ use Rattle.std.specs.Prelude.{◌≡◌, ℕ, ◌+◌, ◌-◌, List, length, ta
 use Rattle.aml_path.specs.declared.segment.Seg.{Seg}
 use Rattle.aml_grammar.specs.declared.marks.Mark.{Mark}
 use Rattle.aml_grammar.specs.Tree.{Tree}
-use Rattle.aml_marked.specs.Marked.{Place, Below, count_at, a_term}
+use Rattle.aml_marks.specs.Marked.{Place, Below, count_at, a_term}
 
 -- the bytes of a table or of the body of a control method, with the marks of its calls; the scope that names stand in; how many control
 -- methods are being called; and the place of the next byte

@@ -4,22 +4,24 @@ use Rattle.std.specs.Prelude.{ℕ, ◌*◌, ◌%◌, false}
 use Rattle.ar_space.specs.Change.{settle, ◌>>=◌}
 use Rattle.aml_grammar.specs.declared.opcode.TermCode.TheVariants as codes
 use Rattle.aml_grammar.specs.Tree.{Tree, term, name, number, inner, Parts, no_parts, part}
-use Rattle.aml_marked.specs.Marked.{Place, Below, over, an_integer, a_name, with_row}
+use Rattle.aml_marks.specs.Marked.{Place, Below, over, an_integer, a_name, with_row}
 use Rattle.aml_scan.specs.RowsAt.{row_at}
 use Rattle.aml_scan.specs.declared.row_places.RowPlace.{RowPlace}
 use Rattle.aml_objects.specs.declared.entry.NamedObject.TheVariants as object
 use Rattle.aml_objects.specs.declared.value.Value.{Value}
 use Rattle.aml_fields.specs.BufferFields.{new_buffer_field}
+use Rattle.aml_world.specs.declared.values.operation_kind.BufferFieldSize.{BufferFieldSize}
+use Rattle.aml_world.specs.state.State.{on_objects}
+use Rattle.aml_world.specs.state.Run.{Run, lift}
+use Rattle.aml_world.specs.state.Readings.{integer_in}
+use Rattle.aml_world.specs.fields.FieldLayouts.{region_found, field_found, sized}
+use Rattle.aml_world.specs.fields.BufferFields.{buffer_of, bits_of_step, bits_of_size}
 use Rattle.aml_meaning.specs.declared.flow.Flow.{Flow}
-use Rattle.aml_meaning.specs.declared.term_kind.BufferFieldSize.{BufferFieldSize}
 use Rattle.aml_meaning.specs.declared.term_kind.RegionKind.{RegionKind}
 use Rattle.aml_meaning.specs.declared.term_kind.RegionKind.TheVariants as regions
-use Rattle.aml_meaning.specs.State.{on_objects}
-use Rattle.aml_meaning.specs.Run.{Run, lift}
-use Rattle.aml_meaning.specs.Readings.{integer_in}
 use Rattle.aml_meaning.specs.Tasks.{Task, operand_value}
 use Rattle.aml_meaning.specs.BankTerms.{banked_laid}
-use Rattle.aml_meaning.specs.FieldTerms.{region_found, field_found, region_rule, region_term_rule, sized, buffer_of, bits_of_step, bits_of_size}
+use Rattle.aml_meaning.specs.FieldTerms.{region_rule, region_term_rule}
 use Rattle.aml_frames.specs.declared.frames.DeclarationPart.{DeclarationPart}
 use Rattle.aml_frames.specs.declared.frames.DeclarationPart.TheVariants as parts
 use Rattle.aml_frames.specs.Places.{Site, place_between, at_place, terms, next_term, behind_term}

@@ -4,14 +4,15 @@ use Rattle.ar_space.specs.Accesses.{Accesses}
 use Rattle.ar_space.specs.Outcome.{Outcome, NotMemory, seen}
 use Rattle.ar_space.specs.Change.{give, stop, settle, go_on}
 use Rattle.ar_space.specs.declared.refusal.Refusal.TheVariants.{OutOfMemory}
-use Rattle.aml_marked.specs.Marked.{walk_levels}
+use Rattle.aml_marks.specs.Marked.{walk_levels}
+use Rattle.aml_world.specs.state.State.{State}
+use Rattle.aml_world.specs.state.Run.{Run}
+use Rattle.aml_world.specs.state.PassedOver.{is_passable}
+use Rattle.aml_world.specs.state.Invocations.{left}
 use Rattle.aml_meaning.specs.declared.flow.Flow.{Flow}
-use Rattle.aml_meaning.specs.State.{State}
-use Rattle.aml_meaning.specs.Run.{Run}
-use Rattle.aml_meaning.specs.PassedOver.{is_passable}
 use Rattle.aml_meaning.specs.Passing.{item_done}
 use Rattle.aml_meaning.specs.Tasks.{Task}
-use Rattle.aml_meaning.specs.Invocations.{left, returned_by}
+use Rattle.aml_meaning.specs.Calls.{returned_by}
 use Rattle.aml_meaning.specs.Meaning.{meaning}
 use Rattle.aml_frames.specs.declared.frames.Control.{Control}
 use Rattle.aml_frames.specs.declared.frames.Control.TheVariants as control

@@ -4,37 +4,36 @@ use Rattle.std.specs.Prelude.{◌≡◌, ◌≢◌, ℕ, List, Option, Some, Non
 use Rattle.ar_space.specs.Accesses.{Accesses}
 use Rattle.ar_space.specs.Change.{Change, give, settle, ◌>>=◌}
 use Rattle.aml_path.specs.declared.segment.Seg.{Seg}
-use Rattle.aml_marked.specs.Marked.{Below, Walk, over, a_super_name, a_target}
+use Rattle.aml_marks.specs.Marked.{Below, Walk, over, a_super_name, a_target}
 use Rattle.aml_grammar.specs.Tree.{Part}
 use Rattle.aml_objects.specs.declared.entry.Field.{Field}
 use Rattle.aml_objects.specs.Fields.{bits_of_field}
 use Rattle.aml_objects.specs.declared.value.Value.{Value}
 use Rattle.aml_objects.specs.declared.value.Value.TheVariants as value
 use Rattle.aml_objects.specs.declared.value.Reference.{Reference}
+use Rattle.aml_world.specs.declared.values.object_type.Referent.{Referent}
+use Rattle.aml_world.specs.declared.values.object_type.Referent.TheVariants as referent
+use Rattle.aml_world.specs.declared.values.store_target.Held.{Held}
+use Rattle.aml_world.specs.declared.values.store_target.Stored.{Stored}
+use Rattle.aml_world.specs.declared.values.store_target.StoreTarget.{StoreTarget}
+use Rattle.aml_world.specs.declared.values.operation_kind.Count.{Count}
+use Rattle.aml_world.specs.state.State.{State}
+use Rattle.aml_world.specs.state.Run.{Run, lift}
+use Rattle.aml_world.specs.state.Readings.{integer_kept}
+use Rattle.aml_world.specs.values.StoreTargets.{dereferenced, target_read, reference_of, if_initialized, target_referent, value_followed, followed, most_references, reference_in}
+use Rattle.aml_world.specs.values.Stores.{copied_to}
+use Rattle.aml_world.specs.state.Events.{event_named, event_changed, waited}
+use Rattle.aml_world.specs.state.Mutexes.{acquired_at, given_back_at}
+use Rattle.aml_world.specs.values.Operations.{divided_in, lnot_in, size_in, type_of_referent, type_number, result_of_one, result_of_two, result_of_test, counted_by}
+use Rattle.aml_world.specs.values.FormedStores.{formed_to}
+use Rattle.aml_world.specs.values.WideOperations.{converted, string_in, middle_in}
+use Rattle.aml_world.specs.fields.Regions.{value_of_bits, integer_of_bits, integer_alone, referent_of_bits}
+use Rattle.aml_world.specs.fields.Fields.{unit_of, bits_in, written_in, region_bits, region_written}
 use Rattle.aml_meaning.specs.declared.flow.Flow.{Flow}
 use Rattle.aml_meaning.specs.declared.flow.Flow.TheVariants as flow
-use Rattle.aml_meaning.specs.declared.object_type.Referent.{Referent}
-use Rattle.aml_meaning.specs.declared.object_type.Referent.TheVariants as referent
-use Rattle.aml_meaning.specs.declared.store_target.Held.{Held}
-use Rattle.aml_meaning.specs.declared.store_target.Stored.{Stored}
-use Rattle.aml_meaning.specs.declared.store_target.StoreTarget.{StoreTarget}
-use Rattle.aml_meaning.specs.declared.term_kind.Count.{Count}
-use Rattle.aml_meaning.specs.State.{State}
-use Rattle.aml_meaning.specs.Run.{Run, lift}
-use Rattle.aml_meaning.specs.Readings.{integer_kept, value_in}
-use Rattle.aml_meaning.specs.Tasks.{Task, operand_value}
-use Rattle.aml_meaning.specs.StoreTargets.{dereferenced, target_read, reference_of, if_initialized, target_referent, value_followed, followed, most_references}
-use Rattle.aml_meaning.specs.Stores.{copied_to}
-use Rattle.aml_meaning.specs.Events.{event_named, event_changed, waited}
-use Rattle.aml_meaning.specs.Mutexes.{acquired_at, given_back_at}
-use Rattle.aml_meaning.specs.Operations.{divided_in, turned, size_in, type_of_referent, type_number}
-use Rattle.aml_meaning.specs.OperatorTerms.{result_of_one, result_of_two, result_of_test, counted_by}
-use Rattle.aml_meaning.specs.FormedStores.{formed_to}
-use Rattle.aml_meaning.specs.WideOperations.{converted, string_in, middle_in}
-use Rattle.aml_meaning.specs.Regions.{value_of_bits, integer_of_bits, integer_alone, referent_of_bits}
-use Rattle.aml_meaning.specs.Fields.{unit_of, bits_in, written_in, region_bits, region_written}
+use Rattle.aml_meaning.specs.Tasks.{value_in, Task, operand_value}
 use Rattle.aml_meaning.specs.FieldCalls.{asked, answer_within, field_written, completed, stored_to, stored_back, held_value, held_integer, referent_read}
-use Rattle.aml_meaning.specs.TargetTerms.{reference_in, part_target, operand_target, dereferenced_target}
+use Rattle.aml_meaning.specs.TargetTerms.{part_target, operand_target, dereferenced_target}
 use Rattle.aml_frames.specs.declared.uses.Access.{Access}
 use Rattle.aml_frames.specs.declared.uses.Accessed.{Accessed}
 use Rattle.aml_frames.specs.declared.uses.Accessed.TheVariants as object
@@ -99,7 +98,7 @@ monadic_ends monadic.Store levels c = behind_target (super levels) c
 monadic_ends monadic.CopyObject levels c = behind_target (super levels) c
 monadic_ends (monadic.One k) levels c = behind_target (optional levels) c
 monadic_ends (monadic.Convert k) levels c = behind_target (optional levels) c
-monadic_ends monadic.LogicalNot levels c = c
+monadic_ends monadic.LNot levels c = c
 monadic_ends monadic.DerefOf levels c = c
 
 abbrev pub dyadic_ends : Dyadic → ℕ → Site → Site
@@ -287,8 +286,8 @@ module _ {S : Type 0} (accesses : Accesses S) (ev : Task → Run S Flow) where
   monadic_done (monadic.Convert k) levels v c = do
     r ← lift (converted k v)
     target_run (optional levels) (uses.Form r) c
-  monadic_done monadic.LogicalNot levels v c = do
-    r ← lift (turned v)
+  monadic_done monadic.LNot levels v c = do
+    r ← lift (lnot_in v)
     give (flow.Value r)
   monadic_done monadic.DerefOf levels v c = do
     r ← settle (reference_in v)

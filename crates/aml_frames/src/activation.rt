@@ -7,8 +7,8 @@ ghost use Rattle.aml_grammar.specs.Apart.{code_of, operand_of};
 ghost use Rattle.aml_grammar.specs.Names.{starts_name};
 ghost use Rattle.aml_grammar.specs.Shape.{trees_of};
 ghost use Rattle.aml_grammar.specs.State.{is_next};
-ghost use Rattle.aml_marked.specs.Marked.{Below, count_at, first, over, name_length, a_name, a_size, a_term, a_call};
-ghost use Rattle.aml_marked.specs.Marked.{a_target, turns_of, with_row, maybe_else, fields_left};
+ghost use Rattle.aml_marks.specs.Marked.{Below, count_at, first, over, name_length, a_name, a_size, a_term, a_call};
+ghost use Rattle.aml_marks.specs.Marked.{a_target, turns_of, with_row, maybe_else, fields_left};
 ghost use Rattle.aml_scan.specs.RowsAt.{row_at};
 ghost use Rattle.aml_scan.specs.declared.row_places.RowPlace.{RowPlace};
 ghost use Rattle.aml_terms.specs.AtTree.{at_tree, at_list};
@@ -29,8 +29,8 @@ use std::marker::Model;
 use std::mem;
 
 /// The table or the control method that is being evaluated: a share of its bytes and their marks, the scope that its
-/// names stand in, how many control methods are being called, and the place of the next byte. Beside these stands where
-/// the term began that is told where evaluation is refused: no contract sees it.
+/// names stand in, how many control methods are being called, and the place of the next byte. Beside these stand where
+/// the term began that is told where evaluation is refused, and which try was given up last: no contract sees them.
 #[derive(Drop)]
 pub struct Activation {
     pub(crate) bytes: Body,
@@ -40,6 +40,16 @@ pub struct Activation {
     depth: usize,
     position: Position,
     start: usize,
+    given_up: GivenUp,
+}
+
+/// A try to evaluate an operator at once that was given up: the bytes that it went over, and where the operators began
+/// that it was given up in, one inside another. Of their offsets it keeps the lowest six bits, as bits of a mask.
+#[derive(Clone, Copy)]
+struct GivenUp {
+    from: usize,
+    to: usize,
+    operators: u64,
 }
 
 impl Model for Activation {
@@ -48,6 +58,12 @@ impl Model for Activation {
     ghost Value = { Site };
 
     ghost view = { λ a. record { bytes = a.bytes; marks = a.marks; scope = a.scope; depth = a.depth; place = place_between a.bytes a.position.at a.position.end } };
+}
+
+/// The bit of an offset in a mask.
+#[inline(always)]
+fn offset_bit(offset: usize) -> u64 {
+    1 << (offset % 64)
 }
 
 /// The bytes between two offsets: as many as there are.
@@ -105,6 +121,11 @@ impl Activation {
             depth,
             position: Position { at: 0, end },
             start: 0,
+            given_up: GivenUp {
+                from: 0,
+                to: 0,
+                operators: 0,
+            },
         }
     }
 
@@ -125,6 +146,7 @@ impl Activation {
             depth: self.depth,
             position: self.position,
             start: self.start,
+            given_up: self.given_up,
         })
     }
 
@@ -159,11 +181,11 @@ impl Activation {
         }
     }
 
-    /// A share of the path of the scope.
-    pub fn share_scope(&self) -> Result<MethodPath>
-        ensures { Answers result (Ok self.now.scope) }
+    /// The path of the scope, of which shares may be taken.
+    pub fn scope_path(&self) -> &MethodPath
+        ensures { result.now ≡ self.now.scope }
     {
-        self.scope.share()
+        &self.scope
     }
 
     /// Names stand in another scope from here on. Gives the scope that they stood in, with its node.
@@ -199,6 +221,42 @@ impl Activation {
         ensures { self.new ≡ at_place self.old (place_between self.old.bytes position.at position.end) }
     {
         self.position = position;
+    }
+
+    /// Evaluation goes back to a position: the try that began there, to evaluate an operator at once, is given up here.
+    #[inline(always)]
+    pub(crate) fn give_up_from(&mut self, position: Position)
+        ensures { self.new ≡ at_place self.old (place_between self.old.bytes position.at position.end) }
+    {
+        let inner = self.given_up;
+        let at = self.position.at;
+        let from = position.at;
+        // (where this try is given up, one inside of it began that was given up further on)
+        let (to, operators) = if at == inner.from {
+            (inner.to, inner.operators)
+        } else {
+            (at, 0)
+        };
+        self.given_up = GivenUp {
+            from,
+            to,
+            operators: operators | offset_bit(from),
+        };
+        self.go_to(position);
+    }
+
+    /// Whether the operator that begins here is one in which the try was given up that was given up last, but for the
+    /// outermost: it isn't tried again. Operators before these are, since the try went over them. Now and then it says
+    /// so of another one that the try went over; then that one isn't done at once.
+    #[inline(always)]
+    pub(crate) fn is_given_up_here(&self) -> bool {
+        let GivenUp {
+            from,
+            to,
+            operators,
+        } = self.given_up;
+        let at = self.position.at;
+        from < at && at < to && operators & offset_bit(at) != 0
     }
 
     /// A cursor at the next byte.

@@ -3,9 +3,9 @@
 use crate::banked::Selector;
 use crate::boxed::Boxed;
 use crate::uses::Doing;
-use aml_meaning::RegionField;
 use aml_objects::{Body, Field};
 use aml_path::Path;
+use aml_world::RegionField;
 use std::collections::VecDeque;
 
 /// An access of a field of a region that was looked up.

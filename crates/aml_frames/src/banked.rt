@@ -4,8 +4,8 @@ ghost use Rattle.aml_frames.specs.Banked.{field_accessed};
 
 use crate::uses::Reading;
 use aml_fields::{FieldUnits, Region};
-use aml_meaning::RegionField;
 use aml_objects::{FieldUnit, Octets};
+use aml_world::RegionField;
 
 /// The bank field that selects a bank, which was looked up, and the value that is written to it.
 #[derive(Clone, Copy, Debug)]

@@ -10,9 +10,10 @@ use crate::indexed::{UnitWrites, UnitsLeft};
 use crate::position::{MethodPath, Position};
 use crate::uses::{Access, Dyadic, Inquiry, Monadic, SecondOperand, Target, TargetUse};
 use aml_fields::Unit;
-use aml_meaning::{BufferFieldSize, Count, Flow, Searching, StoreTarget};
+use aml_meaning::Flow;
 use aml_objects::{Body, Elements, Field, NodeId, Reference, Value};
 use aml_path::Path;
+use aml_world::{BufferFieldSize, Count, Searching, StoreTarget};
 use ar_space::Result;
 
 /// The items of a list that are left.

@@ -1,15 +1,17 @@
 //! Fields behind an index field and a data field: the units of such a field, which are accessed one by one (ACPI 6.5,
 //! 19.6: IndexField).
 ghost use Rattle.std.specs.Prelude.{◌≡◌, ◌≤◌, ◌+◌, length, replicate, Ok};
+ghost use Rattle.ar_space.specs.Accesses.{bit_count};
 ghost use Rattle.ar_space.specs.Outcome.{Answers, seen};
 ghost use Rattle.aml_fields.specs.Bits.{byte_count};
+ghost use Rattle.aml_world.specs.fields.Fields.{unit_of};
 ghost use Rattle.aml_frames.specs.Indexed.{field_accessed, is_kept, unit_within, put_unit, merged_unit};
 
 use crate::uses::Reading;
 use aml_fields::{FieldUnits, Unit, bytes_for, copy_from_unit, merge};
-use aml_meaning::RegionField;
 use aml_objects::{FieldUnit, Octets, UpdateRule};
-use ar_space::Result;
+use aml_world::RegionField;
+use ar_space::{Result, Width};
 use std::alloc::Global;
 
 /// How many bytes of a field are read at most: more than any field has.
@@ -131,4 +133,32 @@ pub fn merge_unit(field: FieldUnit, source: &[u8], unit: Unit, old: u64) -> u64
         within.position,
         within.count,
     )
+}
+
+/// The unit that the bits of a data field make, cut or with zeros behind them.
+pub fn unit_of(width: Width, bytes: &[u8]) -> u64
+    ensures { result ≡ unit_of width bytes.now }
+{
+    merge(
+        UpdateRule::WriteAsZeros,
+        width,
+        0,
+        0,
+        bytes,
+        0,
+        bit_count(width),
+    )
+}
+
+/// How many bits an access of a width has.
+fn bit_count(width: Width) -> usize
+    ensures count { result ≡ bit_count width }
+    ensures few { result ≤ 64 }
+{
+    match width {
+        Width::W8 => 8,
+        Width::W16 => 16,
+        Width::W32 => 32,
+        Width::W64 => 64,
+    }
 }

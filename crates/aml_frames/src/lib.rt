@@ -2,11 +2,12 @@
 //! evaluated at once, without a frame (`known`, `short_terms` and its like).
 //!
 //! Begin with `activation` and `frames`. Evaluation is one loop over a stack of frames in memory (`aml_evaluation`),
-//! in place of functions that call themselves. A step (`begin_x`, `resume_x`) takes a term up to the first part that
-//! is evaluated, and answers what is left to do (`Next`); what waits for that part is a `Frame`. Steps of fields and
-//! calls are in `aml_accesses`, of data and declarations in `aml_declarations`, of targets in `aml_targets`, of
-//! statements in `aml_statements`, of operators and names in `aml_operators`. A frame here is one of this stack; the
-//! locals and arguments of a call are in a frame of slots (`aml_meaning`). What frames and steps mean is in
+//! in place of functions that call themselves, but for operators over integers that are there already (`at_once`). A
+//! step (`begin_x`, `resume_x`) takes a term up to the first part that is evaluated, and answers what is left to do
+//! (`Next`); what waits for that part is a `Frame`. Steps of fields and calls are in `aml_accesses`, of data and
+//! declarations in `aml_declarations`, of targets in `aml_targets`, of statements in `aml_statements`, of operators and
+//! names in `aml_operators`. A frame here is one of this stack; the locals and arguments of a call are in a frame of
+//! slots (`aml_world`). What frames and steps mean is in
 //! `specs/Follow`, and for single terms in the other files of `specs/`.
 //!
 //! What needs no frame is tried first: an item of a list by `short_items`; an operand by `known`, where it gives an
@@ -21,24 +22,25 @@
 
 mod activation;
 mod addresses;
+mod at_once;
 mod banked;
 mod boxed;
 mod frames;
 mod indexed;
-mod known;
 mod operands;
+mod path_invocations;
 mod position;
-mod short_items;
-mod short_names;
-mod short_opcodes;
-mod short_operations;
-mod short_terms;
 mod tracing;
 mod uses;
 mod values;
 
 pub use activation::Activation;
 pub use addresses::{AddressPart, Asked, FunctionAddress, PciAccess, RegionAccess, Waited};
+pub use at_once::known::{known_integer, use_known};
+pub use at_once::short_items::try_operator;
+pub use at_once::short_names::{acquire_at_name, node_at, release_at_name};
+pub use at_once::short_opcodes::take_operator;
+pub use at_once::short_terms::{short_integer, slot_value};
 pub use banked::{BankReads, BankWrites, BankedField, BanksLeft, Selector};
 pub use boxed::Boxed;
 pub use frames::{
@@ -46,15 +48,11 @@ pub use frames::{
     Package, leave,
 };
 pub use indexed::{
-    IndexedField, UnitReads, UnitWrites, UnitsLeft, is_kept, merge_unit, put_unit, zeros,
+    IndexedField, UnitReads, UnitWrites, UnitsLeft, is_kept, merge_unit, put_unit, unit_of, zeros,
 };
-pub use known::{known_integer, use_known};
 pub use operands::{bytes_operand, is_named, list_operand, number_operand};
+pub use path_invocations::invocation_at;
 pub use position::{MethodPath, Position};
-pub use short_items::try_operator;
-pub use short_names::{acquire_at_name, node_at, release_at_name};
-pub use short_opcodes::take_operator;
-pub use short_terms::{short_integer, slot_value};
 pub use tracing::{
     give_up, tell_last, tell_place, told, told_here, told_loop, told_path, told_turn,
 };

@@ -5,8 +5,9 @@ ghost use Rattle.std.specs.Prelude.{◌≡◌};
 use crate::activation::{Activation, between};
 use crate::frames::{Frame, Loop, Next};
 use crate::position::MethodPath;
-use aml_meaning::{Running, TracePlace, WorldState};
+use aml_meaning::Running;
 use aml_path::{NameString, Path};
+use aml_world::{TracePlace, WorldState};
 use ar_space::{Refusal, Result};
 use std::alloc::Global;
 

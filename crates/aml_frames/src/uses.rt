@@ -2,8 +2,8 @@
 ghost use Rattle.std.specs.Prelude.{◌≡◌};
 ghost use Rattle.aml_frames.specs.Uses.{super, optional};
 
-use aml_meaning::{Conversion, Count, EventChange, OneOperand, RegionField, Test, TwoOperands};
 use aml_objects::{Field, Octets, Value};
+use aml_world::{Conversion, Count, EventChange, OneOperand, RegionField, Test, TwoOperands};
 use ar_space::Width;
 
 /// An operator with one operand.
@@ -17,7 +17,7 @@ pub enum Monadic {
     One(OneOperand),
     /// An operand and a target, which takes what is formed.
     Convert(Conversion),
-    LogicalNot,
+    LNot,
     DerefOf,
 }
 

@@ -2,18 +2,19 @@
 ghost use Rattle.std.specs.Prelude.{◌≡◌};
 ghost use Rattle.ar_space.specs.Change.{Does};
 ghost use Rattle.ar_space.specs.Outcome.{NotMemory};
-ghost use Rattle.aml_meaning.specs.Invocations.{value_of_call};
-ghost use Rattle.aml_meaning.specs.Readings.{integer_in};
+ghost use Rattle.aml_world.specs.state.Readings.{integer_in};
+ghost use Rattle.aml_meaning.specs.Calls.{value_of_call};
 ghost use Rattle.aml_frames.specs.Uses.{told};
 
 use crate::uses::Inquiry;
-use aml_meaning::{Flow, Referent, WorldState};
+use aml_meaning::Flow;
 use aml_objects::Value;
+use aml_world::{Referent, WorldState};
 use ar_space::Result;
 
 /// The integer that a value is converted to: an integer is it already.
 #[inline(always)]
-#[tactic(auto, unfolding(aml_meaning::specs::Readings::integer_in))]
+#[tactic(auto, unfolding(aml_world::specs::state::Readings::integer_in))]
 pub fn integer_of<S>(world: &WorldState<S>, value: Value) -> Result<u64>
     ensures answer { Does result world.now (integer_in value) world.now }
     ensures memory { NotMemory result }

@@ -1,4 +1,1 @@
-pub mod PathTrees
 pub mod TermOperands
-pub mod Counted
-pub mod Deepest

@@ -22,8 +22,8 @@ use Rattle.aml_grammar.specs.declared.context.Position.{Position}
 use Rattle.aml_grammar.specs.declared.context.Position.TheVariants as positions
 use Rattle.aml_grammar.specs.declared.context.Context.{Context}
 use Rattle.aml_grammar.specs.declared.context.Earlier.{Earlier}
-use Rattle.aml_grammar.specs.declared.arities.Arity.{Arity}
-use Rattle.aml_grammar.specs.Arities.{arity_of}
+use Rattle.aml_arities.specs.declared.arities.Arity.{Arity}
+use Rattle.aml_arities.specs.Arities.{arity_of}
 use Rattle.aml_grammar.specs.Table.{row_of}
 use Rattle.aml_grammar.specs.State.{State, Step, fault, bad_name, offset, byte, peek, is_next, enter, leave, times, until_end, marking}
 use Rattle.aml_grammar.specs.Names.{starts_name, name_string, skipping}

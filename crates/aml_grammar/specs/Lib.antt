@@ -1,13 +1,10 @@
 pub mod Apart
-pub mod Arities
-pub mod Counts
 pub mod DeclaredNames
 pub mod Grammar
 pub mod Names
 pub mod Opcodes
 pub mod Operands
 pub mod PartTree
-pub mod PathTree
 pub mod Shape
 pub mod State
 pub mod Table

@@ -9,7 +9,7 @@ use Rattle.aml_grammar.specs.declared.kinds.OperandKind.{OperandKind}
 use Rattle.aml_grammar.specs.declared.kinds.OperandKind.TheVariants as kinds
 use Rattle.aml_grammar.specs.declared.context.Context.{Context}
 use Rattle.aml_grammar.specs.declared.context.Earlier.{Earlier}
-use Rattle.aml_grammar.specs.Arities.{found, or_path, arity_of}
+use Rattle.aml_arities.specs.Arities.{found, or_path, arity_of}
 use Rattle.aml_grammar.specs.DeclaredNames.{declared_path}
 use Rattle.aml_grammar.specs.State.{Step, look, byte, integer, text, all_bytes, bit_count, adding}
 use Rattle.aml_grammar.specs.Names.{name_string, segment}

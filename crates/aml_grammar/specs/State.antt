@@ -7,7 +7,7 @@ use Rattle.ar_space.specs.declared.refusal.TermFault.{TermFault}
 use Rattle.ar_space.specs.declared.refusal.TermFault.TheVariants.{BadPkgLength, Truncated}
 use Rattle.ar_space.specs.Change.{Change, give, stop, ◌>>=◌}
 use Rattle.aml_path.specs.declared.segment.Seg.{Seg}
-use Rattle.aml_grammar.specs.declared.arities.Arity.{Arity}
+use Rattle.aml_arities.specs.declared.arities.Arity.{Arity}
 use Rattle.aml_grammar.specs.declared.marks.Mark.{Mark}
 
 -- what is left of the list or package and where it begins, the arities so far, and the marks of the calls so far

@@ -2,21 +2,16 @@
 //! as, and the trees of terms, taken apart through one trait. `aml_terms` reads bytes by it.
 #![tactic(auto)]
 
-mod arities;
 mod context;
-mod counts;
 mod kinds;
 mod marks;
 mod opcode;
 mod operand_view;
-mod path_tree;
 mod term;
 mod term_part;
 mod term_reader;
 
-pub use arities::{ArgumentCounts, Arities, Arity, deeper};
 pub use context::{Context, Earlier, Position};
-pub use counts::Counts;
 pub use kinds::{Class, OperandKind, OperandKinds, Row};
 pub use marks::Mark;
 pub use opcode::{Opcode, TermCode};

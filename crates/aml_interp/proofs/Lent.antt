@@ -4,9 +4,9 @@ use Rattle.ar_space.specs.declared.refusal.Refusal.{Refusal}
 use Rattle.ar_space.specs.Outcome.{Outcome, seen}
 use Rattle.ar_space.specs.Change.{Change, Does, ◌>>=◌}
 use Rattle.aml_objects.specs.Objects.{Objects}
-use Rattle.aml_meaning.specs.State.{State, on_objects}
-use Rattle.aml_meaning.specs.Run.{Run, lift}
-use Rattle.aml_meaning.proofs.Lifted.{objects_seen, parts}
+use Rattle.aml_world.specs.state.State.{State, on_objects}
+use Rattle.aml_world.specs.state.Run.{Run, lift}
+use Rattle.aml_world.proofs.Lifted.{objects_seen, parts}
 use Rattle.aml_meaning.proofs.Runs.{lift_ok, lift_err, lift_seen_err}
 
 module _ {S A B : Type 0} {w : State S} (b : ℕ) (o : Objects) (m : Change Objects A) where

@@ -5,10 +5,10 @@ use Rattle.ar_space.specs.Accesses.{Accesses}
 use Rattle.ar_space.specs.Outcome.{Outcome}
 use Rattle.ar_space.specs.Change.{Does}
 use Rattle.aml_path.specs.declared.segment.Seg.{Seg}
-use Rattle.aml_meaning.specs.State.{State}
+use Rattle.aml_world.specs.state.State.{State}
+use Rattle.aml_world.specs.declared.state.datum.Datum.{Datum}
+use Rattle.aml_world.specs.state.Given.{Given, given_of}
 use Rattle.aml_meaning.proofs.Runs.{calling}
-use Rattle.aml_meaning.specs.declared.datum.Datum.{Datum}
-use Rattle.aml_meaning.specs.Given.{Given, given_of}
 use Rattle.aml_meaning.specs.Calling.{ending, with_steps, answer_exported, answered}
 
 -- arguments are counted before they are looked at

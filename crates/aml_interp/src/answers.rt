@@ -1,19 +1,19 @@
 //! What the object at a path answers (ACPI 6.5, 5.5).
-ghost use Rattle.std.specs.Prelude.{◌≡◌, [], Ok, length, map};
-ghost use Rattle.ar_space.specs.Outcome.{Answers, seen};
+ghost use Rattle.std.specs.Prelude.{◌≡◌, length, map};
+ghost use Rattle.ar_space.specs.Outcome.{seen};
 ghost use Rattle.ar_space.specs.Change.{Does};
-ghost use Rattle.aml_meaning.specs.Given.{given_of};
-ghost use Rattle.aml_meaning.specs.Readings.{absolute};
-ghost use Rattle.aml_meaning.specs.Invocations.{invocation_found};
+ghost use Rattle.aml_world.specs.state.Given.{given_of};
 ghost use Rattle.aml_meaning.specs.Calling.{called, counted, evaluated, with_rest, with_steps, answer_exported};
 ghost use Rattle.aml_meaning.specs.Calling.{answered, invocation_exported, value_of};
 
 use crate::export::value_exported;
 use crate::fields::{field_given, field_value};
 use aml_evaluation::call_method;
-use aml_meaning::{Datum, Invocation, Running, World, WorldState};
+use aml_frames::invocation_at;
+use aml_meaning::{Running, World};
 use aml_objects::Value;
-use aml_path::{NameString, Path, Prefix};
+use aml_path::Path;
+use aml_world::{Datum, Invocation};
 use ar_space::{MAX_NESTING, Result, Space};
 use std::alloc::Global;
 
@@ -117,7 +117,7 @@ fn answer_exported<S: Space>(
     ensures { Does (seen given_of result) run.new (answer_exported S.accesses path.now (length arguments.now)
         (map given_of arguments.now)) run.old }
 {
-    let found = invocation(&run.world, path, arguments.len());
+    let found = invocation_at(&run.world, path, arguments.len());
     let invocation = told(run, path, found)?;
     let values = run.world.import_all(arguments)?;
     invocation_exported(run, invocation, &values)
@@ -146,7 +146,7 @@ fn invocation_exported<S: Space>(
 fn call<S: Space>(run: &mut Running<S>, path: &Path, arguments: &[Value]) -> Result<Value>
     ensures { Does result run.new (called S.accesses path.now arguments.now) run.old }
 {
-    let found = invocation(&run.world, path, arguments.len());
+    let found = invocation_at(&run.world, path, arguments.len());
     let invocation = told(run, path, found)?;
     value_of(run, invocation, arguments)
 }
@@ -160,24 +160,6 @@ fn told<S>(run: &mut Running<S>, path: &Path, found: Result<Invocation>) -> Resu
         run.world.put_trace_path(path);
     }
     found
-}
-
-/// What the object at a path is that is asked for with so many arguments.
-fn invocation<S: Space>(world: &WorldState<S>, path: &Path, count: usize) -> Result<Invocation>
-    ensures { Does result world.now (invocation_found [] (absolute path.now) count) world.now }
-{
-    match absolute(world.alloc, path) {
-        Ok(name) => from_root(world, &name, count),
-        Err(refusal) => Err(refusal),
-    }
-}
-
-/// What the object is that a name finds from the root and that is asked for with so many arguments.
-fn from_root<S: Space>(world: &WorldState<S>, name: &NameString, count: usize) -> Result<Invocation>
-    ensures { Does result world.now (invocation_found [] name.now count) world.now }
-{
-    let root = Path::root(world.alloc);
-    world.invocation(world.scope(&root), name, count)
 }
 
 #[tactic(auto, using(aml_meaning::proofs::Runs::calling))]
@@ -194,11 +176,4 @@ fn value_of<S: Space>(
         Invocation::Method(path, body) => call_method(run, 0, (path, body), arguments),
         Invocation::Osi => run.world.osi(arguments),
     }
-}
-
-/// A path, as a name that stands for it anywhere.
-fn absolute(alloc: Global, path: &Path) -> Result<NameString>
-    ensures { Answers result (Ok (absolute path.now)) }
-{
-    Ok(NameString::new(Prefix::Root, path.copy(alloc)?.into_vec()))
 }

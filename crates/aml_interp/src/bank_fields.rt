@@ -4,8 +4,8 @@ ghost use Rattle.std.specs.Prelude.{◌≡◌};
 ghost use Rattle.ar_space.specs.Change.{Does};
 ghost use Rattle.ar_space.specs.Outcome.{seen};
 ghost use Rattle.aml_fields.specs.UnitByUnit.{bits_read};
+ghost use Rattle.aml_world.specs.fields.Fields.{bank_selected, bank_unit, bank_bits};
 ghost use Rattle.aml_meaning.specs.Meaning.{meaning};
-ghost use Rattle.aml_meaning.specs.Fields.{bank_selected, bank_unit, bank_bits};
 ghost use Rattle.aml_frames.specs.Uses.{asking};
 
 use crate::fields::{located, region_written};
@@ -16,7 +16,7 @@ use aml_objects::{Bank, FieldUnit};
 use ar_space::{Result, Space, Width};
 
 /// The bits of a field in a bank of the region with the number of a declaration.
-#[tactic(auto, using(aml_meaning::proofs::Runs::running), unfolding(aml_meaning::specs::Fields::bank_bits))]
+#[tactic(auto, using(aml_meaning::proofs::Runs::running), unfolding(aml_world::specs::fields::Fields::bank_bits))]
 pub(crate) fn bank_bits<S: Space>(
     run: &mut Running<S>,
     calls: usize,
@@ -56,7 +56,8 @@ fn bank_reads<S: Space>(
 }
 
 /// One unit is read: the bank is selected, and the unit with a width is read in the region.
-#[tactic(auto, using(aml_meaning::proofs::Runs::running, crate::proofs::Lent::lent), unfolding(aml_meaning::specs::Fields::bank_unit))]
+#[tactic(auto, using(aml_meaning::proofs::Runs::running, crate::proofs::Lent::lent), //
+unfolding(aml_world::specs::fields::Fields::bank_unit))]
 fn bank_unit<S: Space>(
     run: &mut Running<S>,
     calls: usize,
@@ -73,7 +74,7 @@ fn bank_unit<S: Space>(
 }
 
 /// The bank is selected: its value is written to the bank field. A value that the bank field can't hold is refused.
-#[tactic(auto, using(aml_meaning::proofs::Runs::running), unfolding(aml_meaning::specs::Fields::bank_selected))]
+#[tactic(auto, using(aml_meaning::proofs::Runs::running), unfolding(aml_world::specs::fields::Fields::bank_selected))]
 fn select<S: Space>(run: &mut Running<S>, calls: usize, bank: Selector) -> Result<()>
     ensures { Does result run.new (bank_selected S.accesses (asking S.accesses (meaning S.accesses) calls)
         bank.field bank.value) run.old }

@@ -2,13 +2,14 @@
 //! 6.1.1).
 ghost use Rattle.std.specs.Prelude.{◌≡◌};
 ghost use Rattle.ar_space.specs.Change.{Does};
+ghost use Rattle.aml_world.specs.fields.Fields.{bus_behind, bus_behind_all};
 ghost use Rattle.aml_meaning.specs.Meaning.{meaning};
-ghost use Rattle.aml_meaning.specs.Fields.{bus_behind, bus_behind_all};
 ghost use Rattle.aml_frames.specs.Uses.{asking};
 
 use aml_evaluation::ask_integer;
-use aml_meaning::{Running, adr, secondary_bus};
+use aml_meaning::Running;
 use aml_path::Path;
+use aml_world::{adr, secondary_bus};
 use ar_space::{Result, Space};
 use std::collections::VecDeque;
 
@@ -32,7 +33,8 @@ pub(crate) fn bus_behind_all<S: Space>(
 }
 
 /// The bus behind one bridge: its address is asked for, and its secondary bus is read.
-#[tactic(auto, using(aml_meaning::proofs::Runs::running, crate::proofs::Lent::lent), unfolding(aml_meaning::specs::Fields::bus_behind))]
+#[tactic(auto, using(aml_meaning::proofs::Runs::running, crate::proofs::Lent::lent), //
+unfolding(aml_world::specs::fields::Fields::bus_behind))]
 fn bus_behind<S: Space>(
     run: &mut Running<S>,
     calls: usize,

@@ -3,16 +3,17 @@ ghost use Rattle.std.specs.Prelude.{◌≡◌, [], map};
 ghost use Rattle.ar_space.specs.Outcome.{seen};
 ghost use Rattle.ar_space.specs.Change.{Does};
 ghost use Rattle.aml_objects.specs.Objects.{string_at, buffer_at};
-ghost use Rattle.aml_meaning.specs.Given as given;
+ghost use Rattle.aml_world.specs.state.Given as given;
 ghost use Rattle.aml_meaning.specs.Exporting.{text_exported, bytes_exported, reference_exported, value_exported};
 ghost use Rattle.aml_meaning.specs.Exporting.{use_exported, name_exported, held_exported, element_exported};
 ghost use Rattle.aml_meaning.specs.Exporting.{each_exported, elements_exported, package_exported};
 
 use crate::answers::CALLS_OF_A_FIELD;
 use crate::fields::field_given;
-use aml_meaning::{Datum, NameUse, Running};
+use aml_meaning::Running;
 use aml_objects::{Element, Reference, Value};
 use aml_path::{NameString, Path};
+use aml_world::{Datum, NameUse};
 use ar_space::{EvaluationFault, Refusal, Result, Space};
 
 /// The value of a package with these elements.
@@ -22,7 +23,8 @@ fn package(list: Vec<Datum>) -> Datum
     Datum::Package(list)
 }
 
-#[tactic(auto, using(aml_meaning::proofs::Exports::exporting, crate::proofs::Lent::lent), unfolding(aml_meaning::specs::Exporting::text_exported))]
+#[tactic(auto, using(aml_meaning::proofs::Exports::exporting, crate::proofs::Lent::lent), //
+unfolding(aml_meaning::specs::Exporting::text_exported))]
 fn text_exported<S: Space>(run: &Running<S>, object: u32) -> Result<Datum>
     ensures { Does (seen given.given_of result) run.now (text_exported object) run.now }
 {
@@ -30,7 +32,8 @@ fn text_exported<S: Space>(run: &Running<S>, object: u32) -> Result<Datum>
     Ok(Datum::Text(bytes))
 }
 
-#[tactic(auto, using(aml_meaning::proofs::Exports::exporting, crate::proofs::Lent::lent), unfolding(aml_meaning::specs::Exporting::bytes_exported))]
+#[tactic(auto, using(aml_meaning::proofs::Exports::exporting, crate::proofs::Lent::lent), //
+unfolding(aml_meaning::specs::Exporting::bytes_exported))]
 fn bytes_exported<S: Space>(run: &Running<S>, object: u32) -> Result<Datum>
     ensures { Does (seen given.given_of result) run.now (bytes_exported object) run.now }
 {
@@ -38,7 +41,8 @@ fn bytes_exported<S: Space>(run: &Running<S>, object: u32) -> Result<Datum>
     Ok(Datum::Bytes(bytes))
 }
 
-#[tactic(auto, using(aml_meaning::proofs::Exports::exporting), unfolding(aml_meaning::specs::Exporting::reference_exported))]
+#[tactic(auto, using(aml_meaning::proofs::Exports::exporting), //
+unfolding(aml_meaning::specs::Exporting::reference_exported))]
 fn reference_exported<S: Space>(run: &Running<S>, reference: Reference) -> Result<Datum>
     ensures { Does (seen given.given_of result) run.now (reference_exported reference) run.now }
 {
@@ -52,7 +56,8 @@ fn reference_exported<S: Space>(run: &Running<S>, reference: Reference) -> Resul
 
 /// A value as an answer hands it out, with packages nested at most so many levels deep.
 #[cycle(exporting)]
-#[tactic(auto, using(aml_meaning::proofs::Exports::exporting), unfolding(aml_meaning::specs::Exporting::value_exported))]
+#[tactic(auto, using(aml_meaning::proofs::Exports::exporting), //
+unfolding(aml_meaning::specs::Exporting::value_exported))]
 pub(crate) fn value_exported<S: Space>(
     run: &mut Running<S>,
     levels: usize,
@@ -85,7 +90,8 @@ fn package_exported<S: Space>(run: &mut Running<S>, levels: usize, object: u32) 
 /// The elements are those that the package has when its turn comes. What the address of a field stores into it
 /// meanwhile doesn't show.
 #[cycle(exporting)]
-#[tactic(auto, using(aml_meaning::proofs::Exports::exporting, crate::proofs::Lent::lent), unfolding(aml_meaning::specs::Exporting::elements_exported))]
+#[tactic(auto, using(aml_meaning::proofs::Exports::exporting, crate::proofs::Lent::lent), //
+unfolding(aml_meaning::specs::Exporting::elements_exported))]
 fn elements_exported<S: Space>(run: &mut Running<S>, levels: usize, object: u32) -> Result<Datum>
     ensures { Does (seen given.given_of result) run.new (elements_exported S.accesses
         (package_exported S.accesses levels) object) run.old }
@@ -116,7 +122,8 @@ fn each_exported<S: Space>(
 
 /// An element of a package, which costs a step.
 #[cycle(exporting)]
-#[tactic(auto, using(aml_meaning::proofs::Exports::exporting), unfolding(aml_meaning::specs::Exporting::element_exported))]
+#[tactic(auto, using(aml_meaning::proofs::Exports::exporting), //
+unfolding(aml_meaning::specs::Exporting::element_exported))]
 fn element_exported<S: Space>(
     run: &mut Running<S>,
     levels: usize,

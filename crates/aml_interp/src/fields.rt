@@ -2,10 +2,10 @@
 ghost use Rattle.std.specs.Prelude.{◌≡◌};
 ghost use Rattle.ar_space.specs.Change.{Does};
 ghost use Rattle.ar_space.specs.Outcome.{seen};
+ghost use Rattle.aml_world.specs.fields.Fields.{inherited, pci_address, space_at, located, region_bits, region_written};
+ghost use Rattle.aml_world.specs.fields.Fields.{bits_in, field_value, field_given};
+ghost use Rattle.aml_world.specs.state.Given.{given_of};
 ghost use Rattle.aml_meaning.specs.Meaning.{meaning};
-ghost use Rattle.aml_meaning.specs.Fields.{inherited, pci_address, space_at, located, region_bits, region_written};
-ghost use Rattle.aml_meaning.specs.Fields.{bits_in, field_value, field_given};
-ghost use Rattle.aml_meaning.specs.Given.{given_of};
 ghost use Rattle.aml_frames.specs.Uses.{asking};
 
 use crate::bank_fields::bank_bits;
@@ -13,16 +13,17 @@ use crate::bridges::bus_behind_all;
 use crate::index_fields::index_bits;
 use aml_evaluation::ask_integer;
 use aml_fields::{AddressSpace, Region, read_buffer_field, read_field, write_field};
-use aml_meaning::{
-    Datum, RegionField, RegionSpace, Running, Sought, adr, base_bus, pci_space, segment_group,
-    space_numbered,
-};
+use aml_meaning::Running;
 use aml_objects::{Field, FieldSource, Octets, Value};
 use aml_path::{Path, Seg};
+use aml_world::{
+    Datum, RegionField, RegionSpace, Sought, adr, base_bus, pci_space, segment_group,
+    space_numbered,
+};
 use ar_space::{EvaluationFault, Refusal, Result, Space};
 
 /// The bits of a field, as a value.
-#[tactic(auto, using(aml_meaning::proofs::Runs::running), unfolding(aml_meaning::specs::Fields::field_value))]
+#[tactic(auto, using(aml_meaning::proofs::Runs::running), unfolding(aml_world::specs::fields::Fields::field_value))]
 pub(crate) fn field_value<S: Space>(
     run: &mut Running<S>,
     calls: usize,
@@ -37,7 +38,7 @@ pub(crate) fn field_value<S: Space>(
 }
 
 /// The bits of a field, as they are handed out.
-#[tactic(auto, using(aml_meaning::proofs::Runs::running), unfolding(aml_meaning::specs::Fields::field_given))]
+#[tactic(auto, using(aml_meaning::proofs::Runs::running), unfolding(aml_world::specs::fields::Fields::field_given))]
 pub(crate) fn field_given<S: Space>(
     run: &mut Running<S>,
     calls: usize,
@@ -67,7 +68,8 @@ fn bits_in<S: Space>(run: &mut Running<S>, calls: usize, field: Field) -> Result
 }
 
 /// The bits of a field of a region.
-#[tactic(auto, using(aml_meaning::proofs::Runs::running, crate::proofs::Lent::lent), unfolding(aml_meaning::specs::Fields::region_bits))]
+#[tactic(auto, using(aml_meaning::proofs::Runs::running, crate::proofs::Lent::lent), //
+unfolding(aml_world::specs::fields::Fields::region_bits))]
 pub(crate) fn region_bits<S: Space>(
     run: &mut Running<S>,
     calls: usize,
@@ -81,7 +83,8 @@ pub(crate) fn region_bits<S: Space>(
 }
 
 /// Writes a field of a region.
-#[tactic(auto, using(aml_meaning::proofs::Runs::running, crate::proofs::Lent::lent), unfolding(aml_meaning::specs::Fields::region_written))]
+#[tactic(auto, using(aml_meaning::proofs::Runs::running, crate::proofs::Lent::lent), //
+unfolding(aml_world::specs::fields::Fields::region_written))]
 pub(crate) fn region_written<S: Space>(
     run: &mut Running<S>,
     calls: usize,
@@ -96,7 +99,7 @@ pub(crate) fn region_written<S: Space>(
 }
 
 /// Where the region with the number of a declaration is; its address is asked for.
-#[tactic(auto, using(aml_meaning::proofs::Runs::running), unfolding(aml_meaning::specs::Fields::located))]
+#[tactic(auto, using(aml_meaning::proofs::Runs::running), unfolding(aml_world::specs::fields::Fields::located))]
 pub(crate) fn located<S: Space>(run: &mut Running<S>, calls: usize, number: u64) -> Result<Region>
     ensures { Does result run.new (located S.accesses (asking S.accesses (meaning S.accesses) calls) number) run.old }
 {
@@ -130,7 +133,7 @@ fn space_at<S: Space>(
 
 /// The registers of the PCI function that a scope belongs to: its segment group, its bus, the buses behind the bridges
 /// above it and its address are asked for, in this order.
-#[tactic(auto, using(aml_meaning::proofs::Runs::running), unfolding(aml_meaning::specs::Fields::pci_address))]
+#[tactic(auto, using(aml_meaning::proofs::Runs::running), unfolding(aml_world::specs::fields::Fields::pci_address))]
 fn pci_address<S: Space>(run: &mut Running<S>, calls: usize, scope: &Path) -> Result<AddressSpace>
     ensures { Does result run.new
         (pci_address S.accesses (asking S.accesses (meaning S.accesses) calls) scope.now) run.old }
@@ -146,7 +149,7 @@ fn pci_address<S: Space>(run: &mut Running<S>, calls: usize, scope: &Path) -> Re
 }
 
 /// What the nearest object of a name answers, from a device on upward; 0 where there is none.
-#[tactic(auto, using(aml_meaning::proofs::Runs::running), unfolding(aml_meaning::specs::Fields::inherited))]
+#[tactic(auto, using(aml_meaning::proofs::Runs::running), unfolding(aml_world::specs::fields::Fields::inherited))]
 fn inherited<S: Space>(run: &mut Running<S>, calls: usize, name: Seg, device: &Path) -> Result<u64>
     ensures { Does result run.new (inherited S.accesses (asking S.accesses (meaning S.accesses) calls) name
         device.now) run.old }

@@ -1,22 +1,22 @@
 //! Fields behind an index field and a data field, read for a caller outside of AML: the offset of each unit is
 //! written to the index field first (ACPI 6.5, 19.6: IndexField).
-ghost use Rattle.std.specs.Prelude.{◌≡◌, ◌≤◌};
 ghost use Rattle.ar_space.specs.Change.{Does};
-ghost use Rattle.ar_space.specs.Accesses.{bit_count};
 ghost use Rattle.ar_space.specs.Outcome.{seen};
 ghost use Rattle.aml_fields.specs.UnitByUnit.{bits_read};
+ghost use Rattle.aml_world.specs.fields.Fields.{index_unit, index_bits};
 ghost use Rattle.aml_meaning.specs.Meaning.{meaning};
-ghost use Rattle.aml_meaning.specs.Fields.{unit_of, index_unit, index_bits};
 ghost use Rattle.aml_frames.specs.Uses.{asking};
 
 use crate::fields::{region_bits, region_written};
-use aml_fields::{Unit, bytes_for, bytes_of, copy_from_unit, merge, units};
-use aml_meaning::{RegionField, Running};
-use aml_objects::{FieldUnit, UpdateRule};
+use aml_fields::{Unit, bytes_for, bytes_of, copy_from_unit, units};
+use aml_frames::unit_of;
+use aml_meaning::Running;
+use aml_objects::FieldUnit;
+use aml_world::RegionField;
 use ar_space::{Result, Space, Width};
 
 /// The bits of a field behind the fields with these numbers of declarations.
-#[tactic(auto, using(aml_meaning::proofs::Runs::running), unfolding(aml_meaning::specs::Fields::index_bits))]
+#[tactic(auto, using(aml_meaning::proofs::Runs::running), unfolding(aml_world::specs::fields::Fields::index_bits))]
 pub(crate) fn index_bits<S: Space>(
     run: &mut Running<S>,
     calls: usize,
@@ -53,7 +53,7 @@ fn index_reads<S: Space>(
 }
 
 /// One unit is read: its offset is written to the index field, and the data field is read.
-#[tactic(auto, using(aml_meaning::proofs::Runs::running), unfolding(aml_meaning::specs::Fields::index_unit))]
+#[tactic(auto, using(aml_meaning::proofs::Runs::running), unfolding(aml_world::specs::fields::Fields::index_unit))]
 fn index_unit<S: Space>(
     run: &mut Running<S>,
     calls: usize,
@@ -68,32 +68,4 @@ fn index_unit<S: Space>(
     region_written(run, calls, index, &bytes_of(unit.offset))?;
     let bytes = region_bits(run, calls, behind)?;
     Ok(unit_of(width, &bytes))
-}
-
-/// The unit that the bits of a data field make, cut or with zeros behind them.
-fn unit_of(width: Width, bytes: &[u8]) -> u64
-    ensures { result ≡ unit_of width bytes.now }
-{
-    merge(
-        UpdateRule::WriteAsZeros,
-        width,
-        0,
-        0,
-        bytes,
-        0,
-        bit_count(width),
-    )
-}
-
-/// How many bits an access of a width has.
-fn bit_count(width: Width) -> usize
-    ensures count { result ≡ bit_count width }
-    ensures few { result ≤ 64 }
-{
-    match width {
-        Width::W8 => 8,
-        Width::W16 => 16,
-        Width::W32 => 32,
-        Width::W64 => 64,
-    }
 }

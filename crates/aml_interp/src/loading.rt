@@ -2,7 +2,7 @@
 ghost use Rattle.std.specs.Prelude.{◌≡◌, replicate};
 ghost use Rattle.ar_space.specs.Change.{Does};
 ghost use Rattle.aml_grammar.specs.Shape.{trees_of};
-ghost use Rattle.aml_marked.specs.Marked.{trees_by};
+ghost use Rattle.aml_marks.specs.Marked.{trees_by};
 ghost use Rattle.aml_objects.specs.declared.value.Value.TheVariants.{Uninitialized};
 ghost use Rattle.aml_meaning.specs.Calling.{loaded, table_run, in_frame, framed, with_steps, at_root};
 

@@ -2,11 +2,11 @@
 ghost use Rattle.ar_space.specs.Change.{Does};
 ghost use Rattle.ar_space.specs.Outcome.{seen};
 ghost use Rattle.aml_grammar.specs.Shape.{trees_of};
-ghost use Rattle.aml_marked.specs.Marked.{trees_by};
+ghost use Rattle.aml_marks.specs.Marked.{trees_by};
 ghost use Rattle.aml_meaning.specs.Calling.{table_terms};
 
-use aml_meaning::WorldState;
 use aml_terms::{Marks, scan_table_within};
+use aml_world::WorldState;
 use ar_space::Result;
 
 /// The marks of a table, given without its header; the names that it declares take their arguments from now on. It is

@@ -27,16 +27,17 @@ use Rattle.aml_objects.specs.declared.entry.NamedObject.TheVariants as named
 use Rattle.aml_convert.specs.Conversions.{to_integer_of}
 use Rattle.aml_convert.specs.Integers.{bits_of}
 use Rattle.aml_namespace.specs.Search.{Found, found}
-use Rattle.aml_meaning.specs.declared.invocation.Invocation.{Invocation}
-use Rattle.aml_meaning.specs.declared.invocation.Invocation.TheVariants as invocation
+use Rattle.aml_world.specs.declared.state.invocation.Invocation.{Invocation}
+use Rattle.aml_world.specs.declared.state.invocation.Invocation.TheVariants as invocation
+use Rattle.aml_world.specs.fields.Fields.{bits_in, field_part}
+use Rattle.aml_world.specs.state.Invocations.{invocation_of, invocation_of_object, named_use, invocation_found}
+use Rattle.aml_world.specs.state.Readings.{absolute, arguments_of, entry_found, arguments_found, read_as}
+use Rattle.aml_world.specs.fields.Regions.{integer_only, integer_of_bits, integer_alone}
+use Rattle.aml_world.specs.state.Run.{Run, lift}
+use Rattle.aml_world.specs.state.State.{State}
 use Rattle.aml_meaning.specs.FieldCalls.{asked, method_integer, answer_over, answer_within, called_at}
-use Rattle.aml_meaning.specs.Fields.{bits_in, field_part}
-use Rattle.aml_meaning.specs.Invocations.{invocation_of, invocation_of_object, named_use, invocation_found, method_value}
+use Rattle.aml_meaning.specs.Calls.{method_value}
 use Rattle.aml_meaning.specs.Meaning.{meaning}
-use Rattle.aml_meaning.specs.Readings.{absolute, arguments_of, entry_found, arguments_found, read_as}
-use Rattle.aml_meaning.specs.Regions.{integer_only, integer_of_bits, integer_alone}
-use Rattle.aml_meaning.specs.Run.{Run, lift}
-use Rattle.aml_meaning.specs.State.{State}
 use Rattle.aml_laws.specs.AddressObjects.{IsAskedAt, TakesNoArguments, HoldsNoValueAt, IsPartOfAddress, an_integer, no_value, a_string, a_buffer, a_package, a_reference}
 use Rattle.aml_laws.specs.AddressObjects.{ObjectAnswers, of_data, of_field, of_wide_field, of_refused_field, of_method, of_refused_method}
 use Rattle.aml_laws.specs.DeclaredObjects.{method_of}

@@ -16,14 +16,14 @@ use Rattle.aml_fields.specs.declared.region.AddressSpace.{AddressSpace}
 use Rattle.aml_fields.specs.declared.region.AddressSpace.TheVariants as spaces
 use Rattle.aml_fields.specs.Regions.{unit_place, faulted, read_access, read_unit}
 use Rattle.aml_namespace.specs.Namespace.{Map, above}
-use Rattle.aml_meaning.specs.declared.pci_functions.Sought.{Sought}
-use Rattle.aml_meaning.specs.declared.pci_functions.Sought.TheVariants as sought
-use Rattle.aml_meaning.specs.State.{State, on_space}
-use Rattle.aml_meaning.specs.Run.{Run, lift}
-use Rattle.aml_meaning.specs.PciFunctions.{adr, segment_group, base_bus, fits, nearest_from, nearest, or_deep, behind_asked, pci_function}
-use Rattle.aml_meaning.specs.Regions.{pci_space}
-use Rattle.aml_meaning.specs.Bridges.{bridge_header, bridges_to, bridges_above, header_byte, secondary_bus}
-use Rattle.aml_meaning.specs.Fields.{part_in, inherited, bus_behind, bus_behind_all, pci_address}
+use Rattle.aml_world.specs.declared.fields.pci_functions.Sought.{Sought}
+use Rattle.aml_world.specs.declared.fields.pci_functions.Sought.TheVariants as sought
+use Rattle.aml_world.specs.state.State.{State, on_space}
+use Rattle.aml_world.specs.state.Run.{Run, lift}
+use Rattle.aml_world.specs.fields.PciFunctions.{adr, segment_group, base_bus, fits, nearest_from, nearest, or_deep, behind_asked, pci_function}
+use Rattle.aml_world.specs.fields.Regions.{pci_space}
+use Rattle.aml_world.specs.fields.Bridges.{bridge_header, bridges_to, bridges_above, header_byte, secondary_bus}
+use Rattle.aml_world.specs.fields.Fields.{part_in, inherited, bus_behind, bus_behind_all, pci_address}
 use Rattle.aml_laws.specs.PciAddresses.{MayBeFunction, BridgeTells, is_bridge, with_space, PartAnswers, of_none, of_nearest, BridgesLead, no_further, leads_on, AddressAnswers, in_range, AddressFound}
 use Rattle.aml_laws.specs.PciScopes.{IsFunctionAt, IsNearestSuch}
 use Rattle.aml_laws.proofs.ChangesNothing.{pci_function_changes_nothing}

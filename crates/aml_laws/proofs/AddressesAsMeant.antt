@@ -7,12 +7,12 @@ use Rattle.ar_space.specs.Outcome.{Outcome}
 use Rattle.aml_path.specs.declared.segment.Seg.{Seg}
 use Rattle.aml_fields.specs.declared.region.AddressSpace.{AddressSpace}
 use Rattle.aml_fields.specs.declared.region.AddressSpace.TheVariants as spaces
+use Rattle.aml_world.specs.state.State.{State}
+use Rattle.aml_world.specs.state.Run.{Run}
+use Rattle.aml_world.specs.fields.Fields.{pci_address}
 use Rattle.aml_meaning.specs.declared.flow.Flow.{Flow}
-use Rattle.aml_meaning.specs.State.{State}
-use Rattle.aml_meaning.specs.Run.{Run}
 use Rattle.aml_meaning.specs.Tasks.{Task}
 use Rattle.aml_meaning.specs.Meaning.{evaluated_within, meaning}
-use Rattle.aml_meaning.specs.Fields.{pci_address}
 use Rattle.aml_meaning.specs.FieldCalls.{called_at}
 use Rattle.aml_laws.specs.Histories.{scope_of}
 use Rattle.aml_laws.specs.RegionAccesses.{IsPlaceOf, is_address, is_port, is_register}

@@ -4,13 +4,13 @@ use Rattle.ar_space.specs.declared.refusal.Refusal.TheVariants as refusal
 use Rattle.ar_space.specs.declared.refusal.ValueFault.TheVariants.{WrongType}
 use Rattle.ar_space.specs.Accesses.{Accesses}
 use Rattle.aml_path.specs.declared.segment.Seg.{Seg}
-use Rattle.aml_meaning.specs.State.{State}
-use Rattle.aml_meaning.specs.Run.{Run}
+use Rattle.aml_world.specs.state.State.{State}
+use Rattle.aml_world.specs.state.Run.{Run}
+use Rattle.aml_world.specs.fields.PciFunctions.{adr, segment_group, base_bus, pci_function}
+use Rattle.aml_world.specs.fields.Bridges.{bridges_to}
+use Rattle.aml_world.specs.fields.Fields.{pci_address}
 use Rattle.aml_meaning.specs.FieldCalls.{called_at}
 use Rattle.aml_meaning.specs.Meaning.{meaning}
-use Rattle.aml_meaning.specs.PciFunctions.{adr, segment_group, base_bus, pci_function}
-use Rattle.aml_meaning.specs.Bridges.{bridges_to}
-use Rattle.aml_meaning.specs.Fields.{pci_address}
 use Rattle.aml_laws.specs.AddressObjects.{HoldsNoValueAt}
 use Rattle.aml_laws.specs.PciAddresses.{PartAnswers, of_nearest, BridgesLead, segment_refused, bus_refused, function_refused}
 use Rattle.aml_laws.specs.PciScopes.{StandsIn, IsNearestSuch}

@@ -8,14 +8,15 @@ use Rattle.ar_space.specs.Change.{give, settle, go_on, ◌>>=◌}
 use Rattle.aml_path.specs.declared.segment.Seg.{Seg}
 use Rattle.aml_objects.specs.declared.value.Value.{Value}
 use Rattle.aml_namespace.specs.Search.{found}
+use Rattle.aml_world.specs.state.Given.{Given}
+use Rattle.aml_world.specs.state.Invocations.{named_use, invocation_found}
+use Rattle.aml_world.specs.state.Readings.{entry_found, arguments_found}
+use Rattle.aml_world.specs.state.Run.{lift}
+use Rattle.aml_world.specs.state.State.{State}
 use Rattle.aml_meaning.specs.Calling.{called, counted, evaluated, answer_exported, answered}
 use Rattle.aml_meaning.specs.Exporting.{exported}
-use Rattle.aml_meaning.specs.Given.{Given}
-use Rattle.aml_meaning.specs.Invocations.{method_value, named_use, invocation_found}
+use Rattle.aml_meaning.specs.Calls.{method_value}
 use Rattle.aml_meaning.specs.Meaning.{meaning}
-use Rattle.aml_meaning.specs.Readings.{entry_found, arguments_found}
-use Rattle.aml_meaning.specs.Run.{lift}
-use Rattle.aml_meaning.specs.State.{State}
 use Rattle.aml_laws.specs.CallTerms.{method_entry, HandedInTurn}
 use Rattle.aml_laws.specs.Ends.{EndsAs}
 use Rattle.aml_laws.specs.NamesWritten.{from_root}

@@ -12,13 +12,14 @@ use Rattle.aml_objects.specs.declared.value.Reference.{Reference}
 use Rattle.aml_objects.specs.declared.value.Reference.TheVariants as reference
 use Rattle.aml_objects.specs.declared.object.Element.{Element}
 use Rattle.aml_objects.specs.declared.object.Element.TheVariants as element
-use Rattle.aml_meaning.specs.declared.name_use.NameUse.{NameUse}
-use Rattle.aml_meaning.specs.declared.name_use.NameUse.TheVariants as uses
-use Rattle.aml_meaning.specs.Given.{Given, Nothing, Integer, Text, Bytes, Package, Named, Reference as Unnamed, Givens, none, more}
-use Rattle.aml_meaning.specs.State.{State}
-use Rattle.aml_meaning.specs.Run.{Run}
-use Rattle.aml_meaning.specs.Importing.{reference_to, imported_by, each_imported, elements_imported, package_imported, taken_back, imported, all_imported}
-use Rattle.aml_meaning.specs.Exporting.{text_exported, bytes_exported, path_of, reference_exported, value_exported, name_use, use_exported, name_exported, held_exported, element_exported, each_exported, elements_exported, package_exported, exported}
+use Rattle.aml_world.specs.declared.state.name_use.NameUse.{NameUse}
+use Rattle.aml_world.specs.declared.state.name_use.NameUse.TheVariants as uses
+use Rattle.aml_world.specs.state.Given.{Given, Nothing, Integer, Text, Bytes, Package, Named, Reference as Unnamed, Givens, none, more}
+use Rattle.aml_world.specs.state.State.{State}
+use Rattle.aml_world.specs.state.Run.{Run}
+use Rattle.aml_world.specs.state.Importing.{reference_to, imported_by, each_imported, elements_imported, package_imported, taken_back, imported, all_imported}
+use Rattle.aml_world.specs.state.NameUses.{path_of, name_use}
+use Rattle.aml_meaning.specs.Exporting.{text_exported, bytes_exported, reference_exported, value_exported, use_exported, name_exported, held_exported, element_exported, each_exported, elements_exported, package_exported, exported}
 use Rattle.aml_laws.proofs.Together.{IsEnded, Sides, Together, give_together, plain, stop_together, then_together, wrapped_together, Raise}
 use Rattle.aml_laws.proofs.WorldsTogether.{charge_together, lift_together, objects_together, runs, world_over, worlds}
 use Rattle.aml_laws.proofs.ChangesTogether.{entry_found_together, integer_kept_together}

@@ -9,15 +9,16 @@ use Rattle.ar_space.specs.Change.{give, settle, go_on, ◌>>=◌}
 use Rattle.aml_path.specs.declared.segment.Seg.{Seg}
 use Rattle.aml_objects.specs.declared.value.Value.{Value}
 use Rattle.aml_namespace.specs.Search.{found}
+use Rattle.aml_world.specs.state.Given.{Given}
+use Rattle.aml_world.specs.state.Importing.{imported, all_imported}
+use Rattle.aml_world.specs.state.Invocations.{named_use, invocation_found}
+use Rattle.aml_world.specs.state.Readings.{entry_found, arguments_found}
+use Rattle.aml_world.specs.state.Run.{lift}
+use Rattle.aml_world.specs.state.State.{State}
 use Rattle.aml_meaning.specs.Calling.{ending, with_steps, answer_exported, answered}
 use Rattle.aml_meaning.specs.Exporting.{exported}
-use Rattle.aml_meaning.specs.Given.{Given}
-use Rattle.aml_meaning.specs.Importing.{imported, all_imported}
-use Rattle.aml_meaning.specs.Invocations.{method_value, named_use, invocation_found}
+use Rattle.aml_meaning.specs.Calls.{method_value}
 use Rattle.aml_meaning.specs.Meaning.{meaning}
-use Rattle.aml_meaning.specs.Readings.{entry_found, arguments_found}
-use Rattle.aml_meaning.specs.Run.{lift}
-use Rattle.aml_meaning.specs.State.{State}
 use Rattle.aml_laws.specs.CallTerms.{method_entry, HandedInTurn, no_data, first_data}
 use Rattle.aml_laws.specs.NamesWritten.{from_root}
 use Rattle.aml_laws.proofs.ArgumentsInTurn.{as_many_as, not_as_many}

@@ -18,13 +18,14 @@ use Rattle.aml_objects.specs.declared.entry.NamedObject.{NamedObject}
 use Rattle.aml_objects.specs.declared.entry.NamedObject.TheVariants as named
 use Rattle.aml_objects.specs.declared.value.Value.{Value}
 use Rattle.aml_namespace.specs.Search.{found}
+use Rattle.aml_world.specs.state.Invocations.{named_use, invocation_found}
+use Rattle.aml_world.specs.state.Readings.{arguments_of, entry_found, arguments_found}
+use Rattle.aml_world.specs.state.Run.{lift}
+use Rattle.aml_world.specs.state.State.{State}
 use Rattle.aml_meaning.specs.Evaluation.{rule}
 use Rattle.aml_meaning.specs.InvocationTerms.{arguments_in_turn, call_rule, name_value}
-use Rattle.aml_meaning.specs.Invocations.{invoked, named_use, invocation_found}
+use Rattle.aml_meaning.specs.Calls.{invoked}
 use Rattle.aml_meaning.specs.Meaning.{meaning}
-use Rattle.aml_meaning.specs.Readings.{arguments_of, entry_found, arguments_found}
-use Rattle.aml_meaning.specs.Run.{lift}
-use Rattle.aml_meaning.specs.State.{State}
 use Rattle.aml_meaning.specs.Tasks.{task, operand_value}
 use Rattle.aml_meaning.specs.Terms.{count_of}
 use Rattle.aml_laws.specs.CallTerms.{call_of, method_entry, IsNoMethod, GiveInTurn, no_term, first_term}

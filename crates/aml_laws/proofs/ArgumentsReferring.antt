@@ -5,10 +5,10 @@ use Rattle.aml_objects.specs.declared.value.Reference.{Reference}
 use Rattle.aml_objects.specs.declared.value.Slot.TheVariants.{Argument}
 use Rattle.aml_objects.specs.declared.value.Value.{Value}
 use Rattle.aml_objects.specs.declared.value.Value.TheVariants as value
-use Rattle.aml_meaning.specs.declared.store_target.StoreTarget.TheVariants as targets
-use Rattle.aml_meaning.specs.State.{State}
-use Rattle.aml_meaning.specs.StoreTargets.{latest_frame, frame_found, slot_held}
-use Rattle.aml_meaning.specs.Stores.{store_in_frame, store_in_frame_numbered, store_in_slot, stored, copied_to}
+use Rattle.aml_world.specs.declared.values.store_target.StoreTarget.TheVariants as targets
+use Rattle.aml_world.specs.state.State.{State}
+use Rattle.aml_world.specs.values.StoreTargets.{latest_frame, frame_found, slot_held}
+use Rattle.aml_world.specs.values.Stores.{store_in_frame, store_in_frame_numbered, store_in_slot, stored, copied_to}
 use Rattle.aml_laws.specs.Limits.{IsLink}
 use Rattle.aml_laws.specs.StoredParts.{ArgumentHolds}
 

@@ -13,13 +13,13 @@ use Rattle.aml_objects.specs.declared.entry.NamedObject.{NamedObject}
 use Rattle.aml_objects.specs.declared.entry.NamedObject.TheVariants as named
 use Rattle.aml_objects.specs.declared.value.Value.{Value}
 use Rattle.aml_namespace.specs.Search.{found}
+use Rattle.aml_world.specs.state.Given.{Given}
+use Rattle.aml_world.specs.state.Importing.{imported, all_imported}
+use Rattle.aml_world.specs.state.Invocations.{named_use, invocation_found}
+use Rattle.aml_world.specs.state.Readings.{entry_found, arguments_found}
+use Rattle.aml_world.specs.state.Run.{lift}
+use Rattle.aml_world.specs.state.State.{State}
 use Rattle.aml_meaning.specs.Calling.{answer_exported, answered}
-use Rattle.aml_meaning.specs.Given.{Given}
-use Rattle.aml_meaning.specs.Importing.{imported, all_imported}
-use Rattle.aml_meaning.specs.Invocations.{named_use, invocation_found}
-use Rattle.aml_meaning.specs.Readings.{entry_found, arguments_found}
-use Rattle.aml_meaning.specs.Run.{lift}
-use Rattle.aml_meaning.specs.State.{State}
 use Rattle.aml_laws.specs.CallTerms.{HandedInTurn, no_data, first_data}
 use Rattle.aml_laws.specs.Ends.{EndsAs}
 use Rattle.aml_laws.specs.NamesWritten.{from_root}

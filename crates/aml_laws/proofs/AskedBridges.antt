@@ -5,8 +5,8 @@ use Rattle.std.proofs.lemmas.Bool.Decides.{nat_tests}
 use Rattle.std.proofs.lemmas.List.{take_all}
 use Rattle.aml_path.specs.declared.segment.Seg.{Seg}
 use Rattle.aml_namespace.specs.Namespace.{Map}
-use Rattle.aml_meaning.specs.PciFunctions.{base_bus, has, is_bridge}
-use Rattle.aml_meaning.specs.Bridges.{bridges_over, bridges_to}
+use Rattle.aml_world.specs.fields.PciFunctions.{base_bus, has, is_bridge}
+use Rattle.aml_world.specs.fields.Bridges.{bridges_over, bridges_to}
 use Rattle.aml_laws.specs.PciScopes.{IsAskedBridge, IsAmong, GrowFrom}
 use Rattle.aml_laws.proofs.PciScopes.{none_found, bridge_tested, bridge_is}
 

@@ -15,15 +15,16 @@ use Rattle.aml_objects.specs.declared.value.Value.TheVariants as value
 use Rattle.aml_namespace.specs.Namespace.{numbered}
 use Rattle.aml_namespace.specs.Numbering.{Numbered}
 use Rattle.aml_namespace.specs.Search.{found}
+use Rattle.aml_world.specs.state.NameUses.{path_of}
+use Rattle.aml_world.specs.state.Given as given
+use Rattle.aml_world.specs.state.Given.{Given}
+use Rattle.aml_world.specs.state.Importing.{all_imported}
+use Rattle.aml_world.specs.state.Invocations.{named_use, invocation_found}
+use Rattle.aml_world.specs.state.Readings.{arguments_of, entry_found, arguments_found}
+use Rattle.aml_world.specs.state.Run.{lift}
+use Rattle.aml_world.specs.state.State.{State}
 use Rattle.aml_meaning.specs.Calling.{called, evaluated, answer_exported, answered}
-use Rattle.aml_meaning.specs.Exporting.{exported, value_exported, reference_exported, path_of}
-use Rattle.aml_meaning.specs.Given as given
-use Rattle.aml_meaning.specs.Given.{Given}
-use Rattle.aml_meaning.specs.Importing.{all_imported}
-use Rattle.aml_meaning.specs.Invocations.{named_use, invocation_found}
-use Rattle.aml_meaning.specs.Readings.{arguments_of, entry_found, arguments_found}
-use Rattle.aml_meaning.specs.Run.{lift}
-use Rattle.aml_meaning.specs.State.{State}
+use Rattle.aml_meaning.specs.Exporting.{exported, value_exported, reference_exported}
 use Rattle.aml_laws.specs.CallTerms.{IsNoMethod}
 use Rattle.aml_laws.specs.Ends.{EndsAs}
 use Rattle.aml_laws.specs.NamesWritten.{from_root}

@@ -17,10 +17,10 @@ use Rattle.aml_fields.specs.declared.field_units.Unit.{Unit as Access}
 use Rattle.aml_fields.specs.Units.{units_of}
 use Rattle.aml_fields.specs.UnitByUnit.{kept_by, kept, bits_read, write_units}
 use Rattle.aml_fields.specs.Regions.{read_unit, write_access, write_whole}
-use Rattle.aml_meaning.specs.Regions.{bank_held}
-use Rattle.aml_meaning.specs.State.{State, on_space}
-use Rattle.aml_meaning.specs.Run.{Run, lift}
-use Rattle.aml_meaning.specs.Fields.{unit_bytes, region_written, bank_selected, bank_unit, bank_unit_written, bank_bits, bank_written}
+use Rattle.aml_world.specs.fields.Regions.{bank_held}
+use Rattle.aml_world.specs.state.State.{State, on_space}
+use Rattle.aml_world.specs.state.Run.{Run, lift}
+use Rattle.aml_world.specs.fields.Fields.{unit_bytes, region_written, bank_selected, bank_unit, bank_unit_written, bank_bits, bank_written}
 use Rattle.aml_laws.specs.IndexRegisters.{Register, IsRegister}
 use Rattle.aml_laws.specs.BankRegisters.{selected_and_read, selected_and_written}
 use Rattle.aml_laws.specs.PlainRegions.{IsPlainRegion}

@@ -21,18 +21,19 @@ use Rattle.aml_objects.specs.declared.entry.NamedObject.TheVariants as object
 use Rattle.aml_objects.specs.declared.entry.OperationRegion.{OperationRegion}
 use Rattle.aml_objects.specs.declared.value.Value.{Value}
 use Rattle.aml_namespace.specs.Search.{found}
+use Rattle.aml_world.specs.declared.state.profile.Profile.TheVariants as profiles
+use Rattle.aml_world.specs.fields.FieldLayouts.{in_region, region_number, region_found, field_number, field_found}
+use Rattle.aml_world.specs.state.Profiles.{evaluated_in, asked_for}
+use Rattle.aml_world.specs.state.Readings.{integer_in, entry_found}
+use Rattle.aml_world.specs.state.Run.{Run, lift}
+use Rattle.aml_world.specs.state.State.{State}
 use Rattle.aml_meaning.specs.declared.flow.Flow.{Flow}
 use Rattle.aml_meaning.specs.declared.flow.Flow.TheVariants as flow
-use Rattle.aml_meaning.specs.declared.profile.Profile.TheVariants as profiles
 use Rattle.aml_meaning.specs.BankTerms.{banked_laid, bank_list_rule}
 use Rattle.aml_meaning.specs.Evaluation.{rule}
-use Rattle.aml_meaning.specs.FieldTerms.{in_region, region_number, region_found, field_number, field_found, fields_laid}
+use Rattle.aml_meaning.specs.FieldTerms.{fields_laid}
 use Rattle.aml_meaning.specs.Meaning.{meaning}
-use Rattle.aml_meaning.specs.Profiles.{evaluated_in, asked_for}
-use Rattle.aml_meaning.specs.Readings.{value_in, integer_in, entry_found}
-use Rattle.aml_meaning.specs.Run.{Run, lift}
-use Rattle.aml_meaning.specs.State.{State}
-use Rattle.aml_meaning.specs.Tasks.{task, operand_value, value_at}
+use Rattle.aml_meaning.specs.Tasks.{value_in, task, operand_value, value_at}
 use Rattle.aml_laws.specs.BankDeclarations.{bank_field, Finds, FindsField}
 use Rattle.aml_laws.specs.FieldsPut.{FindsNoRegion, no_region, other_object, FindsNoUnit, no_unit, no_field, in_a_bank, behind_an_index}
 

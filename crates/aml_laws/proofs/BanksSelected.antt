@@ -21,12 +21,12 @@ use Rattle.aml_fields.specs.Units.{units_of}
 use Rattle.aml_fields.specs.UnitByUnit.{kept_by, kept, read_units, bits_read, write_units}
 use Rattle.aml_fields.specs.Regions.{read_unit, write_field, write_whole}
 use Rattle.aml_fields.proofs.Covers.{units_cover}
-use Rattle.aml_meaning.specs.declared.regions.RegionField.{RegionField}
-use Rattle.aml_meaning.specs.Regions.{bank_held, field_declared}
-use Rattle.aml_meaning.specs.StoreTargets.{declaration}
-use Rattle.aml_meaning.specs.State.{State, on_space}
-use Rattle.aml_meaning.specs.Run.{Run, lift}
-use Rattle.aml_meaning.specs.Fields.{unit_bytes, located, region_written, bank_selected, bank_unit, bank_unit_written, bank_bits, bank_written}
+use Rattle.aml_world.specs.declared.fields.regions.RegionField.{RegionField}
+use Rattle.aml_world.specs.fields.Regions.{bank_held, field_declared}
+use Rattle.aml_world.specs.values.StoreTargets.{declaration}
+use Rattle.aml_world.specs.state.State.{State, on_space}
+use Rattle.aml_world.specs.state.Run.{Run, lift}
+use Rattle.aml_world.specs.fields.Fields.{unit_bytes, located, region_written, bank_selected, bank_unit, bank_unit_written, bank_bits, bank_written}
 use Rattle.aml_laws.specs.BankFields.{IsFieldUnit, eight_bytes, read_in_its_bank, written_in_its_bank}
 use Rattle.aml_laws.specs.PlainRegions.{IsPlainRegion}
 use Rattle.aml_laws.proofs.BankedFields.{kept_over}

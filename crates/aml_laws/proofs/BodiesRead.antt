@@ -7,7 +7,7 @@ use Rattle.ar_space.specs.declared.refusal.Refusal.{Refusal}
 use Rattle.ar_space.specs.Change.{go_on, ◌>>=◌}
 use Rattle.ar_space.specs.Outcome.{seen}
 use Rattle.aml_path.specs.declared.segment.Seg.{Seg}
-use Rattle.aml_grammar.specs.Arities.{latest, arity_at}
+use Rattle.aml_arities.specs.Arities.{latest, arity_at}
 use Rattle.aml_grammar.specs.Grammar.{reading_within}
 use Rattle.aml_grammar.specs.Shape.{trees_of}
 use Rattle.aml_grammar.specs.Tree.{Tree}
@@ -16,13 +16,14 @@ use Rattle.aml_objects.specs.declared.entry.Method.{Method}
 use Rattle.aml_objects.specs.declared.entry.NamedObject.{NamedObject}
 use Rattle.aml_objects.specs.declared.entry.NamedObject.TheVariants as named
 use Rattle.aml_objects.specs.declared.value.Value.{Value}
+use Rattle.aml_world.specs.state.Invocations.{count_through, count_of_entry, body_arities, body_terms, call_allowed}
+use Rattle.aml_world.specs.state.Readings.{arguments_of}
+use Rattle.aml_world.specs.state.Run.{Run, lift}
+use Rattle.aml_world.specs.state.State.{State}
+use Rattle.aml_world.proofs.BodyCounts.{body_declared, body_external}
 use Rattle.aml_meaning.specs.declared.flow.Flow.{Flow}
-use Rattle.aml_meaning.specs.Invocations.{count_through, count_of_entry, body_arities, body_terms, call_allowed, invoked}
-use Rattle.aml_meaning.specs.Readings.{arguments_of}
-use Rattle.aml_meaning.specs.Run.{Run, lift}
-use Rattle.aml_meaning.specs.State.{State}
+use Rattle.aml_meaning.specs.Calls.{invoked}
 use Rattle.aml_meaning.specs.Tasks.{Task}
-use Rattle.aml_meaning.proofs.BodyCounts.{body_declared, body_external}
 use Rattle.aml_laws.specs.CallTerms.{IsNoMethod}
 
 module _ {S : Type 0} (w : State S) where

@@ -11,12 +11,12 @@ use Rattle.aml_fields.specs.declared.region.AddressSpace.{AddressSpace}
 use Rattle.aml_fields.specs.declared.region.AddressSpace.TheVariants as spaces
 use Rattle.aml_fields.specs.Regions.{unit_place, read_access, read_unit}
 use Rattle.aml_namespace.specs.Namespace.{Map, above}
-use Rattle.aml_meaning.specs.declared.pci_functions.Sought.TheVariants as sought
-use Rattle.aml_meaning.specs.declared.profile.Profile.{Profile}
-use Rattle.aml_meaning.specs.declared.profile.Profile.TheVariants as profiles
-use Rattle.aml_meaning.specs.State.{State}
-use Rattle.aml_meaning.specs.PciFunctions.{base_bus, has, is_bridge, nearest_from, nearest, or_deep, or_behind, behind_asked, pci_function}
-use Rattle.aml_meaning.specs.Bridges.{bridges_over, bridges_to, header_of, secondary_bus}
+use Rattle.aml_world.specs.declared.fields.pci_functions.Sought.TheVariants as sought
+use Rattle.aml_world.specs.declared.state.profile.Profile.{Profile}
+use Rattle.aml_world.specs.declared.state.profile.Profile.TheVariants as profiles
+use Rattle.aml_world.specs.state.State.{State}
+use Rattle.aml_world.specs.fields.PciFunctions.{base_bus, has, is_bridge, nearest_from, nearest, or_deep, or_behind, behind_asked, pci_function}
+use Rattle.aml_world.specs.fields.Bridges.{bridges_over, bridges_to, header_of, secondary_bus}
 use Rattle.aml_laws.specs.RegionAccesses.{AsksBridge, header_type, secondary_bus as secondary_bus_number}
 use Rattle.aml_laws.proofs.Preorders.{either_branch, Preorder, Respects, settle_respects, settle_then_respects, then_respects}
 use Rattle.aml_laws.proofs.RegisterAccesses.{number_of_space, pci_space_numbered}

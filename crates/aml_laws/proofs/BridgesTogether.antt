@@ -7,11 +7,11 @@ use Rattle.ar_space.specs.declared.refusal.Refusal.TheVariants as refusal
 use Rattle.ar_space.specs.declared.refusal.EvaluationFault.TheVariants.{DeepPci}
 use Rattle.ar_space.specs.Accesses.{Accesses}
 use Rattle.aml_path.specs.declared.segment.Seg.{Seg}
-use Rattle.aml_meaning.specs.declared.profile.Profile.{Profile}
-use Rattle.aml_meaning.specs.declared.profile.Profile.TheVariants as profiles
-use Rattle.aml_meaning.specs.State.{State}
-use Rattle.aml_meaning.specs.PciFunctions.{or_behind, behind_asked}
-use Rattle.aml_meaning.specs.Bridges.{bridges_above, secondary_bus}
+use Rattle.aml_world.specs.declared.state.profile.Profile.{Profile}
+use Rattle.aml_world.specs.declared.state.profile.Profile.TheVariants as profiles
+use Rattle.aml_world.specs.state.State.{State}
+use Rattle.aml_world.specs.fields.PciFunctions.{or_behind, behind_asked}
+use Rattle.aml_world.specs.fields.Bridges.{bridges_above, secondary_bus}
 use Rattle.aml_laws.specs.Widened.{LeftOut}
 use Rattle.aml_laws.proofs.Together.{Sides, Together, Comes, IsEnded, spaces, plain, settle_together, then_together}
 use Rattle.aml_laws.proofs.WorldsTogether.{world_over, worlds}

@@ -17,16 +17,17 @@ use Rattle.aml_objects.specs.Objects.{buffer_at}
 use Rattle.aml_objects.specs.declared.value.Value.{Value}
 use Rattle.aml_objects.specs.declared.value.Value.TheVariants as value
 use Rattle.aml_fields.specs.BufferFields.{lies_within, field_within, new_buffer_field}
-use Rattle.aml_meaning.specs.declared.term_kind.BufferFieldSize.{BufferFieldSize}
-use Rattle.aml_meaning.specs.declared.term_kind.BufferFieldSize.TheVariants as sizes
+use Rattle.aml_world.specs.declared.values.operation_kind.BufferFieldSize.{BufferFieldSize}
+use Rattle.aml_world.specs.declared.values.operation_kind.BufferFieldSize.TheVariants as sizes
+use Rattle.aml_world.specs.fields.BufferFields.{buffer_of, bits_of_step, bits_of_size}
+use Rattle.aml_world.specs.state.Readings.{integer_in}
+use Rattle.aml_world.specs.state.Run.{lift}
+use Rattle.aml_world.specs.state.State.{State, on_objects}
 use Rattle.aml_meaning.specs.declared.term_kind.RegionKind.TheVariants as regions
 use Rattle.aml_meaning.specs.declared.term_kind.TermKind.TheVariants as kinds
 use Rattle.aml_meaning.specs.Evaluation.{rule}
-use Rattle.aml_meaning.specs.FieldTerms.{buffer_of, bits_of_step, bits_of_size, sized_field_rule, bits_field_rule}
+use Rattle.aml_meaning.specs.FieldTerms.{sized_field_rule, bits_field_rule}
 use Rattle.aml_meaning.specs.Meaning.{meaning}
-use Rattle.aml_meaning.specs.Readings.{integer_in}
-use Rattle.aml_meaning.specs.Run.{lift}
-use Rattle.aml_meaning.specs.State.{State, on_objects}
 use Rattle.aml_meaning.specs.Tasks.{task, operand_value, value_at, two_values}
 use Rattle.aml_meaning.specs.Terms.{kind_of}
 use Rattle.aml_laws.specs.BufferFieldTerms.{create, create_field, HasSize, of_bit, of_byte, of_word, of_double_word, of_quad_word, LacksBits, NamesNoBits, no_buffer, no_index, beyond_end, CountsNoBits, of_no_buffer, at_no_index, no_count, none_or_many, behind_end}

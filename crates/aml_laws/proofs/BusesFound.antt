@@ -10,12 +10,12 @@ use Rattle.ar_space.specs.Change.{give, settle, go_on, ◌>>=◌}
 use Rattle.aml_path.specs.declared.segment.Seg.{Seg}
 use Rattle.aml_fields.specs.declared.region.AddressSpace.TheVariants as spaces
 use Rattle.aml_fields.specs.Regions.{unit_place, read_access, read_unit}
-use Rattle.aml_meaning.specs.State.{State, on_space}
-use Rattle.aml_meaning.specs.Run.{Run, lift}
-use Rattle.aml_meaning.specs.PciFunctions.{adr, segment_group, base_bus, pci_function}
-use Rattle.aml_meaning.specs.Regions.{pci_space}
-use Rattle.aml_meaning.specs.Bridges.{header_of, bridge_header, bridges_to, bridges_above, secondary_bus}
-use Rattle.aml_meaning.specs.Fields.{inherited, bus_behind, bus_behind_all, pci_address}
+use Rattle.aml_world.specs.state.State.{State, on_space}
+use Rattle.aml_world.specs.state.Run.{Run, lift}
+use Rattle.aml_world.specs.fields.PciFunctions.{adr, segment_group, base_bus, pci_function}
+use Rattle.aml_world.specs.fields.Regions.{pci_space}
+use Rattle.aml_world.specs.fields.Bridges.{header_of, bridge_header, bridges_to, bridges_above, secondary_bus}
+use Rattle.aml_world.specs.fields.Fields.{inherited, bus_behind, bus_behind_all, pci_address}
 use Rattle.aml_laws.specs.BusesFound.{BusesFound, there, behind, TellsNumber, TellAddresses, no_more, one_more, TellsPart, of_none, of_some}
 
 below : (n k : ℕ) → n < k → nat_lt n k ≡ true

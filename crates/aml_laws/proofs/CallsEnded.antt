@@ -9,10 +9,11 @@ use Rattle.aml_path.specs.Paths.{is_below}
 use Rattle.aml_grammar.specs.Tree.{Trees}
 use Rattle.aml_objects.specs.declared.value.Value.{Value}
 use Rattle.aml_namespace.specs.Namespace.{without_below}
+use Rattle.aml_world.specs.state.Invocations.{body_terms, left}
+use Rattle.aml_world.specs.state.State.{State}
 use Rattle.aml_meaning.specs.declared.flow.Flow.{Flow}
-use Rattle.aml_meaning.specs.Invocations.{body_terms, leaving, left, invoked}
+use Rattle.aml_meaning.specs.Calls.{leaving, invoked}
 use Rattle.aml_meaning.specs.Meaning.{meaning}
-use Rattle.aml_meaning.specs.State.{State}
 use Rattle.aml_meaning.specs.Tasks.{in_turn}
 use Rattle.aml_laws.specs.Calls.{body_frame}
 use Rattle.aml_laws.specs.Ends.{IsCallLeft}

@@ -10,13 +10,13 @@ use Rattle.aml_objects.specs.declared.value.Reference.TheVariants as reference
 use Rattle.aml_objects.specs.declared.object.Element.{Element}
 use Rattle.aml_objects.specs.declared.object.Element.TheVariants as element
 use Rattle.aml_objects.specs.Objects.{element_at, byte_at}
-use Rattle.aml_meaning.specs.declared.store_target.StoreTarget.{StoreTarget}
-use Rattle.aml_meaning.specs.declared.store_target.StoreTarget.TheVariants as targets
-use Rattle.aml_meaning.specs.State.{State, on_objects}
-use Rattle.aml_meaning.specs.PciFunctions.{nearest, behind_asked, pci_function}
-use Rattle.aml_meaning.specs.Readings.{entry_found}
-use Rattle.aml_meaning.specs.Regions.{region_declared}
-use Rattle.aml_meaning.specs.StoreTargets.{latest_frame, frame_found, slot_held, declaration, declared_once, value_once, slot_once, name_once, element_once, held_once, byte_once, dereferenced, frame_number, slot_reference, declared_number, name_reference, reference_of}
+use Rattle.aml_world.specs.declared.values.store_target.StoreTarget.{StoreTarget}
+use Rattle.aml_world.specs.declared.values.store_target.StoreTarget.TheVariants as targets
+use Rattle.aml_world.specs.state.State.{State, on_objects}
+use Rattle.aml_world.specs.fields.PciFunctions.{nearest, behind_asked, pci_function}
+use Rattle.aml_world.specs.state.Readings.{entry_found}
+use Rattle.aml_world.specs.fields.Regions.{region_declared}
+use Rattle.aml_world.specs.values.StoreTargets.{latest_frame, frame_found, slot_held, declaration, declared_once, value_once, slot_once, name_once, element_once, held_once, byte_once, dereferenced, frame_number, slot_reference, declared_number, name_reference, reference_of}
 
 module _ {S : Type 0} where
   go_on_changes_nothing : {A B : Type 0} (r : Outcome A) (w v : State S) (k : A → Change (State S) B) → ((a : A) (u : State S) → (k a u).1 ≡ u) → v ≡ w → (go_on r v k).1 ≡ w

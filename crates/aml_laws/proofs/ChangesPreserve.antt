@@ -15,26 +15,25 @@ use Rattle.aml_convert.specs.declared.operators.BinaryOperator.{BinaryOperator}
 use Rattle.aml_convert.specs.declared.operators.UnaryOperator.{UnaryOperator}
 use Rattle.aml_convert.specs.declared.logic.LogicalOperator.{LogicalOperator}
 use Rattle.aml_convert.specs.declared.logic.Comparison.{Comparison}
-use Rattle.aml_meaning.specs.declared.object_type.Referent.{Referent}
-use Rattle.aml_meaning.specs.declared.term_kind.OneOperand.{OneOperand}
-use Rattle.aml_meaning.specs.declared.term_kind.OneOperand.TheVariants as one
-use Rattle.aml_meaning.specs.declared.term_kind.TwoOperands.{TwoOperands}
-use Rattle.aml_meaning.specs.declared.term_kind.TwoOperands.TheVariants as two
-use Rattle.aml_meaning.specs.declared.term_kind.Test.{Test}
-use Rattle.aml_meaning.specs.declared.term_kind.Test.TheVariants as test
-use Rattle.aml_meaning.specs.declared.term_kind.Count.{Count}
-use Rattle.aml_meaning.specs.declared.term_kind.Count.TheVariants as count
-use Rattle.aml_meaning.specs.State.{State}
-use Rattle.aml_meaning.specs.Readings.{integer_kept, integer_in, entry_found, path_found, scope_found, arguments_found}
-use Rattle.aml_meaning.specs.NewObjects.{within, new_buffer, new_package}
-use Rattle.aml_meaning.specs.Declaring.{not_in_method, new_name, new_method}
-use Rattle.aml_meaning.specs.TargetTerms.{target_named}
+use Rattle.aml_world.specs.declared.values.object_type.Referent.{Referent}
+use Rattle.aml_world.specs.declared.values.operation_kind.OneOperand.{OneOperand}
+use Rattle.aml_world.specs.declared.values.operation_kind.OneOperand.TheVariants as one
+use Rattle.aml_world.specs.declared.values.operation_kind.TwoOperands.{TwoOperands}
+use Rattle.aml_world.specs.declared.values.operation_kind.TwoOperands.TheVariants as two
+use Rattle.aml_world.specs.declared.values.operation_kind.Test.{Test}
+use Rattle.aml_world.specs.declared.values.operation_kind.Test.TheVariants as test
+use Rattle.aml_world.specs.declared.values.operation_kind.Count.{Count}
+use Rattle.aml_world.specs.declared.values.operation_kind.Count.TheVariants as count
+use Rattle.aml_world.specs.state.State.{State}
+use Rattle.aml_world.specs.state.Readings.{integer_kept, integer_in, entry_found, path_found, scope_found, arguments_found}
+use Rattle.aml_world.specs.state.NewObjects.{within, new_buffer, new_package}
+use Rattle.aml_world.specs.state.Declaring.{not_in_method, new_name, new_method}
+use Rattle.aml_world.specs.values.StoreTargets.{target_named}
 use Rattle.aml_objects.specs.Contents.{Content}
 use Rattle.aml_objects.specs.Contents as held
-use Rattle.aml_meaning.specs.Osi.{osi_answered}
-use Rattle.aml_meaning.specs.Operations.{made_of, integers_operated, operated, divided_in, integer_operated, operated_on_one, integers_tested, operated_logically, integer_turned, turned, next_integer, integer_before, compared_in, joined_contents, joined, joined_items, joined_resources, to_integer_in, buffer_bytes, new_buffer_of, to_buffer_in, size_held, element_indexed, byte_indexed, indexed, size_in}
-use Rattle.aml_meaning.specs.OperatorTerms.{result_of_two, result_of_one, result_of_test, counted_by}
-use Rattle.aml_meaning.specs.Invocations.{body_terms, named_use, invocation_found, call_allowed}
+use Rattle.aml_world.specs.state.Osi.{osi_answered}
+use Rattle.aml_world.specs.values.Operations.{made_of, integers_operated, operated, divided_in, integer_operated, operated_on_one, integers_tested, operated_logically, integer_lnot, lnot_in, incremented, decremented, compared_in, joined_contents, joined, joined_items, joined_resources, to_integer_in, buffer_bytes, new_buffer_of, to_buffer_in, size_held, element_indexed, byte_indexed, indexed, size_in, result_of_two, result_of_one, result_of_test, counted_by}
+use Rattle.aml_world.specs.state.Invocations.{body_terms, named_use, invocation_found, call_allowed}
 use Rattle.aml_laws.proofs.ObjectKinds.{KeepsObjectKinds, make_string_keeps_kinds, make_buffer_keeps_kinds, make_package_keeps_kinds}
 use Rattle.aml_laws.proofs.Preorders.{give_respects, stop_respects}
 use Rattle.aml_laws.proofs.FieldUnitsFound.{invoked_field_stands}
@@ -134,21 +133,21 @@ module _ {S : Type 0} {listed : Bool} {accesses : Accesses S} {relation : WorldR
   unfolding operated_logically
   operated_logically_preserves op v u = then_preserves _ _ (integer_in_preserves v) (λ x. then_preserves _ _ (integer_in_preserves u) (λ y. integers_tested_preserves op x y))
 
-  pub integer_turned_preserves : (x : ℕ) → Preserves relation (integer_turned x)
-  unfolding integer_turned
-  integer_turned_preserves x = unchanged_preserves _ (λ w. refl)
+  pub integer_lnot_preserves : (x : ℕ) → Preserves relation (integer_lnot x)
+  unfolding integer_lnot
+  integer_lnot_preserves x = unchanged_preserves _ (λ w. refl)
 
-  pub turned_preserves : (v : Value) → Preserves relation (turned v)
-  unfolding turned
-  turned_preserves v = then_preserves _ _ (integer_in_preserves v) (λ x. integer_turned_preserves x)
+  pub lnot_preserves : (v : Value) → Preserves relation (lnot_in v)
+  unfolding lnot_in
+  lnot_preserves v = then_preserves _ _ (integer_in_preserves v) (λ x. integer_lnot_preserves x)
 
-  pub next_integer_preserves : (x : ℕ) → Preserves relation (next_integer x)
-  unfolding next_integer
-  next_integer_preserves x = unchanged_preserves _ (λ w. refl)
+  pub incremented_preserves : (x : ℕ) → Preserves relation (incremented x)
+  unfolding incremented
+  incremented_preserves x = unchanged_preserves _ (λ w. refl)
 
-  pub integer_before_preserves : (x : ℕ) → Preserves relation (integer_before x)
-  unfolding integer_before
-  integer_before_preserves x = unchanged_preserves _ (λ w. refl)
+  pub decremented_preserves : (x : ℕ) → Preserves relation (decremented x)
+  unfolding decremented
+  decremented_preserves x = unchanged_preserves _ (λ w. refl)
 
   pub compared_in_preserves : (c : Comparison) (v u : Value) → Preserves relation (compared_in c v u)
   unfolding compared_in
@@ -223,8 +222,8 @@ module _ {S : Type 0} {listed : Bool} {accesses : Accesses S} {relation : WorldR
   result_of_test_preserves (test.Compare c) v u = compared_in_preserves c v u
 
   pub counted_by_preserves : (k : Count) (n : ℕ) → Preserves relation (counted_by k n)
-  counted_by_preserves count.Up n = next_integer_preserves n
-  counted_by_preserves count.Down n = integer_before_preserves n
+  counted_by_preserves count.Increment n = incremented_preserves n
+  counted_by_preserves count.Decrement n = decremented_preserves n
 
   -- ---- calls
 

@@ -12,23 +12,22 @@ use Rattle.aml_convert.specs.declared.operators.BinaryOperator.{BinaryOperator}
 use Rattle.aml_convert.specs.declared.operators.UnaryOperator.{UnaryOperator}
 use Rattle.aml_convert.specs.declared.logic.LogicalOperator.{LogicalOperator}
 use Rattle.aml_convert.specs.declared.logic.Comparison.{Comparison}
-use Rattle.aml_meaning.specs.declared.object_type.Referent.{Referent}
-use Rattle.aml_meaning.specs.declared.term_kind.OneOperand.{OneOperand}
-use Rattle.aml_meaning.specs.declared.term_kind.OneOperand.TheVariants as one
-use Rattle.aml_meaning.specs.declared.term_kind.TwoOperands.{TwoOperands}
-use Rattle.aml_meaning.specs.declared.term_kind.TwoOperands.TheVariants as two
-use Rattle.aml_meaning.specs.declared.term_kind.Test.{Test}
-use Rattle.aml_meaning.specs.declared.term_kind.Test.TheVariants as test
-use Rattle.aml_meaning.specs.declared.term_kind.Count.{Count}
-use Rattle.aml_meaning.specs.declared.term_kind.Count.TheVariants as count
-use Rattle.aml_meaning.specs.Readings.{integer_kept, integer_in, entry_found, path_found, scope_found, arguments_found}
-use Rattle.aml_meaning.specs.NewObjects.{within, new_buffer, new_package}
-use Rattle.aml_meaning.specs.Declaring.{not_in_method, new_name, new_method}
-use Rattle.aml_meaning.specs.TargetTerms.{target_named}
-use Rattle.aml_meaning.specs.Osi.{osi_answered}
-use Rattle.aml_meaning.specs.Operations.{integers_operated, operated, divided_in, integer_operated, operated_on_one, integers_tested, operated_logically, integer_turned, turned, next_integer, integer_before, compared_in, joined_contents, joined, joined_items, joined_resources, to_integer_in, buffer_bytes, new_buffer_of, to_buffer_in, size_held, element_indexed, byte_indexed, indexed, size_in}
-use Rattle.aml_meaning.specs.OperatorTerms.{result_of_two, result_of_one, result_of_test, counted_by}
-use Rattle.aml_meaning.specs.Invocations.{named_use, invocation_found}
+use Rattle.aml_world.specs.declared.values.object_type.Referent.{Referent}
+use Rattle.aml_world.specs.declared.values.operation_kind.OneOperand.{OneOperand}
+use Rattle.aml_world.specs.declared.values.operation_kind.OneOperand.TheVariants as one
+use Rattle.aml_world.specs.declared.values.operation_kind.TwoOperands.{TwoOperands}
+use Rattle.aml_world.specs.declared.values.operation_kind.TwoOperands.TheVariants as two
+use Rattle.aml_world.specs.declared.values.operation_kind.Test.{Test}
+use Rattle.aml_world.specs.declared.values.operation_kind.Test.TheVariants as test
+use Rattle.aml_world.specs.declared.values.operation_kind.Count.{Count}
+use Rattle.aml_world.specs.declared.values.operation_kind.Count.TheVariants as count
+use Rattle.aml_world.specs.state.Readings.{integer_kept, integer_in, entry_found, path_found, scope_found, arguments_found}
+use Rattle.aml_world.specs.state.NewObjects.{within, new_buffer, new_package}
+use Rattle.aml_world.specs.state.Declaring.{not_in_method, new_name, new_method}
+use Rattle.aml_world.specs.values.StoreTargets.{target_named}
+use Rattle.aml_world.specs.state.Osi.{osi_answered}
+use Rattle.aml_world.specs.values.Operations.{integers_operated, operated, divided_in, integer_operated, operated_on_one, integers_tested, operated_logically, integer_lnot, lnot_in, incremented, decremented, compared_in, joined_contents, joined, joined_items, joined_resources, to_integer_in, buffer_bytes, new_buffer_of, to_buffer_in, size_held, element_indexed, byte_indexed, indexed, size_in, result_of_two, result_of_one, result_of_test, counted_by}
+use Rattle.aml_world.specs.state.Invocations.{named_use, invocation_found}
 use Rattle.aml_laws.proofs.Together.{Sides, Together, give_together, plain, settle_together, stop_together, then_together}
 use Rattle.aml_laws.proofs.WorldsTogether.{names_together, objects_together, worlds}
 
@@ -119,21 +118,21 @@ module _ {S T : Type 0} {accesses : Accesses S} {accesses2 : Accesses T} {side :
   unfolding operated_logically
   operated_logically_together op v u = then_together (integer_in_together v) (λ x. then_together (integer_in_together u) (λ y. integers_tested_together op x y))
 
-  pub integer_turned_together : (x : ℕ) → Together side worlds (integer_turned x) (integer_turned x)
-  unfolding integer_turned
-  integer_turned_together x = plain (λ w. refl) (λ w. refl) (λ w t. refl)
+  pub integer_lnot_together : (x : ℕ) → Together side worlds (integer_lnot x) (integer_lnot x)
+  unfolding integer_lnot
+  integer_lnot_together x = plain (λ w. refl) (λ w. refl) (λ w t. refl)
 
-  pub turned_together : (v : Value) → Together side worlds (turned v) (turned v)
-  unfolding turned
-  turned_together v = then_together (integer_in_together v) (λ x. integer_turned_together x)
+  pub lnot_together : (v : Value) → Together side worlds (lnot_in v) (lnot_in v)
+  unfolding lnot_in
+  lnot_together v = then_together (integer_in_together v) (λ x. integer_lnot_together x)
 
-  pub next_integer_together : (x : ℕ) → Together side worlds (next_integer x) (next_integer x)
-  unfolding next_integer
-  next_integer_together x = plain (λ w. refl) (λ w. refl) (λ w t. refl)
+  pub incremented_together : (x : ℕ) → Together side worlds (incremented x) (incremented x)
+  unfolding incremented
+  incremented_together x = plain (λ w. refl) (λ w. refl) (λ w t. refl)
 
-  pub integer_before_together : (x : ℕ) → Together side worlds (integer_before x) (integer_before x)
-  unfolding integer_before
-  integer_before_together x = plain (λ w. refl) (λ w. refl) (λ w t. refl)
+  pub decremented_together : (x : ℕ) → Together side worlds (decremented x) (decremented x)
+  unfolding decremented
+  decremented_together x = plain (λ w. refl) (λ w. refl) (λ w t. refl)
 
   pub compared_in_together : (c : Comparison) (v u : Value) → Together side worlds (compared_in c v u) (compared_in c v u)
   unfolding compared_in
@@ -208,8 +207,8 @@ module _ {S T : Type 0} {accesses : Accesses S} {accesses2 : Accesses T} {side :
   result_of_test_together (test.Compare c) v u = compared_in_together c v u
 
   pub counted_by_together : (k : Count) (n : ℕ) → Together side worlds (counted_by k n) (counted_by k n)
-  counted_by_together count.Up n = next_integer_together n
-  counted_by_together count.Down n = integer_before_together n
+  counted_by_together count.Increment n = incremented_together n
+  counted_by_together count.Decrement n = decremented_together n
 
   -- ---- calls
 

@@ -3,8 +3,8 @@ use Rattle.std.specs.Prelude.{◌≡◌, ℕ, zero, suc, Ok, Err, refl}
 use Rattle.std.proofs.Common.{sub-one}
 use Rattle.ar_space.specs.declared.refusal.Refusal.TheVariants as refusal
 use Rattle.ar_space.specs.declared.refusal.EvaluationFault.TheVariants.{OutOfSteps}
-use Rattle.aml_meaning.specs.State.{State}
-use Rattle.aml_meaning.specs.Run.{charge}
+use Rattle.aml_world.specs.state.State.{State}
+use Rattle.aml_world.specs.state.Run.{charge}
 use Rattle.aml_meaning.proofs.Agree.{not_zero}
 
 pub charge_none : {S : Type 0} (w : State S) → charge (w, zero) ≡ (Err (refusal.Evaluation OutOfSteps), (w, zero))

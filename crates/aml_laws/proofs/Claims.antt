@@ -25,11 +25,11 @@ use Rattle.aml_objects.specs.declared.entry.MethodBody.TheVariants.{Osi, Aml}
 use Rattle.aml_objects.specs.declared.entry.NamedObject.{NamedObject}
 use Rattle.aml_objects.specs.declared.entry.NamedObject.TheVariants as named
 use Rattle.aml_convert.specs.Integers.{bits_of}
-use Rattle.aml_meaning.specs.declared.frame.Frame.{Frame}
-use Rattle.aml_meaning.specs.State.{State}
-use Rattle.aml_meaning.specs.Given.{Given}
-use Rattle.aml_meaning.specs.Slots.{slot_in, with_slot}
-use Rattle.aml_meaning.specs.StoreTargets.{last_index}
+use Rattle.aml_world.specs.declared.state.frame.Frame.{Frame}
+use Rattle.aml_world.specs.state.State.{State}
+use Rattle.aml_world.specs.state.Given.{Given}
+use Rattle.aml_world.specs.state.Slots.{slot_in, with_slot}
+use Rattle.aml_world.specs.values.StoreTargets.{last_index}
 use Rattle.aml_laws.specs.Plain.{AreBytes, PlainTree, PlainTrees, PlainPart, PlainParts}
 use Rattle.aml_laws.specs.AllWithin.{Each, BytesFit, FewBits}
 use Rattle.aml_laws.specs.Handed.{GivenWithin}

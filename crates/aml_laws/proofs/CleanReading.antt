@@ -5,7 +5,7 @@ use Rattle.ar_space.specs.declared.refusal.Refusal.TheVariants as refusals
 use Rattle.ar_space.specs.declared.refusal.EvaluationFault.TheVariants.{DepthSetting}
 use Rattle.ar_space.specs.Outcome.{Outcome}
 use Rattle.aml_path.specs.declared.segment.Seg.{Seg}
-use Rattle.aml_grammar.specs.declared.arities.Arity.{Arity}
+use Rattle.aml_arities.specs.declared.arities.Arity.{Arity}
 use Rattle.aml_grammar.specs.Grammar.{max_depth, reading_within, table_reading_within}
 use Rattle.aml_laws.proofs.ReadingRefusals.{reading_within_reads, table_reading_within_reads}
 use Rattle.aml_laws.proofs.SetDepths.{CleanWithin, CleanRefusalWithin}

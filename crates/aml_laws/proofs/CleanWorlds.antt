@@ -22,33 +22,34 @@ use Rattle.aml_objects.specs.declared.value.Reference.{Reference}
 use Rattle.aml_objects.specs.declared.value.Slot.{Slot}
 use Rattle.aml_objects.specs.declared.value.Value.TheVariants as value
 use Rattle.aml_objects.specs.declared.value.Value.{Value}
-use Rattle.aml_meaning.specs.Declaring.{no_method, no_method_in}
-use Rattle.aml_meaning.specs.Exporting.{held_or_path, use_of, value_or_path}
-use Rattle.aml_meaning.specs.FieldTerms.{buffer_of, connection_buffer, field_number, further, in_region, region_number, sized}
-use Rattle.aml_meaning.specs.Invocations.{invocation_of, invocation_of_body, invocation_of_object}
-use Rattle.aml_meaning.specs.Mutexes.{count_in, count_of_object, once_less, once_more}
-use Rattle.aml_meaning.specs.Operations.{below, made_of, size_of_object, size_of_referent, size_of_value}
-use Rattle.aml_meaning.specs.Osi.{osi_answer}
-use Rattle.aml_meaning.specs.PciFunctions.{or_behind, or_deep}
-use Rattle.aml_meaning.specs.declared.regions.RegionField.{RegionField}
-use Rattle.aml_meaning.specs.declared.profile.Profile.{Profile}
-use Rattle.aml_meaning.specs.declared.profile.Profile.TheVariants as profiles
-use Rattle.aml_meaning.specs.Bridges.{bridge_header}
-use Rattle.aml_meaning.specs.Readings.{as_many, is_scope, scope_or_not, value_in}
-use Rattle.aml_meaning.specs.Regions.{field_of_object, integer_only, pci_space, region_field, region_of_object, bank_held}
-use Rattle.aml_meaning.specs.Slots.{slot_at, slot_found}
-use Rattle.aml_meaning.specs.StoreTargets.{held_in, holding_in, initialized, number_in_entry, number_in_frame, or_ended, or_gone, referent_in, where_found}
-use Rattle.aml_meaning.specs.Stores.{byte_of, first_byte}
-use Rattle.aml_meaning.specs.TargetTerms.{reference_in}
+use Rattle.aml_world.specs.state.Declaring.{no_method, no_method_in}
+use Rattle.aml_world.specs.state.NameUses.{held_or_path, use_of, value_or_path}
+use Rattle.aml_world.specs.fields.BufferFields.{buffer_of}
+use Rattle.aml_world.specs.fields.FieldLayouts.{connection_buffer, field_number, further, in_region, region_number, sized}
+use Rattle.aml_world.specs.state.Invocations.{invocation_of, invocation_of_body, invocation_of_object}
+use Rattle.aml_world.specs.state.Mutexes.{count_in, count_of_object, once_less, once_more}
+use Rattle.aml_world.specs.values.Operations.{below, made_of, size_of_object, size_of_referent, size_of_value}
+use Rattle.aml_world.specs.state.Osi.{osi_answer}
+use Rattle.aml_world.specs.fields.PciFunctions.{or_behind, or_deep}
+use Rattle.aml_world.specs.declared.fields.regions.RegionField.{RegionField}
+use Rattle.aml_world.specs.declared.state.profile.Profile.{Profile}
+use Rattle.aml_world.specs.declared.state.profile.Profile.TheVariants as profiles
+use Rattle.aml_world.specs.fields.Bridges.{bridge_header}
+use Rattle.aml_world.specs.state.Readings.{as_many, is_scope, scope_or_not}
+use Rattle.aml_world.specs.fields.Regions.{field_of_object, integer_only, pci_space, region_field, region_of_object, bank_held}
+use Rattle.aml_world.specs.state.Slots.{slot_at, slot_found}
+use Rattle.aml_world.specs.values.StoreTargets.{held_in, holding_in, initialized, number_in_entry, number_in_frame, or_ended, or_gone, referent_in, where_found, reference_in}
+use Rattle.aml_world.specs.values.Stores.{byte_of, first_byte}
+use Rattle.aml_world.specs.declared.fields.field_layout.FieldLayout.{FieldLayout}
+use Rattle.aml_world.specs.declared.state.frame.Frame.{Frame}
+use Rattle.aml_world.specs.declared.values.object_type.Referent.TheVariants as referent
+use Rattle.aml_world.specs.declared.values.object_type.Referent.{Referent}
+use Rattle.aml_world.specs.declared.values.store_target.Holding.TheVariants as holding
+use Rattle.aml_world.specs.declared.values.store_target.Holding.{Holding}
+use Rattle.aml_meaning.specs.Tasks.{value_in}
 use Rattle.aml_meaning.specs.Terms.{inner_of, list_of, number_of}
-use Rattle.aml_meaning.specs.declared.field_layout.FieldLayout.{FieldLayout}
 use Rattle.aml_meaning.specs.declared.flow.Flow.TheVariants as flow
 use Rattle.aml_meaning.specs.declared.flow.Flow.{Flow}
-use Rattle.aml_meaning.specs.declared.frame.Frame.{Frame}
-use Rattle.aml_meaning.specs.declared.object_type.Referent.TheVariants as referent
-use Rattle.aml_meaning.specs.declared.object_type.Referent.{Referent}
-use Rattle.aml_meaning.specs.declared.store_target.Holding.TheVariants as holding
-use Rattle.aml_meaning.specs.declared.store_target.Holding.{Holding}
 use Rattle.aml_laws.proofs.CleanChanges.{AllClean, give_clean, stop_clean}
 use Rattle.aml_laws.proofs.CleanObjects.{make_buffer_clean, make_string_clean}
 use Rattle.aml_laws.proofs.CleanOutcomes.{Clean, if_clean, seen_clean}

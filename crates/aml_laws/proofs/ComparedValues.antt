@@ -13,9 +13,9 @@ use Rattle.aml_convert.specs.declared.logic.Comparison.TheVariants as comparison
 use Rattle.aml_convert.specs.Integers.{bits_of, ones, truth}
 use Rattle.aml_convert.specs.Conversions.{compared}
 use Rattle.aml_convert.specs.Operators.{holds}
-use Rattle.aml_meaning.specs.Operations.{truth_of, compared_in}
+use Rattle.aml_world.specs.values.Operations.{truth_of, compared_in}
 use Rattle.aml_objects.specs.Contents.{content_in}
-use Rattle.aml_meaning.specs.State.{State}
+use Rattle.aml_world.specs.state.State.{State}
 use Rattle.aml_laws.specs.Comparisons.{AsksFor, equal, greater, less}
 
 module _ {S : Type 0} (w : State S) (c : Comparison) (a b : Value) where

@@ -19,8 +19,8 @@ use Rattle.aml_convert.specs.Integers.{bits_of, bytes_of, truncated}
 use Rattle.aml_convert.specs.Digits.{digit_and, leading_digits, leading_number}
 use Rattle.aml_convert.specs.Conversions.{two_digits, to_text_of, integer_bytes, to_buffer_of, explicit_integer_of}
 use Rattle.aml_convert.specs.Strings.{decimal_string_of, hexadecimal_string_of}
-use Rattle.aml_meaning.specs.State.{State}
-use Rattle.aml_meaning.specs.Readings.{integer_in}
+use Rattle.aml_world.specs.state.State.{State}
+use Rattle.aml_world.specs.state.Readings.{integer_in}
 use Rattle.aml_laws.specs.IntegersOfValues.{lowest_first, AreDigits}
 use Rattle.aml_laws.specs.Plain.{AreBytes}
 use Rattle.aml_laws.specs.Spellings.{IsUpperDigit, figure, letter, SpellsBytes, none, one, more, BeginsWithout, nothing, other}

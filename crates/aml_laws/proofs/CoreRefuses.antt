@@ -12,18 +12,18 @@ use Rattle.aml_grammar.specs.Opcodes.{number_of}
 use Rattle.aml_grammar.specs.Tree.{Parts, Trees}
 use Rattle.aml_grammar.specs.declared.opcode.Opcode.{Opcode}
 use Rattle.aml_grammar.specs.declared.opcode.Opcode.TheVariants as opcodes
+use Rattle.aml_world.specs.declared.state.profile.Profile.TheVariants as profiles
+use Rattle.aml_world.specs.declared.values.operation_kind.Conversion.TheVariants as conversions
+use Rattle.aml_world.specs.declared.values.operation_kind.EventChange.TheVariants as changes
+use Rattle.aml_world.specs.state.State.{State}
+use Rattle.aml_world.specs.state.Run.{Run, lift}
+use Rattle.aml_world.specs.state.Profiles.{evaluated_in, asked_for}
 use Rattle.aml_meaning.specs.declared.flow.Flow.{Flow}
-use Rattle.aml_meaning.specs.declared.profile.Profile.TheVariants as profiles
-use Rattle.aml_meaning.specs.declared.term_kind.Conversion.TheVariants as conversions
-use Rattle.aml_meaning.specs.declared.term_kind.EventChange.TheVariants as changes
 use Rattle.aml_meaning.specs.declared.term_kind.TermKind.TheVariants as kinds
 use Rattle.aml_meaning.specs.declared.term_kind.WideKind.{WideKind}
 use Rattle.aml_meaning.specs.declared.term_kind.WideKind.TheVariants as wide
-use Rattle.aml_meaning.specs.State.{State}
-use Rattle.aml_meaning.specs.Run.{Run, lift}
 use Rattle.aml_meaning.specs.Terms.{kind_of}
 use Rattle.aml_meaning.specs.Tasks.{task}
-use Rattle.aml_meaning.specs.Profiles.{evaluated_in, asked_for}
 use Rattle.aml_meaning.specs.FieldTerms.{is_connection, has_connection, field_list_rule, index_list_rule}
 use Rattle.aml_meaning.specs.WideTerms.{in_wide, wide_rule}
 use Rattle.aml_meaning.specs.Evaluation.{rule}

@@ -8,9 +8,9 @@ use Rattle.aml_objects.specs.declared.entry.FieldUnit.{FieldUnit}
 use Rattle.aml_objects.specs.declared.entry.OperationRegion.{OperationRegion}
 use Rattle.aml_objects.specs.declared.value.Value.{Value}
 use Rattle.aml_fields.specs.declared.region.AddressSpace.{AddressSpace}
-use Rattle.aml_meaning.specs.State.{State}
+use Rattle.aml_world.specs.state.State.{State}
 use Rattle.aml_meaning.specs.Tasks.{Task, in_turn}
-use Rattle.aml_meaning.specs.Invocations.{invoked}
+use Rattle.aml_meaning.specs.Calls.{invoked}
 use Rattle.aml_laws.specs.Counted.{beside_counter, terms_begun, one_more_begun, counted_within, counted_meaning}
 use Rattle.aml_laws.specs.RegionAccesses.{ReachedWithin}
 use Rattle.aml_laws.specs.RegionAccesses as by

@@ -6,7 +6,7 @@ use Rattle.ar_space.specs.Accesses.{Accesses}
 use Rattle.ar_space.specs.Outcome.{Outcome}
 use Rattle.ar_space.specs.Change.{Change, go_on, ◌>>=◌}
 use Rattle.aml_path.specs.declared.segment.Seg.{Seg}
-use Rattle.aml_grammar.specs.declared.arities.Arity.{Arity}
+use Rattle.aml_arities.specs.declared.arities.Arity.{Arity}
 use Rattle.aml_grammar.specs.Grammar.{table_reading_within}
 use Rattle.aml_grammar.specs.Tree.{Tree, Trees}
 use Rattle.aml_objects.specs.declared.object.Element.{Element}
@@ -15,19 +15,21 @@ use Rattle.aml_objects.specs.declared.value.Reference.{Reference}
 use Rattle.aml_objects.specs.declared.value.Reference.TheVariants as reference
 use Rattle.aml_objects.specs.declared.value.Value.{Value}
 use Rattle.aml_objects.specs.declared.value.Value.TheVariants as value
+use Rattle.aml_world.specs.declared.state.invocation.Invocation.{Invocation}
+use Rattle.aml_world.specs.declared.state.invocation.Invocation.TheVariants as invocation
+use Rattle.aml_world.specs.declared.state.name_use.NameUse.{NameUse}
+use Rattle.aml_world.specs.declared.state.name_use.NameUse.TheVariants as uses
+use Rattle.aml_world.specs.state.Given as given
+use Rattle.aml_world.specs.state.State.{State}
+use Rattle.aml_world.specs.state.Run.{Run}
+use Rattle.aml_world.specs.state.Slots.{opened, closed}
+use Rattle.aml_world.specs.state.Importing.{reference_to, imported_by, each_imported, elements_imported, package_imported, taken_back, imported, all_imported}
+use Rattle.aml_world.specs.state.NameUses.{path_of, name_use}
+use Rattle.aml_world.specs.state.Mutexes.{released}
 use Rattle.aml_meaning.specs.declared.flow.Flow.{Flow}
-use Rattle.aml_meaning.specs.declared.invocation.Invocation.{Invocation}
-use Rattle.aml_meaning.specs.declared.invocation.Invocation.TheVariants as invocation
-use Rattle.aml_meaning.specs.declared.name_use.NameUse.{NameUse}
-use Rattle.aml_meaning.specs.declared.name_use.NameUse.TheVariants as uses
-use Rattle.aml_meaning.specs.Given as given
-use Rattle.aml_meaning.specs.State.{State}
-use Rattle.aml_meaning.specs.Run.{Run}
 use Rattle.aml_meaning.specs.Tasks.{Task}
-use Rattle.aml_meaning.specs.Slots.{opened, closed}
-use Rattle.aml_meaning.specs.Importing.{reference_to, imported_by, each_imported, elements_imported, package_imported, taken_back, imported, all_imported}
-use Rattle.aml_meaning.specs.Exporting.{text_exported, bytes_exported, path_of, reference_exported, name_use, value_exported, use_exported, name_exported, held_exported, element_exported, each_exported, elements_exported, package_exported, exported}
-use Rattle.aml_meaning.specs.Calling.{released, ending, with_steps, framed, in_frame, terms_kept, table_terms, at_root, table_run, loaded, value_of, called, with_rest, counted, evaluated, invocation_exported, answer_exported, answered}
+use Rattle.aml_meaning.specs.Exporting.{text_exported, bytes_exported, reference_exported, value_exported, use_exported, name_exported, held_exported, element_exported, each_exported, elements_exported, package_exported, exported}
+use Rattle.aml_meaning.specs.Calling.{ending, with_steps, framed, in_frame, terms_kept, table_terms, at_root, table_run, loaded, value_of, called, with_rest, counted, evaluated, invocation_exported, answer_exported, answered}
 use Rattle.aml_meaning.specs.Meaning.{meaning}
 use Rattle.aml_laws.specs.Counted.{beside_counter, terms_begun, without_counter, counted_meaning}
 use Rattle.aml_laws.specs.CountedTrees.{trees_begun, counted_trees}

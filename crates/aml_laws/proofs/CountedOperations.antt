@@ -11,23 +11,22 @@ use Rattle.aml_convert.specs.declared.operators.BinaryOperator.{BinaryOperator}
 use Rattle.aml_convert.specs.declared.operators.UnaryOperator.{UnaryOperator}
 use Rattle.aml_convert.specs.declared.logic.LogicalOperator.{LogicalOperator}
 use Rattle.aml_convert.specs.declared.logic.Comparison.{Comparison}
-use Rattle.aml_meaning.specs.declared.object_type.Referent.{Referent}
-use Rattle.aml_meaning.specs.declared.term_kind.OneOperand.{OneOperand}
-use Rattle.aml_meaning.specs.declared.term_kind.OneOperand.TheVariants as one
-use Rattle.aml_meaning.specs.declared.term_kind.TwoOperands.{TwoOperands}
-use Rattle.aml_meaning.specs.declared.term_kind.TwoOperands.TheVariants as two
-use Rattle.aml_meaning.specs.declared.term_kind.Test.{Test}
-use Rattle.aml_meaning.specs.declared.term_kind.Test.TheVariants as test
-use Rattle.aml_meaning.specs.declared.term_kind.Count.{Count}
-use Rattle.aml_meaning.specs.declared.term_kind.Count.TheVariants as count
-use Rattle.aml_meaning.specs.Readings.{integer_kept, integer_in, entry_found, path_found, scope_found, arguments_found}
-use Rattle.aml_meaning.specs.NewObjects.{within, new_buffer, new_package}
-use Rattle.aml_meaning.specs.Declaring.{not_in_method, new_name, new_method}
-use Rattle.aml_meaning.specs.TargetTerms.{target_named}
-use Rattle.aml_meaning.specs.Osi.{osi_answered}
-use Rattle.aml_meaning.specs.Operations.{integers_operated, operated, divided_in, integer_operated, operated_on_one, integers_tested, operated_logically, integer_turned, turned, next_integer, integer_before, compared_in, joined_contents, joined, joined_items, joined_resources, to_integer_in, buffer_bytes, new_buffer_of, to_buffer_in, size_held, element_indexed, byte_indexed, indexed, size_in}
-use Rattle.aml_meaning.specs.OperatorTerms.{result_of_two, result_of_one, result_of_test, counted_by}
-use Rattle.aml_meaning.specs.Invocations.{named_use, invocation_found, body_terms, call_allowed}
+use Rattle.aml_world.specs.declared.values.object_type.Referent.{Referent}
+use Rattle.aml_world.specs.declared.values.operation_kind.OneOperand.{OneOperand}
+use Rattle.aml_world.specs.declared.values.operation_kind.OneOperand.TheVariants as one
+use Rattle.aml_world.specs.declared.values.operation_kind.TwoOperands.{TwoOperands}
+use Rattle.aml_world.specs.declared.values.operation_kind.TwoOperands.TheVariants as two
+use Rattle.aml_world.specs.declared.values.operation_kind.Test.{Test}
+use Rattle.aml_world.specs.declared.values.operation_kind.Test.TheVariants as test
+use Rattle.aml_world.specs.declared.values.operation_kind.Count.{Count}
+use Rattle.aml_world.specs.declared.values.operation_kind.Count.TheVariants as count
+use Rattle.aml_world.specs.state.Readings.{integer_kept, integer_in, entry_found, path_found, scope_found, arguments_found}
+use Rattle.aml_world.specs.state.NewObjects.{within, new_buffer, new_package}
+use Rattle.aml_world.specs.state.Declaring.{not_in_method, new_name, new_method}
+use Rattle.aml_world.specs.values.StoreTargets.{target_named}
+use Rattle.aml_world.specs.state.Osi.{osi_answered}
+use Rattle.aml_world.specs.values.Operations.{integers_operated, operated, divided_in, integer_operated, operated_on_one, integers_tested, operated_logically, integer_lnot, lnot_in, incremented, decremented, compared_in, joined_contents, joined, joined_items, joined_resources, to_integer_in, buffer_bytes, new_buffer_of, to_buffer_in, size_held, element_indexed, byte_indexed, indexed, size_in, result_of_two, result_of_one, result_of_test, counted_by}
+use Rattle.aml_world.specs.state.Invocations.{named_use, invocation_found, body_terms, call_allowed}
 use Rattle.aml_laws.proofs.CountedChanges.{Counts, give_counts, stop_counts, settle_counts, then_counts, direct_counts, on_objects_counts, on_names_counts}
 
 module _ {S : Type 0} where
@@ -117,21 +116,21 @@ module _ {S : Type 0} where
   unfolding operated_logically
   operated_logically_counts op v u = then_counts _ _ _ _ (integer_in_counts v) (λ x. then_counts _ _ _ _ (integer_in_counts u) (λ y. integers_tested_counts op x y))
 
-  pub integer_turned_counts : (x : ℕ) → Counts {S = S} (integer_turned x) (integer_turned x)
-  unfolding integer_turned
-  integer_turned_counts x = direct_counts _ _ (λ w. refl) (λ w. refl)
+  pub integer_lnot_counts : (x : ℕ) → Counts {S = S} (integer_lnot x) (integer_lnot x)
+  unfolding integer_lnot
+  integer_lnot_counts x = direct_counts _ _ (λ w. refl) (λ w. refl)
 
-  pub turned_counts : (v : Value) → Counts {S = S} (turned v) (turned v)
-  unfolding turned
-  turned_counts v = then_counts _ _ _ _ (integer_in_counts v) (λ x. integer_turned_counts x)
+  pub lnot_counts : (v : Value) → Counts {S = S} (lnot_in v) (lnot_in v)
+  unfolding lnot_in
+  lnot_counts v = then_counts _ _ _ _ (integer_in_counts v) (λ x. integer_lnot_counts x)
 
-  pub next_integer_counts : (x : ℕ) → Counts {S = S} (next_integer x) (next_integer x)
-  unfolding next_integer
-  next_integer_counts x = direct_counts _ _ (λ w. refl) (λ w. refl)
+  pub incremented_counts : (x : ℕ) → Counts {S = S} (incremented x) (incremented x)
+  unfolding incremented
+  incremented_counts x = direct_counts _ _ (λ w. refl) (λ w. refl)
 
-  pub integer_before_counts : (x : ℕ) → Counts {S = S} (integer_before x) (integer_before x)
-  unfolding integer_before
-  integer_before_counts x = direct_counts _ _ (λ w. refl) (λ w. refl)
+  pub decremented_counts : (x : ℕ) → Counts {S = S} (decremented x) (decremented x)
+  unfolding decremented
+  decremented_counts x = direct_counts _ _ (λ w. refl) (λ w. refl)
 
   pub compared_in_counts : (c : Comparison) (v u : Value) → Counts {S = S} (compared_in c v u) (compared_in c v u)
   unfolding compared_in
@@ -206,8 +205,8 @@ module _ {S : Type 0} where
   result_of_test_counts (test.Compare c) v u = compared_in_counts c v u
 
   pub counted_by_counts : (k : Count) (n : ℕ) → Counts {S = S} (counted_by k n) (counted_by k n)
-  counted_by_counts count.Up n = next_integer_counts n
-  counted_by_counts count.Down n = integer_before_counts n
+  counted_by_counts count.Increment n = incremented_counts n
+  counted_by_counts count.Decrement n = decremented_counts n
 
   -- ---- calls
 

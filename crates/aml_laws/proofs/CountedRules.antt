@@ -11,6 +11,14 @@ use Rattle.aml_objects.specs.declared.value.Value.{Value}
 use Rattle.aml_objects.specs.declared.value.Slot.{Slot}
 use Rattle.aml_objects.specs.declared.object.Element.{Element}
 use Rattle.aml_objects.specs.declared.entry.NamedObject.{NamedObject}
+use Rattle.aml_world.specs.declared.values.operation_kind.OneOperand.{OneOperand}
+use Rattle.aml_world.specs.declared.values.operation_kind.TwoOperands.{TwoOperands}
+use Rattle.aml_world.specs.declared.values.operation_kind.Test.{Test}
+use Rattle.aml_world.specs.declared.values.operation_kind.Count.{Count}
+use Rattle.aml_world.specs.declared.state.invocation.Invocation.{Invocation}
+use Rattle.aml_world.specs.declared.state.invocation.Invocation.TheVariants as invocations
+use Rattle.aml_world.specs.declared.values.store_target.StoreTarget.{StoreTarget}
+use Rattle.aml_world.specs.state.Run.{Run}
 use Rattle.aml_meaning.specs.declared.flow.Flow.{Flow}
 use Rattle.aml_meaning.specs.declared.term_kind.TermKind.{TermKind}
 use Rattle.aml_meaning.specs.declared.term_kind.TermKind.TheVariants as kinds
@@ -20,34 +28,26 @@ use Rattle.aml_meaning.specs.declared.term_kind.DeclarationKind.{DeclarationKind
 use Rattle.aml_meaning.specs.declared.term_kind.DeclarationKind.TheVariants as declarations
 use Rattle.aml_meaning.specs.declared.term_kind.OperatorKind.{OperatorKind}
 use Rattle.aml_meaning.specs.declared.term_kind.OperatorKind.TheVariants as operators
-use Rattle.aml_meaning.specs.declared.term_kind.OneOperand.{OneOperand}
-use Rattle.aml_meaning.specs.declared.term_kind.TwoOperands.{TwoOperands}
-use Rattle.aml_meaning.specs.declared.term_kind.Test.{Test}
-use Rattle.aml_meaning.specs.declared.term_kind.Count.{Count}
 use Rattle.aml_meaning.specs.declared.term_kind.StatementKind.{StatementKind}
 use Rattle.aml_meaning.specs.declared.term_kind.StatementKind.TheVariants as statements
-use Rattle.aml_meaning.specs.declared.invocation.Invocation.{Invocation}
-use Rattle.aml_meaning.specs.declared.invocation.Invocation.TheVariants as invocations
-use Rattle.aml_meaning.specs.declared.store_target.StoreTarget.{StoreTarget}
-use Rattle.aml_meaning.specs.declared.store_target.TargetKind.{TargetKind}
-use Rattle.aml_meaning.specs.declared.store_target.TargetKind.TheVariants as target
+use Rattle.aml_meaning.specs.declared.term_kind.TargetKind.{TargetKind}
 use Rattle.aml_objects.specs.declared.value.Reference.{Reference}
+use Rattle.aml_meaning.specs.declared.term_kind.TargetKind.TheVariants as target
 use Rattle.aml_meaning.specs.declared.term_kind.RegionKind.{RegionKind}
 use Rattle.aml_meaning.specs.declared.term_kind.RegionKind.TheVariants as regions
-use Rattle.aml_meaning.specs.Run.{Run}
 use Rattle.aml_meaning.specs.Terms.{kind_of, target_kind, count_of}
 use Rattle.aml_meaning.specs.Tasks.{Task}
 use Rattle.aml_meaning.specs.DataTerms.{constant_rule, integer_rule, string_rule, buffer_rule, named_element, valued_element, element_by, elements_in_turn, package_of, package_rule, var_package_rule, data_rule}
 use Rattle.aml_meaning.specs.DeclarationTerms.{declaring, name_rule, alias_rule, method_rule, scope_rule, new_scope, declaration_rule}
 use Rattle.aml_meaning.specs.TargetTerms.{indexed_target, dereferenced_target, target_by_kind, target_of, first_target, part_target, name_target, target_by, target_at, targeted}
-use Rattle.aml_meaning.specs.OperatorTerms.{slot_rule, store_rule, copy_rule, two_rule, divide_rule, one_rule, test_rule, not_rule, count_rule, referent_of_value, referent_of_target, referent_by_kind, referent_by, size_rule, type_rule, acquire_rule, reference_rule, dereference_rule, sought_name, sought_target, sought, reference_stored, reference_found, conditional_rule, operator_rule}
+use Rattle.aml_meaning.specs.OperatorTerms.{slot_rule, store_rule, copy_rule, two_rule, divide_rule, one_rule, test_rule, lnot_rule, count_rule, referent_of_value, referent_of_target, referent_by_kind, referent_by, size_rule, type_rule, acquire_rule, reference_rule, dereference_rule, sought_name, sought_target, sought, reference_stored, reference_found, conditional_rule, operator_rule}
 use Rattle.aml_meaning.specs.StatementTerms.{otherwise, branch, if_rule, else_rule, turn_of, turn, loop_end, after_turn, turns, loop, while_rule, return_rule, release_rule, notify_rule, pause_rule, fatal_rule, statement_rule}
 use Rattle.aml_meaning.specs.InvocationTerms.{arguments_in_turn, call_rule, osi_rule, field_rule, invocation_rule, name_value}
 use Rattle.aml_meaning.specs.FieldTerms.{fields_laid, region_rule, field_list_rule, index_list_rule, sized_field_rule, bits_field_rule, region_term_rule}
 use Rattle.aml_meaning.specs.Evaluation.{kind_rule, code_rule, rule}
 use Rattle.aml_laws.specs.Counted.{beside_counter}
 use Rattle.aml_laws.proofs.CountedChanges.{RunCounts, give_counts, stop_counts, settle_counts, then_counts, on_objects_counts, lift_counts, charge_counts}
-use Rattle.aml_laws.proofs.CountedOperations.{integer_kept_counts, integer_in_counts, path_found_counts, scope_found_counts, target_named_counts, within_counts, new_buffer_counts, new_package_counts, new_name_counts, new_method_counts, divided_in_counts, turned_counts, size_in_counts, result_of_two_counts, result_of_one_counts, result_of_test_counts, counted_by_counts, osi_answered_counts, invocation_found_counts, call_allowed_counts}
+use Rattle.aml_laws.proofs.CountedOperations.{integer_kept_counts, integer_in_counts, path_found_counts, scope_found_counts, target_named_counts, within_counts, new_buffer_counts, new_package_counts, new_name_counts, new_method_counts, divided_in_counts, lnot_counts, size_in_counts, result_of_two_counts, result_of_one_counts, result_of_test_counts, counted_by_counts, osi_answered_counts, invocation_found_counts, call_allowed_counts}
 use Rattle.aml_laws.proofs.CountedStoreTargets.{slot_read_counts, tested_counts, dereferenced_counts, target_read_counts, reference_of_counts, if_initialized_counts, reference_if_found_counts, target_referent_counts, value_referent_counts, copied_to_counts, acquired_at_counts, given_back_at_counts}
 use Rattle.aml_laws.proofs.CountedFields.{elements_laid_counts, region_found_counts, field_found_counts}
 use Rattle.aml_laws.proofs.CountedCalls.{operand_value_counts, operand_integer_counts, value_at_counts, two_values_counts, in_turn_counts, invoked_counts, field_read_counts, held_integer_counts, referent_read_counts, completed_counts, stored_to_counts, held_value_counts, stored_back_counts}
@@ -236,9 +236,9 @@ module _ {S : Type 0} (accesses : Accesses S) (ev : Task → Run (S × ℕ) Flow
   unfolding test_rule
   test_rule_counts k scope depth t = then_counts _ _ _ _ (two_values_counts accesses ev uncounted parts scope depth t) (λ x. then_counts _ _ _ _ (lift_counts _ _ (result_of_test_counts k x.0 x.1)) (λ r. give_counts _))
 
-  not_rule_counts : (scope : List Seg) (depth : ℕ) (t : Tree) → RunCounts {S = S} (not_rule (beside_counter accesses) ev scope depth t) (not_rule accesses uncounted scope depth t)
-  unfolding not_rule
-  not_rule_counts scope depth t = then_counts _ _ _ _ (value_at_counts accesses ev uncounted parts scope depth t 0) (λ v. then_counts _ _ _ _ (lift_counts _ _ (turned_counts v)) (λ r. give_counts _))
+  lnot_rule_counts : (scope : List Seg) (depth : ℕ) (t : Tree) → RunCounts {S = S} (lnot_rule (beside_counter accesses) ev scope depth t) (lnot_rule accesses uncounted scope depth t)
+  unfolding lnot_rule
+  lnot_rule_counts scope depth t = then_counts _ _ _ _ (value_at_counts accesses ev uncounted parts scope depth t 0) (λ v. then_counts _ _ _ _ (lift_counts _ _ (lnot_counts v)) (λ r. give_counts _))
 
   count_rule_counts : (k : Count) (scope : List Seg) (depth : ℕ) (t : Tree) → RunCounts {S = S} (count_rule (beside_counter accesses) ev k scope depth t) (count_rule accesses uncounted k scope depth t)
   unfolding count_rule
@@ -323,7 +323,7 @@ module _ {S : Type 0} (accesses : Accesses S) (ev : Task → Run (S × ℕ) Flow
   operator_rule_counts operators.Divide scope depth t = divide_rule_counts scope depth t
   operator_rule_counts (operators.One k) scope depth t = one_rule_counts k scope depth t
   operator_rule_counts (operators.Test k) scope depth t = test_rule_counts k scope depth t
-  operator_rule_counts operators.LogicalNot scope depth t = not_rule_counts scope depth t
+  operator_rule_counts operators.LNot scope depth t = lnot_rule_counts scope depth t
   operator_rule_counts (operators.Count k) scope depth t = count_rule_counts k scope depth t
   operator_rule_counts operators.SizeOf scope depth t = size_rule_counts scope depth t
   operator_rule_counts operators.ObjectType scope depth t = type_rule_counts scope depth t

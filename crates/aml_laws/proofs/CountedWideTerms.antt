@@ -9,25 +9,25 @@ use Rattle.aml_objects.specs.declared.value.Value.{Value}
 use Rattle.aml_objects.specs.declared.value.Value.TheVariants as value
 use Rattle.aml_objects.specs.declared.value.Reference.{Reference}
 use Rattle.aml_objects.specs.declared.value.Reference.TheVariants as reference
+use Rattle.aml_world.specs.declared.values.store_target.StoreTarget.{StoreTarget}
+use Rattle.aml_world.specs.declared.values.store_target.StoreTarget.TheVariants as targets
+use Rattle.aml_world.specs.declared.values.store_target.Holding.{Holding}
+use Rattle.aml_world.specs.declared.values.store_target.Holding.TheVariants as holding
+use Rattle.aml_world.specs.declared.values.store_target.Stored.{Stored}
+use Rattle.aml_world.specs.declared.values.operation_kind.Conversion.{Conversion}
+use Rattle.aml_world.specs.declared.values.operation_kind.Conversion.TheVariants as conversions
+use Rattle.aml_world.specs.state.State.{State}
+use Rattle.aml_world.specs.state.Run.{Run}
+use Rattle.aml_world.specs.values.WideOperations.{decoded_in, number_coded, coded_in, decimal_text, new_decimal_string, decimal_string_in, hexadecimal_text, new_hexadecimal_string, hexadecimal_string_in, string_text, string_in, middle_content, middle_in, converted}
+use Rattle.aml_world.specs.values.FormedStores.{is_integer, is_string, is_buffer, formed_over_value, formed_over, formed_in_name, formed_in_declared, formed_through, formed_to}
+use Rattle.aml_world.specs.state.Profiles.{asked_for}
 use Rattle.aml_meaning.specs.declared.flow.Flow.{Flow}
-use Rattle.aml_meaning.specs.declared.store_target.StoreTarget.{StoreTarget}
-use Rattle.aml_meaning.specs.declared.store_target.StoreTarget.TheVariants as targets
-use Rattle.aml_meaning.specs.declared.store_target.Holding.{Holding}
-use Rattle.aml_meaning.specs.declared.store_target.Holding.TheVariants as holding
-use Rattle.aml_meaning.specs.declared.store_target.Stored.{Stored}
-use Rattle.aml_meaning.specs.declared.term_kind.Conversion.{Conversion}
-use Rattle.aml_meaning.specs.declared.term_kind.Conversion.TheVariants as conversions
 use Rattle.aml_meaning.specs.declared.term_kind.WideKind.{WideKind}
 use Rattle.aml_meaning.specs.declared.term_kind.WideKind.TheVariants as wides
-use Rattle.aml_meaning.specs.State.{State}
-use Rattle.aml_meaning.specs.Run.{Run}
 use Rattle.aml_meaning.specs.Tasks.{Task}
 use Rattle.aml_meaning.specs.TargetTerms.{target_at, targeted}
-use Rattle.aml_meaning.specs.WideOperations.{decoded_in, number_coded, coded_in, decimal_text, new_decimal_string, decimal_string_in, hexadecimal_text, new_hexadecimal_string, hexadecimal_string_in, string_text, string_in, middle_content, middle_in, converted}
-use Rattle.aml_meaning.specs.FormedStores.{is_integer, is_string, is_buffer, formed_over_value, formed_over, formed_in_name, formed_in_declared, formed_through, formed_to}
 use Rattle.aml_meaning.specs.BankTerms.{banked_laid, bank_list_rule}
 use Rattle.aml_meaning.specs.FieldTerms.{fields_laid, has_connection, asked_if, connections_asked}
-use Rattle.aml_meaning.specs.Profiles.{asked_for}
 use Rattle.aml_meaning.specs.WideTerms.{in_wide, formed_at, convert_rule, to_string_rule, middle_rule, wide_rule}
 use Rattle.aml_laws.specs.Counted.{beside_counter}
 use Rattle.aml_laws.proofs.CountedChanges.{Counts, RunCounts, direct_counts, give_counts, lift_counts, on_objects_counts, settle_counts, stop_counts, then_counts}

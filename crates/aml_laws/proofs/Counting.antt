@@ -14,24 +14,24 @@ use Rattle.aml_objects.specs.declared.value.Slot.{Slot}
 use Rattle.aml_objects.specs.declared.value.Value.{Value}
 use Rattle.aml_objects.specs.declared.value.Value.TheVariants as value
 use Rattle.aml_convert.specs.Integers.{bits_of, truncated}
+use Rattle.aml_world.specs.declared.values.store_target.StoreTarget.{StoreTarget}
+use Rattle.aml_world.specs.declared.values.store_target.StoreTarget.TheVariants as targets
+use Rattle.aml_world.specs.declared.values.store_target.Held.TheVariants as held
+use Rattle.aml_world.specs.declared.values.store_target.Stored.TheVariants as store
+use Rattle.aml_world.specs.declared.values.operation_kind.Count.{Count}
+use Rattle.aml_world.specs.declared.values.operation_kind.Count.TheVariants as count
+use Rattle.aml_world.specs.state.State.{State}
+use Rattle.aml_world.specs.state.Run.{lift}
+use Rattle.aml_world.specs.values.Stores.{stored}
+use Rattle.aml_world.specs.state.Readings.{integer_in}
+use Rattle.aml_world.specs.values.Operations.{incremented, decremented, counted_by}
+use Rattle.aml_world.specs.values.StoreTargets.{latest_frame, slot_held, own_slot, initialized, slot_read, held_at, name_read, held_in_slot, target_read}
 use Rattle.aml_meaning.specs.declared.flow.Flow.TheVariants as flow
-use Rattle.aml_meaning.specs.declared.store_target.StoreTarget.{StoreTarget}
-use Rattle.aml_meaning.specs.declared.store_target.StoreTarget.TheVariants as targets
-use Rattle.aml_meaning.specs.declared.store_target.Held.TheVariants as held
-use Rattle.aml_meaning.specs.declared.store_target.Stored.TheVariants as store
-use Rattle.aml_meaning.specs.declared.term_kind.Count.{Count}
-use Rattle.aml_meaning.specs.declared.term_kind.Count.TheVariants as count
 use Rattle.aml_meaning.specs.declared.term_kind.TermKind.TheVariants as kinds
 use Rattle.aml_meaning.specs.declared.term_kind.OperatorKind.TheVariants as operators
-use Rattle.aml_meaning.specs.State.{State}
-use Rattle.aml_meaning.specs.Run.{lift}
-use Rattle.aml_meaning.specs.Stores.{stored}
 use Rattle.aml_meaning.specs.Terms.{kind_of}
 use Rattle.aml_meaning.specs.Tasks.{task}
-use Rattle.aml_meaning.specs.Readings.{integer_in}
-use Rattle.aml_meaning.specs.Operations.{next_integer, integer_before}
-use Rattle.aml_meaning.specs.OperatorTerms.{counted_by, count_rule}
-use Rattle.aml_meaning.specs.StoreTargets.{latest_frame, slot_held, own_slot, initialized, slot_read, held_at, name_read, held_in_slot, target_read}
+use Rattle.aml_meaning.specs.OperatorTerms.{count_rule}
 use Rattle.aml_meaning.specs.FieldCalls.{stored_to}
 use Rattle.aml_meaning.specs.Evaluation.{rule}
 use Rattle.aml_meaning.specs.Meaning.{meaning}
@@ -77,15 +77,15 @@ module _ {S : Type 0} (accesses : Accesses S) (scope : List Seg) (depth : ℕ) (
 -- ---- one more and one less
 
 module _ {S : Type 0} (w : State S) (a : ℕ) where
-  pub next_is : counted_by count.Up a w ≡ (Ok (value.Integer (truncated w.width (a + 1))), w)
-  unfolding next_integer
+  pub next_is : counted_by count.Increment a w ≡ (Ok (value.Integer (truncated w.width (a + 1))), w)
+  unfolding incremented
   next_is = refl
 
   abbrev pub less : ℕ
   less = truncated w.width (a + (2 ^ bits_of w.width - truncated w.width 1))
 
-  pub before_is : counted_by count.Down a w ≡ (Ok (value.Integer less), w)
-  unfolding integer_before
+  pub before_is : counted_by count.Decrement a w ≡ (Ok (value.Integer less), w)
+  unfolding decremented
   before_is = refl
 
 pub one_less : (width : IntegerWidth) (a : ℕ) → (truncated width (a + (2 ^ bits_of width - truncated width 1)) < 2 ^ bits_of width) × ((truncated width (a + (2 ^ bits_of width - truncated width 1)) + 1) % 2 ^ bits_of width ≡ a % 2 ^ bits_of width)
@@ -94,8 +94,8 @@ one_less Bits64 a = (omega arith, omega arith)
 
 pub increments : {S : Type 0} → Counts S opcodes.Increment (λ width a n. n ≡ (a + 1) % 2 ^ bits_of width)
 increments accesses scope depth p t w steps a v names holds converts =
-    (truncated w.width (a + 1), refl, λ end e. count_is accesses scope depth p w steps a (truncated w.width (a + 1)) v converts count.Up opcodes.Increment refl (next_is w a) end t names holds e)
+    (truncated w.width (a + 1), refl, λ end e. count_is accesses scope depth p w steps a (truncated w.width (a + 1)) v converts count.Increment opcodes.Increment refl (next_is w a) end t names holds e)
 
 pub decrements : {S : Type 0} → Counts S opcodes.Decrement (λ width a n. (n < 2 ^ bits_of width) × ((n + 1) % 2 ^ bits_of width ≡ a % 2 ^ bits_of width))
 decrements accesses scope depth p t w steps a v names holds converts =
-    (less w a, one_less w.width a, λ end e. count_is accesses scope depth p w steps a (less w a) v converts count.Down opcodes.Decrement refl (before_is w a) end t names holds e)
+    (less w a, one_less w.width a, λ end e. count_is accesses scope depth p w steps a (less w a) v converts count.Decrement opcodes.Decrement refl (before_is w a) end t names holds e)

@@ -16,25 +16,26 @@ use Rattle.aml_objects.specs.declared.value.Value.{Value}
 use Rattle.aml_objects.specs.declared.value.Value.TheVariants as value
 use Rattle.aml_convert.specs.Conversions.{to_buffer_of}
 use Rattle.aml_convert.specs.Integers.{bits_of, bytes_of, truncated}
+use Rattle.aml_world.specs.declared.values.store_target.Held.{Held}
+use Rattle.aml_world.specs.declared.values.store_target.Held.TheVariants as held
+use Rattle.aml_world.specs.declared.values.store_target.StoreTarget.{StoreTarget}
+use Rattle.aml_world.specs.declared.values.store_target.StoreTarget.TheVariants as targets
+use Rattle.aml_world.specs.declared.values.operation_kind.Count.{Count}
+use Rattle.aml_world.specs.declared.values.operation_kind.Count.TheVariants as count
+use Rattle.aml_world.specs.state.State.{State}
+use Rattle.aml_world.specs.state.Run.{lift}
+use Rattle.aml_world.specs.state.Readings.{integer_in}
+use Rattle.aml_world.specs.values.Stores.{stored}
+use Rattle.aml_world.specs.values.StoreTargets.{held_at, name_read, target_read}
+use Rattle.aml_world.specs.fields.Fields.{field_integer}
+use Rattle.aml_world.specs.values.Operations.{counted_by}
 use Rattle.aml_meaning.specs.declared.flow.Flow.{Flow}
-use Rattle.aml_meaning.specs.declared.store_target.Held.{Held}
-use Rattle.aml_meaning.specs.declared.store_target.Held.TheVariants as held
-use Rattle.aml_meaning.specs.declared.store_target.StoreTarget.{StoreTarget}
-use Rattle.aml_meaning.specs.declared.store_target.StoreTarget.TheVariants as targets
-use Rattle.aml_meaning.specs.declared.term_kind.Count.{Count}
-use Rattle.aml_meaning.specs.declared.term_kind.Count.TheVariants as count
 use Rattle.aml_meaning.specs.declared.term_kind.OperatorKind.TheVariants as operators
 use Rattle.aml_meaning.specs.declared.term_kind.TermKind.TheVariants as kinds
-use Rattle.aml_meaning.specs.State.{State}
-use Rattle.aml_meaning.specs.Run.{lift}
 use Rattle.aml_meaning.specs.Terms.{kind_of}
-use Rattle.aml_meaning.specs.Readings.{integer_in}
 use Rattle.aml_meaning.specs.Tasks.{task}
-use Rattle.aml_meaning.specs.Stores.{stored}
-use Rattle.aml_meaning.specs.StoreTargets.{held_at, name_read, target_read}
-use Rattle.aml_meaning.specs.Fields.{field_integer}
 use Rattle.aml_meaning.specs.FieldCalls.{held_integer, field_written, stored_to, stored_back}
-use Rattle.aml_meaning.specs.OperatorTerms.{counted_by, count_rule}
+use Rattle.aml_meaning.specs.OperatorTerms.{count_rule}
 use Rattle.aml_meaning.specs.Evaluation.{rule}
 use Rattle.aml_meaning.specs.Meaning.{meaning}
 use Rattle.aml_laws.specs.FieldNames.{bits_read_at, bits_written_at}
@@ -156,8 +157,8 @@ puts_up accesses scope depth p w steps a t between v finds stands converts =
       n,
       refl,
       λ after. (
-        λ comes. value_counts accesses scope depth p w steps count.Up opcodes.Increment refl t between finds v stands a converts n (next_is between.0 a) (Ok tt) after comes,
-        λ e comes. value_counts accesses scope depth p w steps count.Up opcodes.Increment refl t between finds v stands a converts n (next_is between.0 a) (Err e) after comes,
+        λ comes. value_counts accesses scope depth p w steps count.Increment opcodes.Increment refl t between finds v stands a converts n (next_is between.0 a) (Ok tt) after comes,
+        λ e comes. value_counts accesses scope depth p w steps count.Increment opcodes.Increment refl t between finds v stands a converts n (next_is between.0 a) (Err e) after comes,
       ),
     )
 
@@ -168,8 +169,8 @@ puts_down accesses scope depth p w steps a t between v finds stands converts =
       n,
       one_less between.0.width a,
       λ after. (
-        λ comes. value_counts accesses scope depth p w steps count.Down opcodes.Decrement refl t between finds v stands a converts n (before_is between.0 a) (Ok tt) after comes,
-        λ e comes. value_counts accesses scope depth p w steps count.Down opcodes.Decrement refl t between finds v stands a converts n (before_is between.0 a) (Err e) after comes,
+        λ comes. value_counts accesses scope depth p w steps count.Decrement opcodes.Decrement refl t between finds v stands a converts n (before_is between.0 a) (Ok tt) after comes,
+        λ e comes. value_counts accesses scope depth p w steps count.Decrement opcodes.Decrement refl t between finds v stands a converts n (before_is between.0 a) (Err e) after comes,
       ),
     )
 
@@ -181,8 +182,8 @@ field_puts_up accesses scope depth p w steps t between f finds stands b bytes en
       n,
       refl,
       λ out after converts. (
-        λ writes. field_counts accesses scope depth p w steps count.Up opcodes.Increment refl t between finds f stands b bytes end read n (next_is end.0 a) out (Ok tt) after converts writes,
-        λ e stops. field_counts accesses scope depth p w steps count.Up opcodes.Increment refl t between finds f stands b bytes end read n (next_is end.0 a) out (Err e) after converts stops,
+        λ writes. field_counts accesses scope depth p w steps count.Increment opcodes.Increment refl t between finds f stands b bytes end read n (next_is end.0 a) out (Ok tt) after converts writes,
+        λ e stops. field_counts accesses scope depth p w steps count.Increment opcodes.Increment refl t between finds f stands b bytes end read n (next_is end.0 a) out (Err e) after converts stops,
       ),
     )
 
@@ -194,12 +195,12 @@ field_puts_down accesses scope depth p w steps t between f finds stands b bytes 
       n,
       one_less end.0.width a,
       λ out after converts. (
-        λ writes. field_counts accesses scope depth p w steps count.Down opcodes.Decrement refl t between finds f stands b bytes end read n (before_is end.0 a) out (Ok tt) after converts writes,
-        λ e stops. field_counts accesses scope depth p w steps count.Down opcodes.Decrement refl t between finds f stands b bytes end read n (before_is end.0 a) out (Err e) after converts stops,
+        λ writes. field_counts accesses scope depth p w steps count.Decrement opcodes.Decrement refl t between finds f stands b bytes end read n (before_is end.0 a) out (Ok tt) after converts writes,
+        λ e stops. field_counts accesses scope depth p w steps count.Decrement opcodes.Decrement refl t between finds f stands b bytes end read n (before_is end.0 a) out (Err e) after converts stops,
       ),
     )
 
 pub puts_nothing : {S : Type 0} (accesses : Accesses S) (scope : List Seg) (depth : ℕ) (op : Opcode) → IsCount op → (p : Part) (w : State S) (steps : ℕ) (e : Refusal) (after : State S × ℕ) → CountsNothing accesses scope depth p (w, steps) e after
     → IsRefused accesses scope depth (counting op p) (w, suc steps) e after
-puts_nothing accesses scope depth _ upwards p w steps e after none = nothing_counts accesses scope depth p w steps count.Up opcodes.Increment refl e after none
-puts_nothing accesses scope depth _ downwards p w steps e after none = nothing_counts accesses scope depth p w steps count.Down opcodes.Decrement refl e after none
+puts_nothing accesses scope depth _ upwards p w steps e after none = nothing_counts accesses scope depth p w steps count.Increment opcodes.Increment refl e after none
+puts_nothing accesses scope depth _ downwards p w steps e after none = nothing_counts accesses scope depth p w steps count.Decrement opcodes.Decrement refl e after none

@@ -4,8 +4,8 @@ use Rattle.std.proofs.Common.{arith, inl, inr, ap, ◌∙◌}
 use Rattle.std.proofs.lemmas.Bool.{cases_lt}
 use Rattle.aml_path.specs.declared.segment.Seg.{Seg}
 use Rattle.aml_path.specs.Paths.{Name, is_searched}
-use Rattle.aml_grammar.specs.Arities.{arity_at, or_else, known, search_up, found, or_path, arity_where, arity_of}
-use Rattle.aml_grammar.specs.declared.arities.Arity.{Arity}
+use Rattle.aml_arities.specs.Arities.{arity_at, or_else, known, search_up, found, or_path, arity_where, arity_of}
+use Rattle.aml_arities.specs.declared.arities.Arity.{Arity}
 use Rattle.aml_laws.specs.CountsTold.{IsNearestCount, HasNoCount}
 use Rattle.aml_laws.specs.NamesWritten.{single, StandsFor}
 use Rattle.aml_laws.proofs.NamesWritten.{stands_at}

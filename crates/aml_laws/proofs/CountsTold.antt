@@ -4,11 +4,11 @@ use Rattle.std.proofs.Common.{ap, ◌∙◌}
 use Rattle.std.specs.FinMap.{get}
 use Rattle.aml_path.specs.declared.segment.Seg.{Seg}
 use Rattle.aml_path.specs.Paths.{path_eq}
-use Rattle.aml_grammar.specs.Arities.{is_of, latest, arity_at}
-use Rattle.aml_grammar.specs.declared.arities.Arity.{Arity}
-use Rattle.aml_grammar.proofs.PathTrees.{tied, itself}
-use Rattle.aml_meaning.specs.Invocations.{body_arities}
-use Rattle.aml_meaning.specs.State.{State}
+use Rattle.aml_arities.specs.Arities.{is_of, latest, arity_at}
+use Rattle.aml_arities.specs.declared.arities.Arity.{Arity}
+use Rattle.aml_arities.proofs.PathTrees.{tied, itself}
+use Rattle.aml_world.specs.state.Invocations.{body_arities}
+use Rattle.aml_world.specs.state.State.{State}
 use Rattle.aml_laws.specs.CountsTold.{declared_with, named_with, NoneDeclared, NoneNamed}
 use Rattle.aml_laws.proofs.BodiesRead.{told_counts}
 

@@ -11,10 +11,10 @@ use Rattle.aml_objects.specs.Objects.{Objects, make_string, make_buffer, make_pa
 use Rattle.aml_objects.specs.declared.object.Element.{Element}
 use Rattle.aml_objects.specs.declared.object.Element.TheVariants as element
 use Rattle.aml_objects.specs.declared.value.Value.{Value}
-use Rattle.aml_meaning.specs.Given.{Given, Givens}
-use Rattle.aml_meaning.specs.State.{State, on_objects}
-use Rattle.aml_meaning.specs.Readings.{integer_kept}
-use Rattle.aml_meaning.specs.Importing.{imported_by, each_imported, elements_imported, package_imported, taken_back, imported}
+use Rattle.aml_world.specs.state.Given.{Given, Givens}
+use Rattle.aml_world.specs.state.State.{State, on_objects}
+use Rattle.aml_world.specs.state.Readings.{integer_kept}
+use Rattle.aml_world.specs.state.Importing.{imported_by, each_imported, elements_imported, package_imported, taken_back, imported}
 use Rattle.aml_laws.specs.HandedIn.{many, MayBeHandedIn, AllMayBeHandedIn, nothing, integer, text, some_bytes, named, of_package, no_more, one_more}
 use Rattle.aml_laws.proofs.BeyondLimits.{no_room_for_string, no_room_for_buffer, no_room_for_package}
 use Rattle.aml_laws.proofs.CopiesBeyondLimits.{IsTooMuch, then_too_much, behind_too_much}

@@ -9,10 +9,10 @@ use Rattle.ar_space.specs.declared.refusal.EvaluationFault.TheVariants.{ObjectLi
 use Rattle.aml_path.specs.declared.segment.Seg.{Seg}
 use Rattle.aml_grammar.specs.Tree.{Tree, Trees}
 use Rattle.aml_objects.specs.declared.object.Element.{Element}
-use Rattle.aml_meaning.specs.State.{State, on_objects}
-use Rattle.aml_meaning.specs.Run.{lift}
+use Rattle.aml_world.specs.state.State.{State, on_objects}
+use Rattle.aml_world.specs.state.Run.{lift}
+use Rattle.aml_world.specs.state.NewObjects.{within, new_buffer, new_package}
 use Rattle.aml_meaning.specs.Tasks.{task}
-use Rattle.aml_meaning.specs.NewObjects.{within, new_buffer, new_package}
 use Rattle.aml_meaning.specs.DataTerms.{string_rule, buffer_rule, package_of, var_package_rule}
 use Rattle.aml_meaning.specs.Evaluation.{rule}
 use Rattle.aml_meaning.specs.Meaning.{meaning}

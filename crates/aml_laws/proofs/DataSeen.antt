@@ -3,8 +3,8 @@ use Rattle.std.specs.Prelude.{◌≡◌, ◌∷◌, map, Vec, refl}
 use Rattle.std.specs.declared.alloc.Global.{Global}
 use Rattle.std.proofs.Common.{ap, ◌∙◌}
 use mathlib.Core.Former.{Count}
-use Rattle.aml_meaning.specs.declared.datum.Datum as datum
-use Rattle.aml_meaning.specs.Given.{Givens, Package, given_of, row_of}
+use Rattle.aml_world.specs.declared.state.datum.Datum as datum
+use Rattle.aml_world.specs.state.Given.{Givens, Package, given_of, row_of}
 use Rattle.aml_laws.specs.DataSeen.{in_order}
 
 row_listed : (n : Count) (k : datum.Row_of-Datum n) → in_order (row_of k) ≡ map given_of (datum.items-the_row-Datum n k)

@@ -16,14 +16,14 @@ use Rattle.aml_objects.specs.declared.value.Slot.{Slot}
 use Rattle.aml_objects.specs.declared.value.Value.{Value}
 use Rattle.aml_objects.specs.declared.value.Value.TheVariants as value
 use Rattle.aml_namespace.specs.Search.{found}
-use Rattle.aml_meaning.specs.declared.store_target.StoreTarget.{StoreTarget}
-use Rattle.aml_meaning.specs.declared.store_target.StoreTarget.TheVariants as targets
-use Rattle.aml_meaning.specs.State.{State}
-use Rattle.aml_meaning.specs.Run.{lift}
+use Rattle.aml_world.specs.declared.values.store_target.StoreTarget.{StoreTarget}
+use Rattle.aml_world.specs.declared.values.store_target.StoreTarget.TheVariants as targets
+use Rattle.aml_world.specs.state.State.{State}
+use Rattle.aml_world.specs.state.Run.{lift}
+use Rattle.aml_world.specs.values.StoreTargets.{latest_frame, slot_held, own_slot, value_followed, followed, slot_referent, declared_referent, name_referent, target_referent, target_named}
+use Rattle.aml_world.specs.state.Readings.{path_found}
 use Rattle.aml_meaning.specs.Tasks.{task, operand_value}
-use Rattle.aml_meaning.specs.StoreTargets.{latest_frame, slot_held, own_slot, value_followed, followed, slot_referent, declared_referent, name_referent, target_referent}
-use Rattle.aml_meaning.specs.Readings.{path_found}
-use Rattle.aml_meaning.specs.TargetTerms.{target_named, name_target}
+use Rattle.aml_meaning.specs.TargetTerms.{name_target}
 use Rattle.aml_meaning.specs.OperatorTerms.{referent_of_value, referent_of_target, referent_at, size_rule, type_rule}
 use Rattle.aml_meaning.specs.Evaluation.{rule}
 use Rattle.aml_meaning.specs.Meaning.{meaning}

@@ -13,10 +13,10 @@ use Rattle.aml_objects.specs.declared.object.Object.{Object}
 use Rattle.aml_objects.specs.declared.object.Object.TheVariants as object
 use Rattle.aml_objects.specs.declared.value.Reference.{Reference}
 use Rattle.aml_objects.specs.declared.value.Value.{Value}
-use Rattle.aml_meaning.specs.declared.store_target.StoreTarget.TheVariants as targets
-use Rattle.aml_meaning.specs.State.{State, on_objects}
-use Rattle.aml_meaning.specs.StoreTargets.{declaration, frame_found}
-use Rattle.aml_meaning.specs.Stores.{copy_into_element, store_byte, copy_into_declared, store_in_declared, store_in_frame_numbered, stored_through, stored, copied_to}
+use Rattle.aml_world.specs.declared.values.store_target.StoreTarget.TheVariants as targets
+use Rattle.aml_world.specs.state.State.{State, on_objects}
+use Rattle.aml_world.specs.values.StoreTargets.{declaration, frame_found}
+use Rattle.aml_world.specs.values.Stores.{copy_into_element, store_byte, copy_into_declared, store_in_declared, store_in_frame_numbered, stored_through, stored, copied_to}
 use Rattle.aml_laws.specs.Dereferenced.{IsDead, name_gone, call_ended, no_element, no_byte}
 use Rattle.aml_laws.specs.Limits.{ArgumentChain}
 use Rattle.aml_laws.proofs.ReferenceChains.{arguments_followed, arguments_refused}

@@ -19,12 +19,12 @@ use Rattle.aml_namespace.proofs.Paths.{path_total, only_equal}
 use Rattle.aml_namespace.proofs.Changes.{released_at}
 use Rattle.aml_laws.proofs.NumbersKept.{numbered_declared, numbered_replaced, numbered_without, numbered_released, numbered_root}
 use Rattle.ar_space.specs.declared.integer_width.IntegerWidth.{IntegerWidth}
-use Rattle.aml_meaning.specs.State.{State}
-use Rattle.aml_meaning.specs.declared.settings.EvaluationSettings.{EvaluationSettings}
-use Rattle.aml_meaning.specs.Predefined.{fresh_as, predefined}
+use Rattle.aml_world.specs.state.State.{State}
+use Rattle.aml_world.specs.declared.state.settings.EvaluationSettings.{EvaluationSettings}
+use Rattle.aml_world.specs.state.Predefined.{fresh_as, predefined}
 use Rattle.ar_space.specs.Outcome.{Outcome}
 use Rattle.aml_objects.specs.declared.value.Value.{Value}
-use Rattle.aml_meaning.specs.Slots.{opened}
+use Rattle.aml_world.specs.state.Slots.{opened}
 use Rattle.aml_laws.specs.Becomes.{Becomes}
 use Rattle.aml_laws.proofs.Preorders.{either_branch}
 use Rattle.aml_laws.proofs.WorldRelations.{WorldRelation, plain}

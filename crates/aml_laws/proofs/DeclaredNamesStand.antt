@@ -22,6 +22,12 @@ use Rattle.aml_objects.specs.declared.entry.NamedObject.{NamedObject}
 use Rattle.aml_objects.specs.declared.entry.Entry.{Entry}
 use Rattle.aml_namespace.proofs.Paths.{path_total}
 use Rattle.aml_namespace.specs.Namespace.{Map, Namespace, declared, above}
+use Rattle.aml_world.specs.state.State.{State, on_names}
+use Rattle.aml_world.specs.state.Run.{Run, lift, charge}
+use Rattle.aml_world.specs.state.Declaring.{new_name, not_in_method, new_method}
+use Rattle.aml_world.specs.declared.state.passed_over.PassedItem.{PassedItem}
+use Rattle.aml_world.specs.state.PassedOver.{PassedOver, is_passable, passed_with}
+use Rattle.aml_world.specs.state.Noting.{with_passed}
 use Rattle.aml_meaning.specs.declared.flow.Flow.{Flow}
 use Rattle.aml_meaning.specs.declared.flow.Flow.TheVariants as flow
 use Rattle.aml_meaning.specs.declared.term_kind.TermKind.{TermKind}
@@ -31,13 +37,8 @@ use Rattle.aml_meaning.specs.declared.term_kind.DeclarationKind.TheVariants as d
 use Rattle.aml_meaning.specs.declared.term_kind.RegionKind.{RegionKind}
 use Rattle.aml_meaning.specs.declared.term_kind.RegionKind.TheVariants as regions
 use Rattle.aml_meaning.specs.FieldTerms.{region_rule, sized_field_rule, bits_field_rule, region_term_rule}
-use Rattle.aml_meaning.specs.State.{State, on_names}
-use Rattle.aml_meaning.specs.Run.{Run, lift, charge}
 use Rattle.aml_meaning.specs.Terms.{kind_of}
-use Rattle.aml_meaning.specs.Declaring.{new_name, not_in_method, new_method}
-use Rattle.aml_meaning.specs.declared.passed_over.PassedItem.{PassedItem}
-use Rattle.aml_meaning.specs.PassedOver.{PassedOver, is_passable, passed_with}
-use Rattle.aml_meaning.specs.Passing.{with_passed, item_done}
+use Rattle.aml_meaning.specs.Passing.{item_done}
 use Rattle.aml_meaning.specs.Tasks.{task, passes_over, goes_on, in_turn}
 use Rattle.aml_meaning.specs.DeclarationTerms.{declaring, name_rule, alias_rule, method_rule, new_scope, declaration_rule}
 use Rattle.aml_meaning.specs.Evaluation.{kind_rule, code_rule, rule}

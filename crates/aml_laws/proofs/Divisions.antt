@@ -15,11 +15,11 @@ use Rattle.aml_objects.specs.declared.value.Value.{Value}
 use Rattle.aml_objects.specs.declared.value.Value.TheVariants as value
 use Rattle.aml_convert.specs.declared.operators.BinaryOperator.TheVariants as binary
 use Rattle.aml_convert.specs.Operators.{result_of}
+use Rattle.aml_world.specs.state.State.{State}
+use Rattle.aml_world.specs.state.Run.{lift}
+use Rattle.aml_world.specs.values.Operations.{divided_in}
 use Rattle.aml_meaning.specs.declared.flow.Flow.TheVariants as flow
-use Rattle.aml_meaning.specs.State.{State}
-use Rattle.aml_meaning.specs.Run.{lift}
 use Rattle.aml_meaning.specs.Tasks.{task, operand_value, value_at, two_values}
-use Rattle.aml_meaning.specs.Operations.{divided_in}
 use Rattle.aml_meaning.specs.OperatorTerms.{divide_rule}
 use Rattle.aml_meaning.specs.Evaluation.{rule}
 use Rattle.aml_meaning.specs.Meaning.{meaning}

@@ -9,12 +9,12 @@ use Rattle.aml_grammar.specs.Tree.{Tree, Part}
 use Rattle.aml_objects.specs.declared.value.Value.{Value}
 use Rattle.aml_objects.specs.declared.value.Value.TheVariants as value
 use Rattle.aml_convert.specs.declared.operators.Division.{Division}
+use Rattle.aml_world.specs.state.State.{State}
+use Rattle.aml_world.specs.state.Run.{Run, lift}
+use Rattle.aml_world.specs.values.Operations.{divided_in}
+use Rattle.aml_world.specs.values.Stores.{stored}
 use Rattle.aml_meaning.specs.declared.flow.Flow.{Flow}
-use Rattle.aml_meaning.specs.State.{State}
-use Rattle.aml_meaning.specs.Run.{Run, lift}
 use Rattle.aml_meaning.specs.Tasks.{Task, task, operand_value, value_at, two_values}
-use Rattle.aml_meaning.specs.Operations.{divided_in}
-use Rattle.aml_meaning.specs.Stores.{stored}
 use Rattle.aml_meaning.specs.TargetTerms.{targeted}
 use Rattle.aml_meaning.specs.OperatorTerms.{divide_rule}
 use Rattle.aml_meaning.specs.Evaluation.{rule}

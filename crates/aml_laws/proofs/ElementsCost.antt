@@ -12,11 +12,11 @@ use Rattle.aml_objects.specs.declared.value.Reference.{Reference}
 use Rattle.aml_objects.specs.declared.value.Reference.TheVariants as reference
 use Rattle.aml_objects.specs.declared.value.Value.{Value}
 use Rattle.aml_objects.specs.declared.value.Value.TheVariants as value
-use Rattle.aml_meaning.specs.declared.name_use.NameUse.{NameUse}
-use Rattle.aml_meaning.specs.declared.name_use.NameUse.TheVariants as uses
-use Rattle.aml_meaning.specs.Given as given
-use Rattle.aml_meaning.specs.State.{State}
-use Rattle.aml_meaning.specs.Run.{Run, charge}
+use Rattle.aml_world.specs.declared.state.name_use.NameUse.{NameUse}
+use Rattle.aml_world.specs.declared.state.name_use.NameUse.TheVariants as uses
+use Rattle.aml_world.specs.state.Given as given
+use Rattle.aml_world.specs.state.State.{State}
+use Rattle.aml_world.specs.state.Run.{Run, charge}
 use Rattle.aml_meaning.specs.Tasks.{Task}
 use Rattle.aml_meaning.specs.Exporting.{text_exported, bytes_exported, reference_exported, value_exported, use_exported, name_exported, held_exported, element_exported, each_exported, elements_exported, package_exported}
 use Rattle.aml_meaning.specs.Meaning.{meaning}

@@ -14,12 +14,13 @@ use Rattle.aml_grammar.specs.Tree.{Trees}
 use Rattle.aml_objects.specs.declared.value.Value.{Value}
 use Rattle.aml_namespace.specs.Namespace.{without_below}
 use Rattle.aml_namespace.proofs.Paths.{only_equal}
+use Rattle.aml_world.specs.state.State.{State}
+use Rattle.aml_world.specs.state.Run.{Run, lift}
+use Rattle.aml_world.specs.state.Slots.{opened, closed}
+use Rattle.aml_world.specs.state.Invocations.{body_terms, call_allowed, left}
 use Rattle.aml_meaning.specs.declared.flow.Flow.{Flow}
-use Rattle.aml_meaning.specs.State.{State}
-use Rattle.aml_meaning.specs.Run.{Run, lift}
-use Rattle.aml_meaning.specs.Slots.{opened, closed}
 use Rattle.aml_meaning.specs.Tasks.{Task}
-use Rattle.aml_meaning.specs.Invocations.{body_terms, call_allowed, leaving, left, invoked}
+use Rattle.aml_meaning.specs.Calls.{leaving, invoked}
 use Rattle.aml_laws.specs.Calls.{body_frame, NoneBelow}
 use Rattle.aml_laws.proofs.OutsideOfMethods.{retained_apart}
 

@@ -6,16 +6,16 @@ use Rattle.ar_space.specs.declared.refusal.EvaluationFault.TheVariants.{DepthSet
 use Rattle.ar_space.specs.Accesses.{Accesses}
 use Rattle.ar_space.specs.Outcome.{Outcome}
 use Rattle.aml_path.specs.declared.segment.Seg.{Seg}
-use Rattle.aml_grammar.specs.declared.arities.Arity.{Arity}
+use Rattle.aml_arities.specs.declared.arities.Arity.{Arity}
 use Rattle.aml_grammar.specs.Tree.{Tree, Trees}
 use Rattle.aml_grammar.specs.Grammar.{table_reading_within}
 use Rattle.aml_objects.specs.declared.value.Value.{Value}
 use Rattle.aml_objects.specs.declared.entry.NamedObject.{NamedObject}
-use Rattle.aml_meaning.specs.declared.invocation.Invocation.{Invocation}
-use Rattle.aml_meaning.specs.declared.invocation.Invocation.TheVariants as invocations
-use Rattle.aml_meaning.specs.Given.{Given}
-use Rattle.aml_meaning.specs.State.{State}
-use Rattle.aml_meaning.specs.Predefined as predefined
+use Rattle.aml_world.specs.declared.state.invocation.Invocation.{Invocation}
+use Rattle.aml_world.specs.declared.state.invocation.Invocation.TheVariants as invocations
+use Rattle.aml_world.specs.state.Given.{Given}
+use Rattle.aml_world.specs.state.State.{State}
+use Rattle.aml_world.specs.state.Predefined as predefined
 use Rattle.aml_meaning.specs.Calling.{terms_kept, table_terms, at_root, table_run, loaded, value_of, called, evaluated, invocation_exported, answer_exported, answered}
 use Rattle.aml_laws.proofs.FieldsTogether.{field_given_together}
 use Rattle.aml_laws.proofs.OperandsTogether.{called_at_together}

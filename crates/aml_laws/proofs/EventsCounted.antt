@@ -17,11 +17,11 @@ use Rattle.aml_namespace.specs.Namespace.{entry_released}
 use Rattle.aml_namespace.specs.Numbering.{Numbered}
 use Rattle.aml_namespace.proofs.Changes.{released_at}
 use Rattle.aml_convert.specs.Integers.{bits_of, ones}
-use Rattle.aml_meaning.specs.declared.term_kind.EventChange.TheVariants as changes
-use Rattle.aml_meaning.specs.Given.{Given}
-use Rattle.aml_meaning.specs.State.{State}
-use Rattle.aml_meaning.specs.Readings.{integer_kept, integer_in}
-use Rattle.aml_meaning.specs.Events.{event_changed, waited}
+use Rattle.aml_world.specs.declared.values.operation_kind.EventChange.TheVariants as changes
+use Rattle.aml_world.specs.state.Given.{Given}
+use Rattle.aml_world.specs.state.State.{State}
+use Rattle.aml_world.specs.state.Readings.{integer_kept, integer_in}
+use Rattle.aml_world.specs.state.Events.{event_changed, waited}
 use Rattle.aml_meaning.specs.Calling.{ending, with_steps, table_run, loaded, answer_exported, answered}
 use Rattle.aml_laws.specs.Events.{event_entry, with_signals}
 use Rattle.aml_laws.proofs.SignalsTaken.{put_is, under_is, signaled, refused, taken}

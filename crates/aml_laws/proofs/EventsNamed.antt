@@ -17,13 +17,13 @@ use Rattle.aml_objects.specs.declared.value.Value.TheVariants as value
 use Rattle.aml_grammar.specs.Tree.{Part}
 use Rattle.aml_namespace.specs.Numbering.{Numbered}
 use Rattle.aml_namespace.proofs.Finding.{numbered_found}
-use Rattle.aml_meaning.specs.declared.store_target.StoreTarget.{StoreTarget}
-use Rattle.aml_meaning.specs.declared.store_target.StoreTarget.TheVariants as targets
-use Rattle.aml_meaning.specs.declared.term_kind.EventChange.{EventChange}
-use Rattle.aml_meaning.specs.declared.term_kind.EventChange.TheVariants as changes
-use Rattle.aml_meaning.specs.State.{State}
-use Rattle.aml_meaning.specs.StoreTargets.{latest_frame, slot_held, own_slot, declaration, entry_declared, name_tested, declared_number}
-use Rattle.aml_meaning.specs.Events.{name_referred, named_by_value, named_by_argument, name_at, event_named, signals_of, signals_under, event_changed, waited}
+use Rattle.aml_world.specs.declared.values.store_target.StoreTarget.{StoreTarget}
+use Rattle.aml_world.specs.declared.values.store_target.StoreTarget.TheVariants as targets
+use Rattle.aml_world.specs.declared.values.operation_kind.EventChange.{EventChange}
+use Rattle.aml_world.specs.declared.values.operation_kind.EventChange.TheVariants as changes
+use Rattle.aml_world.specs.state.State.{State}
+use Rattle.aml_world.specs.values.StoreTargets.{latest_frame, slot_held, own_slot, declaration, entry_declared, name_tested, declared_number}
+use Rattle.aml_world.specs.state.Events.{name_referred, named_by_value, named_by_argument, name_at, event_named, signals_of, signals_under, event_changed, waited}
 use Rattle.aml_laws.specs.Events.{IsNoEvent}
 use Rattle.aml_laws.specs.OperatorTerms.{NamesTarget}
 use Rattle.aml_laws.specs.ObjectTerms.{Declared, by_name, by_argument, by_reference, Undeclared, nowhere, a_local, an_argument, a_reference, NamesDeclaration, NamesNoDeclaration}

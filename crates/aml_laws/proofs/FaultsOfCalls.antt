@@ -8,21 +8,22 @@ use Rattle.aml_path.specs.declared.segment.Seg.{Seg}
 use Rattle.aml_grammar.specs.Tree.{Tree, Trees, no_trees, tree}
 use Rattle.aml_objects.specs.declared.entry.Field.{Field}
 use Rattle.aml_objects.specs.declared.value.Value.{Value}
-use Rattle.aml_meaning.specs.FieldCalls.{answer_over, answer_within, asked, back_to, called_at, completed, field_read, held_integer, held_value, is_element, method_integer, referent_read, stored_back, stored_to}
-use Rattle.aml_meaning.specs.Invocations.{invoked, leaving, method_value, returned_by}
-use Rattle.aml_meaning.specs.Run.{Run}
-use Rattle.aml_meaning.specs.Slots.{opened}
+use Rattle.aml_world.specs.values.StoreTargets.{is_element}
+use Rattle.aml_world.specs.state.Run.{Run}
+use Rattle.aml_world.specs.state.Slots.{opened}
+use Rattle.aml_world.specs.declared.state.invocation.Invocation.TheVariants as invocations
+use Rattle.aml_world.specs.declared.state.invocation.Invocation.{Invocation}
+use Rattle.aml_world.specs.declared.values.object_type.Referent.TheVariants as referent
+use Rattle.aml_world.specs.declared.values.object_type.Referent.{Referent}
+use Rattle.aml_world.specs.declared.values.store_target.Held.TheVariants as held
+use Rattle.aml_world.specs.declared.values.store_target.Held.{Held}
+use Rattle.aml_world.specs.declared.values.store_target.StoreTarget.{StoreTarget}
+use Rattle.aml_world.specs.declared.values.store_target.Stored.TheVariants as store
+use Rattle.aml_world.specs.declared.values.store_target.Stored.{Stored}
+use Rattle.aml_meaning.specs.FieldCalls.{answer_over, answer_within, asked, back_to, called_at, completed, field_read, held_integer, held_value, method_integer, referent_read, stored_back, stored_to}
+use Rattle.aml_meaning.specs.Calls.{invoked, leaving, method_value, returned_by}
 use Rattle.aml_meaning.specs.Tasks.{Task, goes_on, in_turn, operand_integer, operand_value, two_values, value_at}
 use Rattle.aml_meaning.specs.declared.flow.Flow.{Flow}
-use Rattle.aml_meaning.specs.declared.invocation.Invocation.TheVariants as invocations
-use Rattle.aml_meaning.specs.declared.invocation.Invocation.{Invocation}
-use Rattle.aml_meaning.specs.declared.object_type.Referent.TheVariants as referent
-use Rattle.aml_meaning.specs.declared.object_type.Referent.{Referent}
-use Rattle.aml_meaning.specs.declared.store_target.Held.TheVariants as held
-use Rattle.aml_meaning.specs.declared.store_target.Held.{Held}
-use Rattle.aml_meaning.specs.declared.store_target.StoreTarget.{StoreTarget}
-use Rattle.aml_meaning.specs.declared.store_target.Stored.TheVariants as store
-use Rattle.aml_meaning.specs.declared.store_target.Stored.{Stored}
 use Rattle.aml_laws.proofs.CleanWorlds.{inner_of_clean, integer_only_clean, value_in_clean}
 use Rattle.aml_laws.proofs.FaultsOfChanges.{Explained, RunExplains, Spent, WorldExplains, direct_explains, either_branch_explains, give_explains, lift_explains, settle_explains, stop_explains, then_explains}
 use Rattle.aml_laws.proofs.ItemsOfLists.{item_explains}

@@ -23,8 +23,8 @@ use Rattle.aml_fields.specs.declared.field_units.Unit.{Unit as Access}
 use Rattle.aml_fields.specs.Units.{units_of}
 use Rattle.aml_fields.specs.UnitByUnit.{read_units, bits_read, write_units, kept_by, kept}
 use Rattle.aml_fields.specs.Regions.{faulted, read_access, read_unit, read_field, write_access, write_unit, write_field, write_whole}
-use Rattle.aml_meaning.specs.State.{State, on_objects, on_names, on_space}
-use Rattle.aml_meaning.specs.Run.{Run, lift, charge}
+use Rattle.aml_world.specs.state.State.{State, on_objects, on_names, on_space}
+use Rattle.aml_world.specs.state.Run.{Run, lift, charge}
 use Rattle.aml_laws.specs.Answered.{Answered}
 use Rattle.aml_laws.specs.Answered as by
 use Rattle.aml_laws.specs.SpaceFaults.{LastFaults}

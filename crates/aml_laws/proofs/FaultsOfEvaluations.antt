@@ -7,7 +7,7 @@ use Rattle.aml_path.specs.Paths.{Name, resolved}
 use Rattle.aml_path.specs.declared.segment.Seg.{Seg}
 use Rattle.aml_grammar.specs.Grammar.{table_reading_within}
 use Rattle.aml_grammar.specs.Tree.{Tree, Trees}
-use Rattle.aml_grammar.specs.declared.arities.Arity.{Arity}
+use Rattle.aml_arities.specs.declared.arities.Arity.{Arity}
 use Rattle.aml_objects.specs.declared.object.Element.TheVariants as element
 use Rattle.aml_objects.specs.declared.object.Element.{Element}
 use Rattle.aml_objects.specs.declared.value.Reference.TheVariants as reference
@@ -15,18 +15,19 @@ use Rattle.aml_objects.specs.declared.value.Reference.{Reference}
 use Rattle.aml_objects.specs.declared.value.Value.TheVariants as value
 use Rattle.aml_objects.specs.declared.value.Value.{Value}
 use Rattle.aml_namespace.specs.Search.{found}
+use Rattle.aml_world.specs.state.NameUses.{name_use, path_of}
+use Rattle.aml_world.specs.state.Given as given
+use Rattle.aml_world.specs.state.Importing.{all_imported, each_imported, elements_imported, imported, imported_by, package_imported, reference_to, taken_back}
+use Rattle.aml_world.specs.state.Run.{Run}
+use Rattle.aml_world.specs.state.Slots.{opened}
+use Rattle.aml_world.specs.state.State.{State}
+use Rattle.aml_world.specs.declared.state.invocation.Invocation.TheVariants as invocation
+use Rattle.aml_world.specs.declared.state.invocation.Invocation.{Invocation}
+use Rattle.aml_world.specs.declared.state.name_use.NameUse.TheVariants as uses
+use Rattle.aml_world.specs.declared.state.name_use.NameUse.{NameUse}
 use Rattle.aml_meaning.specs.Calling.{answer_exported, answered, invocation_exported, at_root, called, counted, ending, evaluated, framed, in_frame, loaded, table_run, table_terms, terms_kept, value_of, with_rest, with_steps}
-use Rattle.aml_meaning.specs.Exporting.{bytes_exported, each_exported, element_exported, elements_exported, exported, held_exported, name_exported, name_use, package_exported, path_of, reference_exported, text_exported, use_exported, value_exported}
-use Rattle.aml_meaning.specs.Given as given
-use Rattle.aml_meaning.specs.Importing.{all_imported, each_imported, elements_imported, imported, imported_by, package_imported, reference_to, taken_back}
+use Rattle.aml_meaning.specs.Exporting.{bytes_exported, each_exported, element_exported, elements_exported, exported, held_exported, name_exported, package_exported, reference_exported, text_exported, use_exported, value_exported}
 use Rattle.aml_meaning.specs.Meaning.{meaning}
-use Rattle.aml_meaning.specs.Run.{Run}
-use Rattle.aml_meaning.specs.Slots.{opened}
-use Rattle.aml_meaning.specs.State.{State}
-use Rattle.aml_meaning.specs.declared.invocation.Invocation.TheVariants as invocation
-use Rattle.aml_meaning.specs.declared.invocation.Invocation.{Invocation}
-use Rattle.aml_meaning.specs.declared.name_use.NameUse.TheVariants as uses
-use Rattle.aml_meaning.specs.declared.name_use.NameUse.{NameUse}
 use Rattle.aml_laws.proofs.CleanNames.{found_clean}
 use Rattle.aml_laws.proofs.CleanObjects.{buffer_at_clean, elements_at_clean, make_buffer_clean, make_package_clean, make_string_clean, string_at_clean}
 use Rattle.aml_laws.proofs.CleanOutcomes.{seen_clean}

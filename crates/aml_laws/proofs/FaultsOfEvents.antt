@@ -13,17 +13,17 @@ use Rattle.aml_objects.specs.declared.value.Slot.{Slot}
 use Rattle.aml_objects.specs.declared.value.Slot.TheVariants.{Local, Argument}
 use Rattle.aml_objects.specs.declared.value.Value.{Value}
 use Rattle.aml_objects.specs.declared.value.Value.TheVariants as value
+use Rattle.aml_world.specs.declared.values.store_target.StoreTarget.{StoreTarget}
+use Rattle.aml_world.specs.declared.values.store_target.StoreTarget.TheVariants as targets
+use Rattle.aml_world.specs.declared.values.operation_kind.EventChange.{EventChange}
+use Rattle.aml_world.specs.declared.values.operation_kind.EventChange.TheVariants as changes
+use Rattle.aml_world.specs.state.State.{State}
+use Rattle.aml_world.specs.state.Run.{Run}
+use Rattle.aml_world.specs.values.StoreTargets.{entry_declared}
+use Rattle.aml_world.specs.state.Events.{name_referred, named_by_reference, named_by_value, named_by_argument, named_by_slot, name_at, event_named, named_or_not, signals_of, signals_after, signals_under, put_signals, event_changed, signal_taken, taken_or_not, waited}
 use Rattle.aml_meaning.specs.declared.flow.Flow.{Flow}
-use Rattle.aml_meaning.specs.declared.store_target.StoreTarget.{StoreTarget}
-use Rattle.aml_meaning.specs.declared.store_target.StoreTarget.TheVariants as targets
-use Rattle.aml_meaning.specs.declared.term_kind.EventChange.{EventChange}
-use Rattle.aml_meaning.specs.declared.term_kind.EventChange.TheVariants as changes
-use Rattle.aml_meaning.specs.State.{State}
-use Rattle.aml_meaning.specs.Run.{Run}
 use Rattle.aml_meaning.specs.Tasks.{Task}
 use Rattle.aml_meaning.specs.TargetTerms.{target_at}
-use Rattle.aml_meaning.specs.StoreTargets.{entry_declared}
-use Rattle.aml_meaning.specs.Events.{name_referred, named_by_reference, named_by_value, named_by_argument, named_by_slot, name_at, event_named, named_or_not, signals_of, signals_after, signals_under, put_signals, event_changed, signal_taken, taken_or_not, waited}
 use Rattle.aml_meaning.specs.WideTerms.{event_rule, wait_rule}
 use Rattle.aml_laws.proofs.CleanNames.{replaced_clean}
 use Rattle.aml_laws.proofs.CleanOutcomes.{Clean, seen_clean}

@@ -22,22 +22,23 @@ use Rattle.aml_convert.specs.Integers.{bits_of}
 use Rattle.aml_fields.specs.Units.{units_of}
 use Rattle.aml_fields.specs.declared.region.Region.{Region}
 use Rattle.aml_fields.specs.declared.field_units.Unit.{Unit as Access}
+use Rattle.aml_world.specs.fields.FieldLayouts.{connection_found, field_found, new_field, region_found}
+use Rattle.aml_world.specs.fields.Fields.{bits_in, bus_behind, bus_behind_all, field_given, field_integer, field_part, field_referent, field_stored, field_unit_bits, field_unit_written, field_value, index_bits, index_unit, index_unit_written, index_written, inherited, located, part_in, pci_address, region_bits, region_written, space_at, written_in, bank_selected, bank_unit, bank_unit_written, bank_bits, bank_written}
+use Rattle.aml_world.specs.state.Given as given
+use Rattle.aml_world.specs.fields.PciFunctions.{nearest, behind_asked, pci_function}
+use Rattle.aml_world.specs.fields.Bridges.{bridges_above, secondary_bus}
+use Rattle.aml_world.specs.fields.Regions.{field_declared, given_of_bits, integer_alone, integer_of_bits, integer_referent, integer_value, referent_of_bits, region_declared, value_of_bits}
+use Rattle.aml_world.specs.state.Run.{Run}
+use Rattle.aml_world.specs.state.State.{on_objects}
+use Rattle.aml_world.specs.declared.fields.field_layout.FieldGroup.{FieldGroup}
+use Rattle.aml_world.specs.declared.fields.field_layout.FieldLayout.{FieldLayout}
+use Rattle.aml_world.specs.declared.fields.pci_functions.Sought.{Sought}
+use Rattle.aml_world.specs.declared.fields.regions.RegionField.{RegionField}
+use Rattle.aml_world.specs.declared.fields.regions.RegionSpace.TheVariants as kinds
+use Rattle.aml_world.specs.declared.fields.regions.RegionSpace.{RegionSpace}
 use Rattle.aml_meaning.specs.Terms.{is_named}
-use Rattle.aml_meaning.specs.FieldTerms.{connection_found, named_connection, connection_if, access_field, element_laid, elements_laid, field_found, named_field, new_field, region_found, reserved_field}
-use Rattle.aml_meaning.specs.Fields.{bits_in, bus_behind, bus_behind_all, field_given, field_integer, field_part, field_referent, field_stored, field_unit_bits, field_unit_written, field_value, index_bits, index_unit, index_unit_written, index_written, inherited, located, part_in, pci_address, region_bits, region_written, space_at, written_in, bank_selected, bank_unit, bank_unit_written, bank_bits, bank_written}
-use Rattle.aml_meaning.specs.Given as given
-use Rattle.aml_meaning.specs.PciFunctions.{nearest, behind_asked, pci_function}
-use Rattle.aml_meaning.specs.Bridges.{bridges_above, secondary_bus}
-use Rattle.aml_meaning.specs.Regions.{field_declared, given_of_bits, integer_alone, integer_of_bits, integer_referent, integer_value, referent_of_bits, region_declared, value_of_bits}
-use Rattle.aml_meaning.specs.Run.{Run}
-use Rattle.aml_meaning.specs.State.{on_objects}
+use Rattle.aml_meaning.specs.FieldTerms.{named_connection, connection_if, access_field, element_laid, elements_laid, named_field, reserved_field}
 use Rattle.aml_meaning.specs.Tasks.{module_level}
-use Rattle.aml_meaning.specs.declared.field_layout.FieldGroup.{FieldGroup}
-use Rattle.aml_meaning.specs.declared.field_layout.FieldLayout.{FieldLayout}
-use Rattle.aml_meaning.specs.declared.pci_functions.Sought.{Sought}
-use Rattle.aml_meaning.specs.declared.regions.RegionField.{RegionField}
-use Rattle.aml_meaning.specs.declared.regions.RegionSpace.TheVariants as kinds
-use Rattle.aml_meaning.specs.declared.regions.RegionSpace.{RegionSpace}
 use Rattle.aml_laws.proofs.CleanObjects.{make_buffer_clean, read_buffer_field_clean, write_buffer_field_clean}
 use Rattle.aml_laws.proofs.CleanOutcomes.{seen_clean}
 use Rattle.aml_laws.proofs.CleanValues.{resolved_clean, to_integer_of_clean}

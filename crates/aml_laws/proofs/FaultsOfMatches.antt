@@ -8,7 +8,7 @@ use Rattle.aml_objects.specs.declared.entry.Entry.{Entry}
 use Rattle.aml_convert.specs.Matching.{match_operator}
 use Rattle.aml_convert.specs.declared.matching.MatchOperator.{MatchOperator}
 use Rattle.aml_namespace.specs.Search.{found}
-use Rattle.aml_meaning.specs.MatchTerms.{is_comparable, package_of, searching_from, test_with, where_named}
+use Rattle.aml_world.specs.values.Searches.{is_comparable, package_of, searching_from, test_with, where_named, search_begun, name_held, held_by, element_held, meets, value_meets}
 use Rattle.aml_path.specs.declared.segment.Seg.{Seg}
 use Rattle.aml_path.specs.Paths.{Name}
 use Rattle.aml_grammar.specs.Tree.{Tree}
@@ -16,12 +16,12 @@ use Rattle.aml_objects.specs.declared.object.Element.{Element}
 use Rattle.aml_objects.specs.declared.object.Element.TheVariants as element
 use Rattle.aml_objects.specs.declared.value.Value.{Value}
 use Rattle.aml_objects.specs.declared.value.Value.TheVariants as value
+use Rattle.aml_world.specs.declared.values.searches.Search.{Search}
+use Rattle.aml_world.specs.declared.values.store_target.Held.{Held}
+use Rattle.aml_world.specs.state.Run.{Run}
 use Rattle.aml_meaning.specs.declared.flow.Flow.{Flow}
-use Rattle.aml_meaning.specs.declared.searches.Search.{Search}
-use Rattle.aml_meaning.specs.declared.store_target.Held.{Held}
-use Rattle.aml_meaning.specs.Run.{Run}
 use Rattle.aml_meaning.specs.Tasks.{Task}
-use Rattle.aml_meaning.specs.MatchTerms.{search_begun, name_held, held_by, element_held, meets, value_meets, held_meets, if_held, element_meets, found_or, none_matches, searched_last, match_rule}
+use Rattle.aml_meaning.specs.MatchTerms.{held_meets, if_held, element_meets, found_or, none_matches, searched_last, match_rule}
 use Rattle.aml_laws.proofs.CleanNames.{found_clean}
 use Rattle.aml_laws.proofs.CleanObjects.{element_at_clean}
 use Rattle.aml_laws.proofs.CleanOutcomes.{Clean, if_clean, seen_clean}

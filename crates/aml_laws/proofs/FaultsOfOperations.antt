@@ -22,23 +22,22 @@ use Rattle.aml_convert.specs.declared.operators.BinaryOperator.{BinaryOperator}
 use Rattle.aml_convert.specs.declared.operators.UnaryOperator.{UnaryOperator}
 use Rattle.aml_namespace.specs.Namespace.{above}
 use Rattle.aml_namespace.specs.Search.{found}
-use Rattle.aml_meaning.specs.Declaring.{new_method, new_name, not_in_method}
-use Rattle.aml_meaning.specs.Invocations.{body_arities, body_terms, invocation_found, named_use, call_allowed, call_allowed_within}
-use Rattle.aml_meaning.specs.NewObjects.{new_buffer, new_package, within}
-use Rattle.aml_meaning.specs.Operations.{buffer_bytes, byte_indexed, compared_in, divided_in, element_indexed, indexed, integer_before, integer_operated, integer_turned, integers_operated, integers_tested, joined, joined_contents, joined_items, joined_resources, new_buffer_of, next_integer, operated, operated_logically, operated_on_one, size_held, size_in, size_of_referent, to_buffer_in, to_integer_in, turned}
-use Rattle.aml_meaning.specs.OperatorTerms.{counted_by, result_of_one, result_of_test, result_of_two}
-use Rattle.aml_meaning.specs.Osi.{osi_answered}
-use Rattle.aml_meaning.specs.Readings.{arguments_found, entry_found, integer_in, integer_kept, path_found, scope_found}
-use Rattle.aml_meaning.specs.TargetTerms.{target_named}
-use Rattle.aml_meaning.specs.declared.object_type.Referent.{Referent}
-use Rattle.aml_meaning.specs.declared.term_kind.Count.TheVariants as count
-use Rattle.aml_meaning.specs.declared.term_kind.Count.{Count}
-use Rattle.aml_meaning.specs.declared.term_kind.OneOperand.TheVariants as one
-use Rattle.aml_meaning.specs.declared.term_kind.OneOperand.{OneOperand}
-use Rattle.aml_meaning.specs.declared.term_kind.Test.TheVariants as test
-use Rattle.aml_meaning.specs.declared.term_kind.Test.{Test}
-use Rattle.aml_meaning.specs.declared.term_kind.TwoOperands.TheVariants as two
-use Rattle.aml_meaning.specs.declared.term_kind.TwoOperands.{TwoOperands}
+use Rattle.aml_world.specs.state.Declaring.{new_method, new_name, not_in_method}
+use Rattle.aml_world.specs.state.Invocations.{body_arities, body_terms, invocation_found, named_use, call_allowed, call_allowed_within}
+use Rattle.aml_world.specs.state.NewObjects.{new_buffer, new_package, within}
+use Rattle.aml_world.specs.values.Operations.{buffer_bytes, byte_indexed, compared_in, divided_in, element_indexed, indexed, decremented, integer_operated, integer_lnot, integers_operated, integers_tested, joined, joined_contents, joined_items, joined_resources, new_buffer_of, incremented, operated, operated_logically, operated_on_one, size_held, size_in, size_of_referent, to_buffer_in, to_integer_in, lnot_in, counted_by, result_of_one, result_of_test, result_of_two}
+use Rattle.aml_world.specs.state.Osi.{osi_answered}
+use Rattle.aml_world.specs.state.Readings.{arguments_found, entry_found, integer_in, integer_kept, path_found, scope_found}
+use Rattle.aml_world.specs.values.StoreTargets.{target_named}
+use Rattle.aml_world.specs.declared.values.object_type.Referent.{Referent}
+use Rattle.aml_world.specs.declared.values.operation_kind.Count.TheVariants as count
+use Rattle.aml_world.specs.declared.values.operation_kind.Count.{Count}
+use Rattle.aml_world.specs.declared.values.operation_kind.OneOperand.TheVariants as one
+use Rattle.aml_world.specs.declared.values.operation_kind.OneOperand.{OneOperand}
+use Rattle.aml_world.specs.declared.values.operation_kind.Test.TheVariants as test
+use Rattle.aml_world.specs.declared.values.operation_kind.Test.{Test}
+use Rattle.aml_world.specs.declared.values.operation_kind.TwoOperands.TheVariants as two
+use Rattle.aml_world.specs.declared.values.operation_kind.TwoOperands.{TwoOperands}
 use Rattle.aml_laws.proofs.CleanNames.{declared_clean, found_clean}
 use Rattle.aml_laws.proofs.CleanObjects.{make_buffer_clean, make_package_clean}
 use Rattle.aml_laws.proofs.CleanOutcomes.{if_clean, seen_clean}
@@ -135,21 +134,21 @@ module _ {S : Type 0} {accesses : Accesses S} where
   unfolding operated_logically
   operated_logically_explains op v u = then_explains _ _ (integer_in_explains v) (λ x. then_explains _ _ (integer_in_explains u) (λ y. integers_tested_explains op x y))
 
-  pub integer_turned_explains : (x : ℕ) → WorldExplains accesses (integer_turned x)
-  unfolding integer_turned
-  integer_turned_explains x = direct_explains _ (λ w. tt) (λ w. refl)
+  pub integer_lnot_explains : (x : ℕ) → WorldExplains accesses (integer_lnot x)
+  unfolding integer_lnot
+  integer_lnot_explains x = direct_explains _ (λ w. tt) (λ w. refl)
 
-  pub turned_explains : (v : Value) → WorldExplains accesses (turned v)
-  unfolding turned
-  turned_explains v = then_explains _ _ (integer_in_explains v) (λ x. integer_turned_explains x)
+  pub lnot_explains : (v : Value) → WorldExplains accesses (lnot_in v)
+  unfolding lnot_in
+  lnot_explains v = then_explains _ _ (integer_in_explains v) (λ x. integer_lnot_explains x)
 
-  pub next_integer_explains : (x : ℕ) → WorldExplains accesses (next_integer x)
-  unfolding next_integer
-  next_integer_explains x = direct_explains _ (λ w. tt) (λ w. refl)
+  pub incremented_explains : (x : ℕ) → WorldExplains accesses (incremented x)
+  unfolding incremented
+  incremented_explains x = direct_explains _ (λ w. tt) (λ w. refl)
 
-  pub integer_before_explains : (x : ℕ) → WorldExplains accesses (integer_before x)
-  unfolding integer_before
-  integer_before_explains x = direct_explains _ (λ w. seen_clean value.Integer (result_of Subtract w.width x 1) (result_of_clean Subtract w.width x 1)) (λ w. refl)
+  pub decremented_explains : (x : ℕ) → WorldExplains accesses (decremented x)
+  unfolding decremented
+  decremented_explains x = direct_explains _ (λ w. seen_clean value.Integer (result_of Subtract w.width x 1) (result_of_clean Subtract w.width x 1)) (λ w. refl)
 
   pub compared_in_explains : (c : Comparison) (v u : Value) → WorldExplains accesses (compared_in c v u)
   unfolding compared_in
@@ -224,8 +223,8 @@ module _ {S : Type 0} {accesses : Accesses S} where
   result_of_test_explains (test.Compare c) v u = compared_in_explains c v u
 
   pub counted_by_explains : (k : Count) (n : ℕ) → WorldExplains accesses (counted_by k n)
-  counted_by_explains count.Up n = next_integer_explains n
-  counted_by_explains count.Down n = integer_before_explains n
+  counted_by_explains count.Increment n = incremented_explains n
+  counted_by_explains count.Decrement n = decremented_explains n
 
   -- ---- calls
 

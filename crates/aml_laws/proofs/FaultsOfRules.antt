@@ -13,29 +13,31 @@ use Rattle.aml_objects.specs.declared.object.Element.{Element}
 use Rattle.aml_objects.specs.declared.value.Reference.{Reference}
 use Rattle.aml_objects.specs.declared.value.Slot.{Slot}
 use Rattle.aml_objects.specs.declared.value.Value.{Value}
+use Rattle.aml_world.specs.state.Run.{Run}
+use Rattle.aml_world.specs.declared.state.invocation.Invocation.TheVariants as invocations
+use Rattle.aml_world.specs.declared.state.invocation.Invocation.{Invocation}
+use Rattle.aml_world.specs.declared.values.store_target.StoreTarget.{StoreTarget}
+use Rattle.aml_world.specs.declared.values.operation_kind.Count.{Count}
+use Rattle.aml_world.specs.declared.values.operation_kind.OneOperand.{OneOperand}
+use Rattle.aml_world.specs.declared.values.operation_kind.Test.{Test}
+use Rattle.aml_world.specs.declared.values.operation_kind.TwoOperands.{TwoOperands}
 use Rattle.aml_meaning.specs.DataTerms.{buffer_rule, constant_rule, data_rule, element_by, elements_in_turn, integer_rule, named_element, package_of, package_rule, string_rule, valued_element, var_package_rule}
 use Rattle.aml_meaning.specs.DeclarationTerms.{alias_rule, declaration_rule, declaring, method_rule, name_rule, new_scope, scope_rule}
 use Rattle.aml_meaning.specs.Evaluation.{code_rule, kind_rule, rule}
 use Rattle.aml_meaning.specs.FieldTerms.{bits_field_rule, field_list_rule, fields_laid, index_list_rule, region_rule, region_term_rule, sized_field_rule}
 use Rattle.aml_meaning.specs.InvocationTerms.{arguments_in_turn, call_rule, field_rule, invocation_rule, name_value, osi_rule}
-use Rattle.aml_meaning.specs.OperatorTerms.{acquire_rule, conditional_rule, copy_rule, count_rule, dereference_rule, divide_rule, not_rule, one_rule, operator_rule, reference_found, reference_rule, reference_stored, referent_by, referent_by_kind, referent_of_target, referent_of_value, size_rule, slot_rule, sought, sought_name, sought_target, store_rule, test_rule, two_rule, type_rule}
-use Rattle.aml_meaning.specs.Run.{Run}
+use Rattle.aml_meaning.specs.OperatorTerms.{acquire_rule, conditional_rule, copy_rule, count_rule, dereference_rule, divide_rule, lnot_rule, one_rule, operator_rule, reference_found, reference_rule, reference_stored, referent_by, referent_by_kind, referent_of_target, referent_of_value, size_rule, slot_rule, sought, sought_name, sought_target, store_rule, test_rule, two_rule, type_rule}
 use Rattle.aml_meaning.specs.StatementTerms.{branch, else_rule, fatal_rule, if_rule, notify_rule, otherwise, pause_rule, release_rule, return_rule, statement_rule, while_rule}
 use Rattle.aml_meaning.specs.TargetTerms.{dereferenced_target, first_target, indexed_target, name_target, part_target, target_at, target_by, target_by_kind, target_of, targeted}
 use Rattle.aml_meaning.specs.Tasks.{Task}
 use Rattle.aml_meaning.specs.Terms.{count_of, kind_of, target_kind}
 use Rattle.aml_meaning.specs.declared.flow.Flow.{Flow}
-use Rattle.aml_meaning.specs.declared.invocation.Invocation.TheVariants as invocations
-use Rattle.aml_meaning.specs.declared.invocation.Invocation.{Invocation}
-use Rattle.aml_meaning.specs.declared.store_target.StoreTarget.{StoreTarget}
-use Rattle.aml_meaning.specs.declared.store_target.TargetKind.TheVariants as target
-use Rattle.aml_meaning.specs.declared.store_target.TargetKind.{TargetKind}
-use Rattle.aml_meaning.specs.declared.term_kind.Count.{Count}
+use Rattle.aml_meaning.specs.declared.term_kind.TargetKind.TheVariants as target
+use Rattle.aml_meaning.specs.declared.term_kind.TargetKind.{TargetKind}
 use Rattle.aml_meaning.specs.declared.term_kind.DataKind.TheVariants as datas
 use Rattle.aml_meaning.specs.declared.term_kind.DataKind.{DataKind}
 use Rattle.aml_meaning.specs.declared.term_kind.DeclarationKind.TheVariants as declarations
 use Rattle.aml_meaning.specs.declared.term_kind.DeclarationKind.{DeclarationKind}
-use Rattle.aml_meaning.specs.declared.term_kind.OneOperand.{OneOperand}
 use Rattle.aml_meaning.specs.declared.term_kind.OperatorKind.TheVariants as operators
 use Rattle.aml_meaning.specs.declared.term_kind.OperatorKind.{OperatorKind}
 use Rattle.aml_meaning.specs.declared.term_kind.RegionKind.TheVariants as regions
@@ -44,8 +46,6 @@ use Rattle.aml_meaning.specs.declared.term_kind.StatementKind.TheVariants as sta
 use Rattle.aml_meaning.specs.declared.term_kind.StatementKind.{StatementKind}
 use Rattle.aml_meaning.specs.declared.term_kind.TermKind.TheVariants as kinds
 use Rattle.aml_meaning.specs.declared.term_kind.TermKind.{TermKind}
-use Rattle.aml_meaning.specs.declared.term_kind.Test.{Test}
-use Rattle.aml_meaning.specs.declared.term_kind.TwoOperands.{TwoOperands}
 use Rattle.aml_laws.proofs.CleanObjects.{make_string_clean, new_buffer_field_clean}
 use Rattle.aml_laws.proofs.CleanValues.{resolved_clean}
 use Rattle.aml_laws.proofs.CleanWorlds.{buffer_of_clean, bytes_of_clean, inner_of_clean, list_of_clean, name_of_clean, number_of_clean, reference_in_clean, sized_clean}
@@ -54,7 +54,7 @@ use Rattle.aml_laws.proofs.FaultsOfChanges.{RunExplains, charge_explains, give_e
 use Rattle.aml_laws.proofs.Costs.{Costs}
 use Rattle.aml_laws.proofs.FaultsOfLoops.{loop_explains}
 use Rattle.aml_laws.proofs.FaultsOfFields.{elements_laid_explains, field_found_explains, region_found_explains}
-use Rattle.aml_laws.proofs.FaultsOfOperations.{counted_by_explains, divided_in_explains, integer_in_explains, integer_kept_explains, invocation_found_explains, new_buffer_explains, new_method_explains, new_name_explains, new_package_explains, osi_answered_explains, path_found_explains, result_of_one_explains, result_of_test_explains, result_of_two_explains, scope_found_explains, size_in_explains, target_named_explains, turned_explains, within_explains, call_allowed_explains}
+use Rattle.aml_laws.proofs.FaultsOfOperations.{counted_by_explains, divided_in_explains, integer_in_explains, integer_kept_explains, invocation_found_explains, new_buffer_explains, new_method_explains, new_name_explains, new_package_explains, osi_answered_explains, path_found_explains, result_of_one_explains, result_of_test_explains, result_of_two_explains, scope_found_explains, size_in_explains, target_named_explains, lnot_explains, within_explains, call_allowed_explains}
 use Rattle.aml_laws.proofs.FaultsOfStoreTargets.{acquired_at_explains, copied_to_explains, dereferenced_explains, given_back_at_explains, if_initialized_explains, reference_if_found_explains, reference_of_explains, slot_read_explains, target_read_explains, target_referent_explains, tested_explains, value_referent_explains}
 use Rattle.aml_laws.proofs.FaultsOfWideTerms.{connections_asked_explains, in_wide_explains}
 
@@ -240,9 +240,9 @@ module _ {S : Type 0} (accesses : Accesses S) (ev : Task → Run S Flow) (parts 
   unfolding test_rule
   test_rule_explains k scope depth t = then_explains _ _ (two_values_explains accesses ev parts scope depth t) (λ x. then_explains _ _ (lift_explains _ (result_of_test_explains k x.0 x.1)) (λ r. give_explains _))
 
-  not_rule_explains : (scope : List Seg) (depth : ℕ) (t : Tree) → RunExplains accesses (not_rule accesses ev scope depth t)
-  unfolding not_rule
-  not_rule_explains scope depth t = then_explains _ _ (value_at_explains accesses ev parts scope depth t 0) (λ v. then_explains _ _ (lift_explains _ (turned_explains v)) (λ r. give_explains _))
+  lnot_rule_explains : (scope : List Seg) (depth : ℕ) (t : Tree) → RunExplains accesses (lnot_rule accesses ev scope depth t)
+  unfolding lnot_rule
+  lnot_rule_explains scope depth t = then_explains _ _ (value_at_explains accesses ev parts scope depth t 0) (λ v. then_explains _ _ (lift_explains _ (lnot_explains v)) (λ r. give_explains _))
 
   count_rule_explains : (k : Count) (scope : List Seg) (depth : ℕ) (t : Tree) → RunExplains accesses (count_rule accesses ev k scope depth t)
   unfolding count_rule
@@ -327,7 +327,7 @@ module _ {S : Type 0} (accesses : Accesses S) (ev : Task → Run S Flow) (parts 
   operator_rule_explains operators.Divide scope depth t = divide_rule_explains scope depth t
   operator_rule_explains (operators.One k) scope depth t = one_rule_explains k scope depth t
   operator_rule_explains (operators.Test k) scope depth t = test_rule_explains k scope depth t
-  operator_rule_explains operators.LogicalNot scope depth t = not_rule_explains scope depth t
+  operator_rule_explains operators.LNot scope depth t = lnot_rule_explains scope depth t
   operator_rule_explains (operators.Count k) scope depth t = count_rule_explains k scope depth t
   operator_rule_explains operators.SizeOf scope depth t = size_rule_explains scope depth t
   operator_rule_explains operators.ObjectType scope depth t = type_rule_explains scope depth t

@@ -19,19 +19,19 @@ use Rattle.aml_objects.specs.declared.value.Value.TheVariants as value
 use Rattle.aml_objects.specs.declared.value.Value.{Value}
 use Rattle.aml_namespace.specs.Namespace.{numbered}
 use Rattle.aml_namespace.specs.Search.{found}
-use Rattle.aml_meaning.specs.Mutexes.{acquired, acquired_at, acquired_by, acquired_by_number, given_back, given_back_at, given_back_by, given_back_by_number, mutex_count}
-use Rattle.aml_meaning.specs.Readings.{read_as}
-use Rattle.aml_meaning.specs.Slots.{frame_index}
-use Rattle.aml_meaning.specs.State.{State}
-use Rattle.aml_meaning.specs.StoreTargets.{byte_followed, byte_once, byte_tested, declaration, declared_followed, declared_number, declared_once, declared_referent, dereferenced, element_followed, element_initialized, element_named, element_once, followed, frame_found, frame_number, frame_tested, held_at, held_followed, held_in_slot, held_once, if_initialized, last_index, latest_frame, most_references, name_followed, name_once, name_read, name_reference, name_referent, name_tested, own_slot, reference_followed, reference_if_found, reference_of, referent_followed, slot_followed, slot_held, slot_initialized, slot_once, slot_read, slot_reference, slot_referent, target_read, target_referent, tested, value_followed, value_once}
-use Rattle.aml_meaning.specs.Stores.{byte_in, bytes_in, copied_to, copy_in_name, copy_into_declared, copy_into_element, copy_into_name, copy_into_slot, copy_over, slot_put, store_at_reference, store_byte, store_bytes, store_in_declared, store_in_frame, store_in_frame_numbered, store_in_name, store_in_slot, store_integer, store_over, store_over_slot, store_over_value, store_package, store_text, store_to, stored, stored_through, text_in}
-use Rattle.aml_meaning.specs.declared.object_type.Referent.TheVariants as referent
-use Rattle.aml_meaning.specs.declared.object_type.Referent.{Referent}
-use Rattle.aml_meaning.specs.declared.store_target.Holding.TheVariants as holding
-use Rattle.aml_meaning.specs.declared.store_target.Holding.{Holding}
-use Rattle.aml_meaning.specs.declared.store_target.StoreTarget.TheVariants as targets
-use Rattle.aml_meaning.specs.declared.store_target.StoreTarget.{StoreTarget}
-use Rattle.aml_meaning.specs.declared.store_target.Stored.{Stored}
+use Rattle.aml_world.specs.state.Mutexes.{acquired, acquired_at, acquired_by, acquired_by_number, given_back, given_back_at, given_back_by, given_back_by_number, mutex_count}
+use Rattle.aml_world.specs.state.Readings.{read_as}
+use Rattle.aml_world.specs.state.Slots.{frame_index}
+use Rattle.aml_world.specs.state.State.{State}
+use Rattle.aml_world.specs.values.StoreTargets.{byte_followed, byte_once, byte_tested, declaration, declared_followed, declared_number, declared_once, declared_referent, dereferenced, element_followed, element_initialized, element_named, element_once, followed, frame_found, frame_number, frame_tested, held_at, held_followed, held_in_slot, held_once, if_initialized, last_index, latest_frame, most_references, name_followed, name_once, name_read, name_reference, name_referent, name_tested, own_slot, reference_followed, reference_if_found, reference_of, referent_followed, slot_followed, slot_held, slot_initialized, slot_once, slot_read, slot_reference, slot_referent, target_read, target_referent, tested, value_followed, value_once}
+use Rattle.aml_world.specs.values.Stores.{byte_in, bytes_in, copied_to, copy_in_name, copy_into_declared, copy_into_element, copy_into_name, copy_into_slot, copy_over, slot_put, store_at_reference, store_byte, store_bytes, store_in_declared, store_in_frame, store_in_frame_numbered, store_in_name, store_in_slot, store_integer, store_over, store_over_slot, store_over_value, store_package, store_text, store_to, stored, stored_through, text_in}
+use Rattle.aml_world.specs.declared.values.object_type.Referent.TheVariants as referent
+use Rattle.aml_world.specs.declared.values.object_type.Referent.{Referent}
+use Rattle.aml_world.specs.declared.values.store_target.Holding.TheVariants as holding
+use Rattle.aml_world.specs.declared.values.store_target.Holding.{Holding}
+use Rattle.aml_world.specs.declared.values.store_target.StoreTarget.TheVariants as targets
+use Rattle.aml_world.specs.declared.values.store_target.StoreTarget.{StoreTarget}
+use Rattle.aml_world.specs.declared.values.store_target.Stored.{Stored}
 use Rattle.aml_laws.proofs.CleanNames.{found_clean, replaced_clean}
 use Rattle.aml_laws.proofs.CleanObjects.{byte_at_clean, copied_clean, element_at_clean, element_there_clean, write_buffer_clean, write_byte_clean, write_element_clean, write_string_clean}
 use Rattle.aml_laws.proofs.CleanOutcomes.{seen_clean}

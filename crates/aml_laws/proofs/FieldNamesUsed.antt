@@ -24,21 +24,21 @@ use Rattle.aml_objects.specs.declared.value.Value.TheVariants as value
 use Rattle.aml_convert.specs.Conversions.{to_buffer_of}
 use Rattle.aml_convert.specs.Integers.{bits_of, bytes_of}
 use Rattle.aml_namespace.specs.Search.{found}
+use Rattle.aml_world.specs.declared.values.store_target.Holding.TheVariants as holding
+use Rattle.aml_world.specs.declared.values.store_target.StoreTarget.TheVariants as targets
+use Rattle.aml_world.specs.declared.values.store_target.Stored.TheVariants as store
+use Rattle.aml_world.specs.state.State.{State, on_objects}
+use Rattle.aml_world.specs.state.Run.{lift}
+use Rattle.aml_world.specs.state.Readings.{entry_found, arguments_found}
+use Rattle.aml_world.specs.fields.Regions.{integer_of_bits, integer_value, value_of_bits}
+use Rattle.aml_world.specs.state.Invocations.{named_use, invocation_found}
+use Rattle.aml_world.specs.values.StoreTargets.{held_at, holding_of}
+use Rattle.aml_world.specs.values.Stores.{bytes_in, store_in_name, copy_in_name, stored, copied_to}
+use Rattle.aml_world.specs.fields.Fields.{field_value, field_stored}
 use Rattle.aml_meaning.specs.declared.flow.Flow.{Flow}
 use Rattle.aml_meaning.specs.declared.flow.Flow.TheVariants as flow
-use Rattle.aml_meaning.specs.declared.store_target.Holding.TheVariants as holding
-use Rattle.aml_meaning.specs.declared.store_target.StoreTarget.TheVariants as targets
-use Rattle.aml_meaning.specs.declared.store_target.Stored.TheVariants as store
-use Rattle.aml_meaning.specs.State.{State, on_objects}
-use Rattle.aml_meaning.specs.Run.{lift}
 use Rattle.aml_meaning.specs.Tasks.{task, operand_value, value_at}
-use Rattle.aml_meaning.specs.Readings.{entry_found, arguments_found}
-use Rattle.aml_meaning.specs.Regions.{integer_of_bits, integer_value, value_of_bits}
-use Rattle.aml_meaning.specs.Invocations.{named_use, invocation_found}
 use Rattle.aml_meaning.specs.InvocationTerms.{field_rule, name_value}
-use Rattle.aml_meaning.specs.StoreTargets.{held_at, holding_of}
-use Rattle.aml_meaning.specs.Stores.{bytes_in, store_in_name, copy_in_name, stored, copied_to}
-use Rattle.aml_meaning.specs.Fields.{field_value, field_stored}
 use Rattle.aml_meaning.specs.FieldCalls.{field_written, stored_to}
 use Rattle.aml_meaning.specs.TargetTerms.{target_at, targeted}
 use Rattle.aml_meaning.specs.OperatorTerms.{store_rule, copy_rule}

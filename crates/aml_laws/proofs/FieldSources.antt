@@ -14,10 +14,10 @@ use Rattle.aml_objects.specs.declared.entry.FieldUnit.{FieldUnit}
 use Rattle.aml_fields.specs.declared.region.Region.{Region}
 use Rattle.aml_fields.specs.BufferFields.{read_buffer_field, write_buffer_field}
 use Rattle.aml_fields.specs.Regions.{read_field, write_field}
-use Rattle.aml_meaning.specs.Regions.{field_declared}
-use Rattle.aml_meaning.specs.State.{State, on_objects, on_space}
-use Rattle.aml_meaning.specs.Run.{Run, lift}
-use Rattle.aml_meaning.specs.Fields.{bits_in, written_in, located, field_unit_bits, field_unit_written, region_bits, region_written, index_bits, index_written, bank_bits, bank_written}
+use Rattle.aml_world.specs.fields.Regions.{field_declared}
+use Rattle.aml_world.specs.state.State.{State, on_objects, on_space}
+use Rattle.aml_world.specs.state.Run.{Run, lift}
+use Rattle.aml_world.specs.fields.Fields.{bits_in, written_in, located, field_unit_bits, field_unit_written, region_bits, region_written, index_bits, index_written, bank_bits, bank_written}
 use Rattle.aml_laws.specs.PlainRegions.{IsPlainRegion}
 use Rattle.aml_laws.proofs.IndexedFields.{located_is}
 

@@ -30,30 +30,30 @@ use Rattle.aml_objects.specs.declared.entry.NamedObject.TheVariants as object
 use Rattle.aml_namespace.specs.Namespace.{Map, numbered}
 use Rattle.aml_namespace.specs.Search.{Found, found}
 use Rattle.aml_namespace.proofs.Numbering.{numbered_stands}
-use Rattle.aml_meaning.specs.declared.invocation.Invocation.{Invocation}
-use Rattle.aml_meaning.specs.declared.name_use.NameUse.{NameUse}
-use Rattle.aml_meaning.specs.declared.name_use.NameUse.TheVariants as uses
-use Rattle.aml_meaning.specs.declared.object_type.Referent.{Referent}
-use Rattle.aml_meaning.specs.declared.object_type.Referent.TheVariants as referent
-use Rattle.aml_meaning.specs.declared.regions.RegionField.{RegionField}
-use Rattle.aml_meaning.specs.declared.store_target.Held.{Held}
-use Rattle.aml_meaning.specs.declared.store_target.Held.TheVariants as held
-use Rattle.aml_meaning.specs.declared.store_target.Holding.{Holding}
-use Rattle.aml_meaning.specs.declared.store_target.Holding.TheVariants as holding
-use Rattle.aml_meaning.specs.declared.store_target.Stored.{Stored}
-use Rattle.aml_meaning.specs.declared.store_target.Stored.TheVariants as store
-use Rattle.aml_meaning.specs.declared.store_target.StoreTarget.{StoreTarget}
-use Rattle.aml_meaning.specs.declared.store_target.StoreTarget.TheVariants as targets
-use Rattle.aml_meaning.specs.State.{State}
-use Rattle.aml_meaning.specs.Run.{Run, lift}
-use Rattle.aml_meaning.specs.Readings.{entry_found, read_as}
-use Rattle.aml_meaning.specs.Regions.{region_field, field_of_object, field_declared}
-use Rattle.aml_meaning.specs.Invocations.{invocation_of_body, invocation_of_object, invocation_of}
-use Rattle.aml_meaning.specs.Exporting.{value_or_path, held_or_path, use_of, name_use}
-use Rattle.aml_meaning.specs.MatchTerms.{unless_uninitialized, where_named, name_held, held_by, element_held}
-use Rattle.aml_meaning.specs.StoreTargets.{holding_of, holding_in, held_at, declaration, once, declared_once, value_once, slot_once, named_once, name_once, element_once, held_once, byte_once, dereferenced, held_in, name_read, held_in_slot, target_read, referent_of, byte_followed, value_followed, referent_followed, declared_followed, slot_followed, element_named, name_followed, element_followed, held_followed, reference_followed, followed, most_references, slot_referent, referent_in, declared_referent, name_referent, target_referent}
-use Rattle.aml_meaning.specs.Stores.{copy_into_slot, copy_into_name, copy_into_element, copy_over, store_integer, store_text, store_bytes, store_package, store_over_value, store_over, store_byte, copy_into_declared, store_in_declared, store_over_slot, store_in_frame, store_in_frame_numbered, store_at_reference, stored_through, store_to, store_in_slot, store_in_name, stored, copy_in_name, copied_to}
-use Rattle.aml_meaning.specs.FormedStores.{is_integer, is_string, is_buffer, formed_over_value, formed_over, formed_in_name, formed_in_declared, formed_to}
+use Rattle.aml_world.specs.declared.state.invocation.Invocation.{Invocation}
+use Rattle.aml_world.specs.declared.state.name_use.NameUse.{NameUse}
+use Rattle.aml_world.specs.declared.state.name_use.NameUse.TheVariants as uses
+use Rattle.aml_world.specs.declared.values.object_type.Referent.{Referent}
+use Rattle.aml_world.specs.declared.values.object_type.Referent.TheVariants as referent
+use Rattle.aml_world.specs.declared.fields.regions.RegionField.{RegionField}
+use Rattle.aml_world.specs.declared.values.store_target.Held.{Held}
+use Rattle.aml_world.specs.declared.values.store_target.Held.TheVariants as held
+use Rattle.aml_world.specs.declared.values.store_target.Holding.{Holding}
+use Rattle.aml_world.specs.declared.values.store_target.Holding.TheVariants as holding
+use Rattle.aml_world.specs.declared.values.store_target.Stored.{Stored}
+use Rattle.aml_world.specs.declared.values.store_target.Stored.TheVariants as store
+use Rattle.aml_world.specs.declared.values.store_target.StoreTarget.{StoreTarget}
+use Rattle.aml_world.specs.declared.values.store_target.StoreTarget.TheVariants as targets
+use Rattle.aml_world.specs.state.State.{State}
+use Rattle.aml_world.specs.state.Run.{Run, lift}
+use Rattle.aml_world.specs.state.Readings.{entry_found, read_as}
+use Rattle.aml_world.specs.fields.Regions.{region_field, field_of_object, field_declared}
+use Rattle.aml_world.specs.state.Invocations.{invocation_of_body, invocation_of_object, invocation_of}
+use Rattle.aml_world.specs.state.NameUses.{value_or_path, held_or_path, use_of, name_use}
+use Rattle.aml_world.specs.values.Searches.{unless_uninitialized, where_named, name_held, held_by, element_held}
+use Rattle.aml_world.specs.values.StoreTargets.{holding_of, holding_in, held_at, declaration, once, declared_once, value_once, slot_once, named_once, name_once, element_once, held_once, byte_once, dereferenced, held_in, name_read, held_in_slot, target_read, referent_of, byte_followed, value_followed, referent_followed, declared_followed, slot_followed, element_named, name_followed, element_followed, held_followed, reference_followed, followed, most_references, slot_referent, referent_in, declared_referent, name_referent, target_referent}
+use Rattle.aml_world.specs.values.Stores.{copy_into_slot, copy_into_name, copy_into_element, copy_over, store_integer, store_text, store_bytes, store_package, store_over_value, store_over, store_byte, copy_into_declared, store_in_declared, store_over_slot, store_in_frame, store_in_frame_numbered, store_at_reference, stored_through, store_to, store_in_slot, store_in_name, stored, copy_in_name, copied_to}
+use Rattle.aml_world.specs.values.FormedStores.{is_integer, is_string, is_buffer, formed_over_value, formed_over, formed_in_name, formed_in_declared, formed_to}
 use Rattle.aml_laws.specs.Histories.{numbered_entry, FieldUnitStands, LiesInRegion, by_field}
 use Rattle.aml_laws.proofs.FoundNamesStand.{FoundStands, found_stands}
 use Rattle.aml_laws.proofs.LocatedRegions.{Gives, then_gives, declaration_found}

@@ -17,14 +17,14 @@ use Rattle.aml_fields.specs.declared.region.Region.{Region}
 use Rattle.aml_fields.specs.declared.field_units.Unit.{Unit as Access}
 use Rattle.aml_fields.specs.Units.{units_of}
 use Rattle.aml_fields.specs.UnitByUnit.{read_units, bits_read, write_units, kept_by, kept}
-use Rattle.aml_meaning.specs.declared.regions.RegionSpace.{RegionSpace}
-use Rattle.aml_meaning.specs.declared.regions.RegionSpace.TheVariants as kinds
-use Rattle.aml_meaning.specs.declared.regions.RegionField.{RegionField}
-use Rattle.aml_meaning.specs.State.{State}
-use Rattle.aml_meaning.specs.PciFunctions.{pci_function}
-use Rattle.aml_meaning.specs.Bridges.{bridges_above}
-use Rattle.aml_meaning.specs.Run.{Run}
-use Rattle.aml_meaning.specs.Fields.{part_in, inherited, bus_behind, bus_behind_all, pci_address, space_at, located, region_bits, region_written, index_unit, index_unit_written, index_bits, index_written, bank_selected, bank_unit, bank_unit_written, bank_bits, bank_written, field_unit_bits, field_unit_written, bits_in, written_in, field_value, field_integer, field_part, field_referent, field_stored}
+use Rattle.aml_world.specs.declared.fields.regions.RegionSpace.{RegionSpace}
+use Rattle.aml_world.specs.declared.fields.regions.RegionSpace.TheVariants as kinds
+use Rattle.aml_world.specs.declared.fields.regions.RegionField.{RegionField}
+use Rattle.aml_world.specs.state.State.{State}
+use Rattle.aml_world.specs.fields.PciFunctions.{pci_function}
+use Rattle.aml_world.specs.fields.Bridges.{bridges_above}
+use Rattle.aml_world.specs.state.Run.{Run}
+use Rattle.aml_world.specs.fields.Fields.{part_in, inherited, bus_behind, bus_behind_all, pci_address, space_at, located, region_bits, region_written, index_unit, index_unit_written, index_bits, index_written, bank_selected, bank_unit, bank_unit_written, bank_bits, bank_written, field_unit_bits, field_unit_written, bits_in, written_in, field_value, field_integer, field_part, field_referent, field_stored}
 use Rattle.aml_laws.proofs.ObjectKinds.{read_buffer_field_keeps_kinds, write_buffer_field_keeps_kinds}
 use Rattle.aml_laws.proofs.ChangesNothing.{pci_function_changes_nothing}
 use Rattle.aml_laws.proofs.FieldsPreserve.{nearest_preserves, region_declared_preserves, field_declared_preserves, value_of_bits_preserves, integer_of_bits_preserves, integer_alone_preserves, referent_of_bits_preserves}

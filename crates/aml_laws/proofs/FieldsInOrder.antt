@@ -25,14 +25,15 @@ use Rattle.aml_objects.specs.declared.entry.NamedObject.TheVariants as object
 use Rattle.aml_namespace.specs.Namespace.{Map, Namespace, above, declared}
 use Rattle.aml_namespace.proofs.Paths.{path_total}
 use Rattle.aml_fields.proofs.UnitWrites.{steps}
-use Rattle.aml_meaning.specs.declared.field_layout.FieldLayout.{FieldLayout}
-use Rattle.aml_meaning.specs.declared.field_layout.FieldGroup.{FieldGroup}
-use Rattle.aml_meaning.specs.State.{State, on_names}
+use Rattle.aml_world.specs.declared.fields.field_layout.FieldLayout.{FieldLayout}
+use Rattle.aml_world.specs.declared.fields.field_layout.FieldGroup.{FieldGroup}
+use Rattle.aml_world.specs.state.State.{State, on_names}
+use Rattle.aml_world.specs.state.Readings.{entry_found}
+use Rattle.aml_world.specs.state.Declaring.{not_in_method, new_name}
+use Rattle.aml_world.specs.fields.FieldLayouts.{access_width, sized, further, new_field, connection_buffer, connection_found}
 use Rattle.aml_meaning.specs.Tasks.{module_level}
 use Rattle.aml_meaning.specs.Terms.{number_of, is_named}
-use Rattle.aml_meaning.specs.Readings.{entry_found}
-use Rattle.aml_meaning.specs.Declaring.{not_in_method, new_name}
-use Rattle.aml_meaning.specs.FieldTerms.{access_width, sized, further, new_field, connection_buffer, connection_found, named_field, reserved_field, access_field, named_connection, connection_if, element_laid, elements_laid}
+use Rattle.aml_meaning.specs.FieldTerms.{named_field, reserved_field, access_field, named_connection, connection_if, element_laid, elements_laid}
 use Rattle.aml_laws.specs.FieldLists.{InOrder, IsFieldAt, AllStand, path_in, AreNamed, none, named, other}
 use Rattle.aml_laws.proofs.NumbersKept.{same_path}
 

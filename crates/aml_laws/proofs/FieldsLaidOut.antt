@@ -14,12 +14,13 @@ use Rattle.aml_grammar.specs.Apart.{code_of, operand_of, name_of}
 use Rattle.aml_objects.specs.declared.entry.FieldUnit.{FieldUnit}
 use Rattle.aml_objects.specs.declared.entry.NamedObject.TheVariants as object
 use Rattle.aml_fields.proofs.UnitWrites.{steps}
-use Rattle.aml_meaning.specs.declared.field_layout.FieldLayout.{FieldLayout}
-use Rattle.aml_meaning.specs.declared.field_layout.FieldGroup.{FieldGroup}
-use Rattle.aml_meaning.specs.State.{State}
+use Rattle.aml_world.specs.declared.fields.field_layout.FieldLayout.{FieldLayout}
+use Rattle.aml_world.specs.declared.fields.field_layout.FieldGroup.{FieldGroup}
+use Rattle.aml_world.specs.state.State.{State}
+use Rattle.aml_world.specs.fields.FieldLayouts.{access_width, sized, further, new_field}
 use Rattle.aml_meaning.specs.Tasks.{module_level}
 use Rattle.aml_meaning.specs.Terms.{number_of, is_named}
-use Rattle.aml_meaning.specs.FieldTerms.{access_width, sized, further, new_field, named_field, reserved_field, access_field, named_connection, connection_if, element_laid, elements_laid}
+use Rattle.aml_meaning.specs.FieldTerms.{named_field, reserved_field, access_field, named_connection, connection_if, element_laid, elements_laid}
 use Rattle.aml_laws.specs.FieldLists.{IsFieldAt, AllStand, path_in, unit_at, moved_on, AreLaidOut, no_fields, next_named, next_reserved, next_access, next_connection}
 use Rattle.aml_laws.proofs.FieldsInOrder.{settled, given, never_stopped, sized_is, entry_put, entry_kept, Put, Kept, new_name_puts, unchanged, buffer_found, still_there}
 

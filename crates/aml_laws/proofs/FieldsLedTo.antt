@@ -21,23 +21,23 @@ use Rattle.aml_objects.specs.declared.value.Slot.{Slot}
 use Rattle.aml_objects.specs.declared.value.Value.{Value}
 use Rattle.aml_objects.specs.declared.value.Value.TheVariants as value
 use Rattle.aml_convert.specs.Integers.{bits_of, bytes_of}
+use Rattle.aml_world.specs.declared.values.object_type.ObjectType.{ObjectType}
+use Rattle.aml_world.specs.declared.values.object_type.ObjectType.TheVariants as types
+use Rattle.aml_world.specs.declared.values.object_type.Referent.{Referent}
+use Rattle.aml_world.specs.declared.values.object_type.Referent.TheVariants as referent
+use Rattle.aml_world.specs.declared.values.store_target.StoreTarget.{StoreTarget}
+use Rattle.aml_world.specs.declared.values.store_target.StoreTarget.TheVariants as targets
+use Rattle.aml_world.specs.fields.Fields.{field_referent}
+use Rattle.aml_world.specs.values.Operations.{size_in, type_of_referent, type_number}
+use Rattle.aml_world.specs.fields.Regions.{referent_of_bits}
+use Rattle.aml_world.specs.state.Run.{lift}
+use Rattle.aml_world.specs.state.State.{State}
+use Rattle.aml_world.specs.values.StoreTargets.{latest_frame, slot_held, own_slot, referent_of, slot_referent, declared_referent, name_referent, target_referent}
 use Rattle.aml_meaning.specs.declared.flow.Flow.TheVariants as flow
-use Rattle.aml_meaning.specs.declared.object_type.ObjectType.{ObjectType}
-use Rattle.aml_meaning.specs.declared.object_type.ObjectType.TheVariants as types
-use Rattle.aml_meaning.specs.declared.object_type.Referent.{Referent}
-use Rattle.aml_meaning.specs.declared.object_type.Referent.TheVariants as referent
-use Rattle.aml_meaning.specs.declared.store_target.StoreTarget.{StoreTarget}
-use Rattle.aml_meaning.specs.declared.store_target.StoreTarget.TheVariants as targets
 use Rattle.aml_meaning.specs.Evaluation.{rule}
 use Rattle.aml_meaning.specs.FieldCalls.{referent_read}
-use Rattle.aml_meaning.specs.Fields.{field_referent}
 use Rattle.aml_meaning.specs.Meaning.{meaning}
-use Rattle.aml_meaning.specs.Operations.{size_in, type_of_referent, type_number}
 use Rattle.aml_meaning.specs.OperatorTerms.{referent_of_value, referent_at, size_rule, type_rule}
-use Rattle.aml_meaning.specs.Regions.{referent_of_bits}
-use Rattle.aml_meaning.specs.Run.{lift}
-use Rattle.aml_meaning.specs.State.{State}
-use Rattle.aml_meaning.specs.StoreTargets.{latest_frame, slot_held, own_slot, referent_of, slot_referent, declared_referent, name_referent, target_referent}
 use Rattle.aml_meaning.specs.Tasks.{task, operand_value}
 use Rattle.aml_laws.specs.FieldNames.{IsField, bits_read_at}
 use Rattle.aml_laws.specs.FieldsLedTo.{AsksOf, of_term, of_holder, of_name, of_empty_slot, of_debug, HasNoSize, a_type, an_integer, no_value}

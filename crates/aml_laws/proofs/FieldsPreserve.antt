@@ -26,23 +26,24 @@ use Rattle.aml_fields.specs.declared.region.AddressSpace.{AddressSpace}
 use Rattle.aml_fields.specs.declared.region.Region.{Region}
 use Rattle.aml_fields.specs.Regions.{read_field, write_field}
 use Rattle.aml_fields.specs.Units.{units_of}
-use Rattle.aml_meaning.specs.declared.field_layout.FieldLayout.{FieldLayout}
-use Rattle.aml_meaning.specs.declared.field_layout.FieldGroup.{FieldGroup}
-use Rattle.aml_meaning.specs.declared.pci_functions.Sought.{Sought}
-use Rattle.aml_meaning.specs.declared.object_type.Referent.{Referent}
-use Rattle.aml_meaning.specs.declared.profile.Profile.TheVariants as profiles
-use Rattle.aml_meaning.specs.declared.regions.RegionSpace.{RegionSpace}
-use Rattle.aml_meaning.specs.declared.regions.RegionSpace.TheVariants as kinds
-use Rattle.aml_meaning.specs.declared.regions.RegionField.{RegionField}
-use Rattle.aml_meaning.specs.State.{State, on_space}
-use Rattle.aml_meaning.specs.Run.{Run, lift}
-use Rattle.aml_meaning.specs.Given.{Given}
-use Rattle.aml_meaning.specs.PciFunctions.{adr, segment_group, base_bus, nearest, pci_function}
-use Rattle.aml_meaning.specs.Bridges.{bridges_to, bridges_above}
-use Rattle.aml_meaning.specs.Regions.{pci_space, region_declared, field_declared, integer_of_bits, integer_value, value_of_bits, integer_alone, referent_of_bits, given_of_bits}
-use Rattle.aml_meaning.specs.Fields.{part_in, inherited, bus_behind, bus_behind_all, pci_address, space_at, located, region_bits, region_written, index_unit, index_unit_written, index_bits, index_written, field_unit_bits, field_unit_written, bits_in, written_in, field_value, field_integer, field_part, field_referent, field_stored, field_given, bank_selected, bank_unit, bank_unit_written, bank_bits, bank_written}
+use Rattle.aml_world.specs.declared.fields.field_layout.FieldLayout.{FieldLayout}
+use Rattle.aml_world.specs.declared.fields.field_layout.FieldGroup.{FieldGroup}
+use Rattle.aml_world.specs.declared.fields.pci_functions.Sought.{Sought}
+use Rattle.aml_world.specs.declared.values.object_type.Referent.{Referent}
+use Rattle.aml_world.specs.declared.state.profile.Profile.TheVariants as profiles
+use Rattle.aml_world.specs.declared.fields.regions.RegionSpace.{RegionSpace}
+use Rattle.aml_world.specs.declared.fields.regions.RegionSpace.TheVariants as kinds
+use Rattle.aml_world.specs.declared.fields.regions.RegionField.{RegionField}
+use Rattle.aml_world.specs.state.State.{State, on_space}
+use Rattle.aml_world.specs.state.Run.{Run, lift}
+use Rattle.aml_world.specs.state.Given.{Given}
+use Rattle.aml_world.specs.fields.PciFunctions.{adr, segment_group, base_bus, nearest, pci_function}
+use Rattle.aml_world.specs.fields.Bridges.{bridges_to, bridges_above}
+use Rattle.aml_world.specs.fields.Regions.{pci_space, region_declared, field_declared, integer_of_bits, integer_value, value_of_bits, integer_alone, referent_of_bits, given_of_bits}
+use Rattle.aml_world.specs.fields.Fields.{part_in, inherited, bus_behind, bus_behind_all, pci_address, space_at, located, region_bits, region_written, index_unit, index_unit_written, index_bits, index_written, field_unit_bits, field_unit_written, bits_in, written_in, field_value, field_integer, field_part, field_referent, field_stored, field_given, bank_selected, bank_unit, bank_unit_written, bank_bits, bank_written}
+use Rattle.aml_world.specs.fields.FieldLayouts.{connection_found, new_field, region_found, field_found}
 use Rattle.aml_meaning.specs.Terms.{is_named}
-use Rattle.aml_meaning.specs.FieldTerms.{connection_found, named_connection, connection_if, new_field, named_field, reserved_field, access_field, element_laid, elements_laid, region_found, field_found}
+use Rattle.aml_meaning.specs.FieldTerms.{named_connection, connection_if, named_field, reserved_field, access_field, element_laid, elements_laid}
 use Rattle.aml_laws.specs.Histories.{LiesInRegion, by_field, by_bank_field}
 use Rattle.aml_laws.proofs.Preorders.{either_branch, first_of, bits_read_respects, units_read_respects, write_units_respects, each_written_respects, kept_respects, Preorder, Respects, then_respects}
 use Rattle.aml_laws.proofs.ObjectKinds.{make_buffer_keeps_kinds, read_buffer_field_keeps_kinds, write_buffer_field_keeps_kinds}

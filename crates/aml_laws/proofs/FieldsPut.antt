@@ -22,17 +22,19 @@ use Rattle.aml_objects.specs.declared.entry.OperationRegion.{OperationRegion}
 use Rattle.aml_objects.specs.declared.value.Value.{Value}
 use Rattle.aml_objects.specs.declared.value.Value.TheVariants as value
 use Rattle.aml_namespace.specs.Search.{found}
-use Rattle.aml_meaning.specs.declared.field_layout.FieldLayout.{FieldLayout}
-use Rattle.aml_meaning.specs.declared.field_layout.FieldGroup.{FieldGroup}
+use Rattle.aml_world.specs.declared.fields.field_layout.FieldLayout.{FieldLayout}
+use Rattle.aml_world.specs.declared.fields.field_layout.FieldGroup.{FieldGroup}
+use Rattle.aml_world.specs.declared.state.profile.Profile.TheVariants.{Wide}
+use Rattle.aml_world.specs.fields.FieldLayouts.{access_width, update_rule, sized, further, new_field, connection_buffer, connection_found}
+use Rattle.aml_world.specs.fields.BufferFields.{buffer_of}
+use Rattle.aml_world.specs.state.Readings.{integer_in, entry_found}
+use Rattle.aml_world.specs.state.Run.{lift}
+use Rattle.aml_world.specs.state.State.{State}
 use Rattle.aml_meaning.specs.declared.flow.Flow.{Flow}
 use Rattle.aml_meaning.specs.declared.flow.Flow.TheVariants as flow
-use Rattle.aml_meaning.specs.declared.profile.Profile.TheVariants.{Wide}
 use Rattle.aml_meaning.specs.Evaluation.{rule}
-use Rattle.aml_meaning.specs.FieldTerms.{access_width, update_rule, sized, further, new_field, buffer_of, connection_buffer, connection_found, named_field, reserved_field, access_field, named_connection, connection_if, connected_field, element_laid, elements_laid, fields_laid}
+use Rattle.aml_meaning.specs.FieldTerms.{named_field, reserved_field, access_field, named_connection, connection_if, connected_field, element_laid, elements_laid, fields_laid}
 use Rattle.aml_meaning.specs.Meaning.{meaning}
-use Rattle.aml_meaning.specs.Readings.{integer_in, entry_found}
-use Rattle.aml_meaning.specs.Run.{lift}
-use Rattle.aml_meaning.specs.State.{State}
 use Rattle.aml_meaning.specs.Tasks.{task, module_level}
 use Rattle.aml_meaning.specs.Terms.{number_of}
 use Rattle.aml_laws.specs.BankDeclarations.{bank_field, Finds, FindsField}

@@ -22,22 +22,23 @@ use Rattle.aml_convert.specs.Conversions.{to_buffer_of}
 use Rattle.aml_convert.specs.Integers.{bits_of, bytes_of, truncated}
 use Rattle.aml_objects.specs.Contents.{content_in}
 use Rattle.aml_namespace.specs.Numbering.{Numbered}
+use Rattle.aml_world.specs.declared.values.store_target.Held.TheVariants as held
+use Rattle.aml_world.specs.declared.values.store_target.StoreTarget.TheVariants as targets
+use Rattle.aml_world.specs.declared.values.operation_kind.Count.{Count}
+use Rattle.aml_world.specs.declared.values.operation_kind.Count.TheVariants as count
+use Rattle.aml_world.specs.state.State.{State}
+use Rattle.aml_world.specs.state.Run.{lift}
+use Rattle.aml_world.specs.fields.Regions.{value_of_bits, integer_of_bits}
+use Rattle.aml_world.specs.fields.Fields.{field_value, field_integer}
+use Rattle.aml_world.specs.values.StoreTargets.{once, declared_once, held_at, name_read, target_read, declared_number, name_reference, reference_of, dereferenced}
+use Rattle.aml_world.specs.values.Operations.{counted_by}
 use Rattle.aml_meaning.specs.declared.flow.Flow.TheVariants as flow
-use Rattle.aml_meaning.specs.declared.store_target.Held.TheVariants as held
-use Rattle.aml_meaning.specs.declared.store_target.StoreTarget.TheVariants as targets
-use Rattle.aml_meaning.specs.declared.term_kind.Count.{Count}
-use Rattle.aml_meaning.specs.declared.term_kind.Count.TheVariants as count
 use Rattle.aml_meaning.specs.declared.term_kind.TermKind.TheVariants as kinds
 use Rattle.aml_meaning.specs.declared.term_kind.OperatorKind.TheVariants as operators
-use Rattle.aml_meaning.specs.State.{State}
-use Rattle.aml_meaning.specs.Run.{lift}
 use Rattle.aml_meaning.specs.Terms.{kind_of}
 use Rattle.aml_meaning.specs.Tasks.{task, operand_value, value_at}
-use Rattle.aml_meaning.specs.Regions.{value_of_bits, integer_of_bits}
-use Rattle.aml_meaning.specs.Fields.{field_value, field_integer}
 use Rattle.aml_meaning.specs.FieldCalls.{field_written}
-use Rattle.aml_meaning.specs.StoreTargets.{once, declared_once, held_at, name_read, target_read, declared_number, name_reference, reference_of, dereferenced}
-use Rattle.aml_meaning.specs.OperatorTerms.{counted_by, count_rule, dereference_rule}
+use Rattle.aml_meaning.specs.OperatorTerms.{count_rule, dereference_rule}
 use Rattle.aml_meaning.specs.Evaluation.{rule}
 use Rattle.aml_meaning.specs.Meaning.{meaning}
 use Rattle.aml_laws.specs.MatchedValues.{Exceeds}
@@ -162,9 +163,9 @@ module _ {S : Type 0} (accesses : Accesses S) (scope : List Seg) (depth : ℕ) (
 pub field_increments : {S : Type 0} → CountsField S opcodes.Increment (λ width a m. m ≡ (a + 1) % 2 ^ bits_of width)
 field_increments accesses scope depth n w steps f bits b bytes between h read =
     let a : ℕ = lowest_first (take (bytes_of between.0.width) (b ∷ bytes)) in
-    (truncated between.0.width (a + 1), refl, λ out after converts writes. field_is_counted accesses scope depth n w steps f bits b bytes between h read count.Up opcodes.Increment refl (truncated between.0.width (a + 1)) (next_is between.0 a) out after converts writes)
+    (truncated between.0.width (a + 1), refl, λ out after converts writes. field_is_counted accesses scope depth n w steps f bits b bytes between h read count.Increment opcodes.Increment refl (truncated between.0.width (a + 1)) (next_is between.0 a) out after converts writes)
 
 pub field_decrements : {S : Type 0} → CountsField S opcodes.Decrement (λ width a m. (m < 2 ^ bits_of width) × ((m + 1) % 2 ^ bits_of width ≡ a % 2 ^ bits_of width))
 field_decrements accesses scope depth n w steps f bits b bytes between h read =
     let a : ℕ = lowest_first (take (bytes_of between.0.width) (b ∷ bytes)) in
-    (less between.0 a, one_less between.0.width a, λ out after converts writes. field_is_counted accesses scope depth n w steps f bits b bytes between h read count.Down opcodes.Decrement refl (less between.0 a) (before_is between.0 a) out after converts writes)
+    (less between.0 a, one_less between.0.width a, λ out after converts writes. field_is_counted accesses scope depth n w steps f bits b bytes between h read count.Decrement opcodes.Decrement refl (less between.0 a) (before_is between.0 a) out after converts writes)

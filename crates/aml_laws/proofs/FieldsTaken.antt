@@ -6,11 +6,11 @@ use Rattle.aml_path.specs.Paths.{Name}
 use Rattle.aml_grammar.specs.Tree.{name}
 use Rattle.aml_objects.specs.declared.entry.Field.{Field}
 use Rattle.aml_objects.specs.declared.value.Value.{Value}
-use Rattle.aml_meaning.specs.declared.store_target.StoreTarget.TheVariants as targets
-use Rattle.aml_meaning.specs.declared.store_target.Stored.TheVariants as store
-use Rattle.aml_meaning.specs.State.{State}
-use Rattle.aml_meaning.specs.Stores.{stored, copied_to}
-use Rattle.aml_meaning.specs.FormedStores.{formed_to}
+use Rattle.aml_world.specs.declared.values.store_target.StoreTarget.TheVariants as targets
+use Rattle.aml_world.specs.declared.values.store_target.Stored.TheVariants as store
+use Rattle.aml_world.specs.state.State.{State}
+use Rattle.aml_world.specs.values.Stores.{stored, copied_to}
+use Rattle.aml_world.specs.values.FormedStores.{formed_to}
 use Rattle.aml_laws.specs.OperatorTerms.{NamesTarget, named}
 use Rattle.aml_laws.specs.FieldNames.{NamesField}
 use Rattle.aml_laws.proofs.FieldNamesUsed.{there, field_is_stored, field_is_copied}

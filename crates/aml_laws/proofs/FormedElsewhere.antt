@@ -26,24 +26,24 @@ use Rattle.aml_convert.specs.Conversions.{to_buffer_of}
 use Rattle.aml_convert.specs.Decimals.{decoded_decimal}
 use Rattle.aml_convert.specs.Strings.{hexadecimal_string_of}
 use Rattle.aml_namespace.specs.Numbering.{Numbered}
+use Rattle.aml_world.specs.declared.state.profile.Profile.TheVariants as profiles
+use Rattle.aml_world.specs.declared.values.store_target.Holding.TheVariants as holding
+use Rattle.aml_world.specs.declared.values.store_target.StoreTarget.TheVariants as targets
+use Rattle.aml_world.specs.declared.values.store_target.Stored.TheVariants as store
+use Rattle.aml_world.specs.declared.values.operation_kind.Conversion.{Conversion}
+use Rattle.aml_world.specs.declared.values.operation_kind.Conversion.TheVariants as conversions
+use Rattle.aml_world.specs.state.State.{State}
+use Rattle.aml_world.specs.state.Run.{lift}
+use Rattle.aml_world.specs.values.StoreTargets.{holding_of, holding_in, held_at, reference_of}
+use Rattle.aml_world.specs.values.Stores.{store_in_name, stored}
+use Rattle.aml_world.specs.values.FormedStores.{formed_over, formed_in_name, formed_in_declared, formed_to}
+use Rattle.aml_world.specs.values.WideOperations.{converted}
 use Rattle.aml_meaning.specs.declared.flow.Flow.TheVariants as flow
-use Rattle.aml_meaning.specs.declared.profile.Profile.TheVariants as profiles
-use Rattle.aml_meaning.specs.declared.store_target.Holding.TheVariants as holding
-use Rattle.aml_meaning.specs.declared.store_target.StoreTarget.TheVariants as targets
-use Rattle.aml_meaning.specs.declared.store_target.Stored.TheVariants as store
-use Rattle.aml_meaning.specs.declared.term_kind.Conversion.{Conversion}
-use Rattle.aml_meaning.specs.declared.term_kind.Conversion.TheVariants as conversions
 use Rattle.aml_meaning.specs.declared.term_kind.TermKind.TheVariants as kinds
 use Rattle.aml_meaning.specs.declared.term_kind.WideKind.TheVariants as wide
-use Rattle.aml_meaning.specs.State.{State}
-use Rattle.aml_meaning.specs.Run.{lift}
 use Rattle.aml_meaning.specs.Terms.{kind_of}
 use Rattle.aml_meaning.specs.Tasks.{task, operand_value, value_at}
-use Rattle.aml_meaning.specs.StoreTargets.{holding_of, holding_in, held_at, reference_of}
-use Rattle.aml_meaning.specs.Stores.{store_in_name, stored}
-use Rattle.aml_meaning.specs.FormedStores.{formed_over, formed_in_name, formed_in_declared, formed_to}
 use Rattle.aml_meaning.specs.FieldCalls.{field_written}
-use Rattle.aml_meaning.specs.WideOperations.{converted}
 use Rattle.aml_meaning.specs.WideTerms.{formed_at, convert_rule}
 use Rattle.aml_meaning.specs.Meaning.{meaning}
 use Rattle.aml_laws.specs.OperatorTerms.{one_to, named, GivesValue, Gives, OneInteger}

@@ -13,8 +13,8 @@ use Rattle.aml_objects.specs.declared.entry.MethodBody.{MethodBody}
 use Rattle.aml_objects.specs.declared.entry.MethodBody.TheVariants.{Osi, Aml}
 use Rattle.aml_namespace.specs.Namespace.{Map}
 use Rattle.aml_namespace.specs.Search.{Found, at_path, or_else, search_up, found_or_not, first_found, no_alias, target_of, by_object, through, found}
-use Rattle.aml_meaning.specs.declared.invocation.Invocation.TheVariants as invocation
-use Rattle.aml_meaning.specs.Invocations.{invocation_of_body, invocation_of_object, invocation_of}
+use Rattle.aml_world.specs.declared.state.invocation.Invocation.TheVariants as invocation
+use Rattle.aml_world.specs.state.Invocations.{invocation_of_body, invocation_of_object, invocation_of}
 use Rattle.aml_laws.specs.Outside.{is_method}
 
 -- ---- what is found stands

@@ -11,16 +11,16 @@ use Rattle.ar_space.specs.declared.refusal.Refusal.TheVariants as refusal
 use Rattle.ar_space.specs.declared.refusal.EvaluationFault.TheVariants.{ObjectLimit}
 use Rattle.aml_path.specs.declared.segment.Seg.{Seg}
 use Rattle.aml_objects.specs.declared.value.Value.{Value}
-use Rattle.aml_meaning.specs.declared.frame.Frame.{Frame}
-use Rattle.aml_meaning.specs.State.{State}
-use Rattle.aml_meaning.specs.Invocations.{invoked}
-use Rattle.aml_meaning.specs.Meaning.{meaning}
-use Rattle.aml_meaning.specs.Tasks.{Task, in_turn}
+use Rattle.aml_world.specs.declared.state.frame.Frame.{Frame}
+use Rattle.aml_world.specs.state.State.{State}
+use Rattle.aml_world.specs.state.Slots.{opened}
+use Rattle.aml_world.specs.declared.state.settings.EvaluationSettings.{EvaluationSettings}
+use Rattle.aml_world.specs.state.Predefined.{fresh_as, predefined}
 use Rattle.aml_grammar.specs.Tree.{Trees}
 use Rattle.aml_laws.specs.Becomes.{Becomes}
-use Rattle.aml_meaning.specs.Slots.{opened}
-use Rattle.aml_meaning.specs.declared.settings.EvaluationSettings.{EvaluationSettings}
-use Rattle.aml_meaning.specs.Predefined.{fresh_as, predefined}
+use Rattle.aml_meaning.specs.Calls.{invoked}
+use Rattle.aml_meaning.specs.Meaning.{meaning}
+use Rattle.aml_meaning.specs.Tasks.{Task, in_turn}
 use Rattle.aml_laws.specs.Numbers.{numbers_of, RiseTo}
 use Rattle.aml_laws.proofs.WorldRelations.{WorldRelation, in_new_frame, plain}
 use Rattle.aml_laws.proofs.NumbersRise.{next_frame_rises}

@@ -6,10 +6,11 @@ use Rattle.ar_space.specs.Outcome.{Outcome}
 use Rattle.aml_path.specs.declared.segment.Seg.{Seg}
 use Rattle.aml_grammar.specs.Tree.{Trees}
 use Rattle.aml_objects.specs.declared.value.Value.{Value}
-use Rattle.aml_meaning.specs.State.{State}
+use Rattle.aml_world.specs.state.State.{State}
+use Rattle.aml_world.specs.state.Slots.{closed}
+use Rattle.aml_world.specs.state.Invocations.{body_terms, left}
 use Rattle.aml_meaning.specs.declared.flow.Flow.{Flow}
-use Rattle.aml_meaning.specs.Slots.{closed}
-use Rattle.aml_meaning.specs.Invocations.{body_terms, left, leaving, invoked}
+use Rattle.aml_meaning.specs.Calls.{leaving, invoked}
 use Rattle.aml_meaning.specs.Meaning.{meaning}
 use Rattle.aml_meaning.specs.Tasks.{in_turn}
 use Rattle.aml_laws.specs.Becomes.{same, list}

@@ -11,10 +11,11 @@ use Rattle.ar_space.specs.Change.{go_on, ◌>>=◌}
 use Rattle.aml_path.specs.declared.segment.Seg.{Seg}
 use Rattle.aml_grammar.specs.Tree.{Trees}
 use Rattle.aml_objects.specs.declared.value.Value.{Value}
-use Rattle.aml_meaning.specs.State.{State}
-use Rattle.aml_meaning.specs.Run.{lift}
-use Rattle.aml_meaning.specs.Slots.{opened}
-use Rattle.aml_meaning.specs.Invocations.{call_allowed, body_terms, frame_arguments, invoked}
+use Rattle.aml_world.specs.state.State.{State}
+use Rattle.aml_world.specs.state.Run.{lift}
+use Rattle.aml_world.specs.state.Slots.{opened}
+use Rattle.aml_world.specs.state.Invocations.{call_allowed, body_terms}
+use Rattle.aml_meaning.specs.Calls.{frame_arguments, invoked}
 use Rattle.aml_meaning.specs.Meaning.{meaning}
 use Rattle.aml_laws.specs.Calls.{body_frame}
 use Rattle.aml_laws.proofs.FramesOpened.{begins, frame_opened}

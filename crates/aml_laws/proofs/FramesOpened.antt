@@ -12,13 +12,14 @@ use Rattle.aml_path.specs.declared.segment.Seg.{Seg}
 use Rattle.aml_grammar.specs.Tree.{Trees}
 use Rattle.aml_objects.specs.declared.value.Value.{Value}
 use Rattle.aml_objects.specs.declared.value.Value.TheVariants as value
+use Rattle.aml_world.specs.declared.state.frame.Frame.{Frame}
+use Rattle.aml_world.specs.state.Invocations.{call_allowed, body_terms, left}
+use Rattle.aml_world.specs.state.Run.{Run, lift}
+use Rattle.aml_world.specs.state.Slots.{opened}
+use Rattle.aml_world.specs.state.State.{State}
 use Rattle.aml_meaning.specs.declared.flow.Flow.{Flow}
 use Rattle.aml_meaning.specs.declared.flow.Flow.TheVariants as flow
-use Rattle.aml_meaning.specs.declared.frame.Frame.{Frame}
-use Rattle.aml_meaning.specs.Invocations.{call_allowed, body_terms, frame_arguments, returned_by, leaving, left, invoked, method_value}
-use Rattle.aml_meaning.specs.Run.{Run, lift}
-use Rattle.aml_meaning.specs.Slots.{opened}
-use Rattle.aml_meaning.specs.State.{State}
+use Rattle.aml_meaning.specs.Calls.{frame_arguments, returned_by, leaving, invoked, method_value}
 use Rattle.aml_meaning.specs.Tasks.{Task, in_turn}
 use Rattle.aml_fields.proofs.UnitWrites.{steps}
 use Rattle.aml_laws.specs.Calls.{body_frame}

@@ -2,7 +2,7 @@
 use Rattle.std.specs.Prelude.{◌≡◌, ◌-◌, ◌++◌, ℕ, zero, suc, List, [], ◌∷◌, length, take, refl}
 use Rattle.std.proofs.Common.{arith, ap, sym, subst, ◌∙◌}
 use Rattle.std.proofs.lemmas.List.{length_push}
-use Rattle.aml_meaning.specs.declared.frame.Frame.{Frame}
+use Rattle.aml_world.specs.declared.state.frame.Frame.{Frame}
 use Rattle.aml_laws.specs.Ends.{IsFrameEnded}
 use Rattle.aml_laws.specs.Numbers.{numbers_of}
 use Rattle.aml_laws.proofs.FrameNumbers.{numbers_length}

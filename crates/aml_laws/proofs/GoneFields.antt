@@ -17,12 +17,12 @@ use Rattle.aml_objects.specs.declared.entry.NamedObject.{NamedObject}
 use Rattle.aml_objects.specs.declared.entry.NamedObject.TheVariants as object
 use Rattle.aml_objects.specs.declared.entry.OperationRegion.{OperationRegion}
 use Rattle.aml_namespace.specs.Namespace.{Map, numbered}
-use Rattle.aml_meaning.specs.declared.regions.RegionField.{RegionField}
-use Rattle.aml_meaning.specs.Regions.{region_of_object, region_declared, region_field, field_of_object, field_declared}
-use Rattle.aml_meaning.specs.StoreTargets.{declaration}
-use Rattle.aml_meaning.specs.State.{State}
-use Rattle.aml_meaning.specs.Run.{Run, lift}
-use Rattle.aml_meaning.specs.Fields.{located, region_bits, region_written, index_bits, index_written, bank_bits, bank_written}
+use Rattle.aml_world.specs.declared.fields.regions.RegionField.{RegionField}
+use Rattle.aml_world.specs.fields.Regions.{region_of_object, region_declared, region_field, field_of_object, field_declared}
+use Rattle.aml_world.specs.values.StoreTargets.{declaration}
+use Rattle.aml_world.specs.state.State.{State}
+use Rattle.aml_world.specs.state.Run.{Run, lift}
+use Rattle.aml_world.specs.fields.Fields.{located, region_bits, region_written, index_bits, index_written, bank_bits, bank_written}
 use Rattle.aml_laws.specs.Histories.{numbered_entry}
 use Rattle.aml_laws.specs.GoneFields.{RegionGone, FieldGone, IsDead}
 use Rattle.aml_laws.proofs.DeclarationNumbers.{with_number_stands}

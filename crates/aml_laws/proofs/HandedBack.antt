@@ -20,12 +20,13 @@ use Rattle.aml_namespace.specs.Namespace.{Map, numbered}
 use Rattle.aml_namespace.specs.Numbering.{Numbered}
 use Rattle.aml_namespace.specs.Search.{found}
 use Rattle.aml_convert.specs.Integers.{bits_of}
-use Rattle.aml_meaning.specs.Given.{Given, Nothing, Integer, Text, Bytes, Package, Named, Reference, Givens, none, more, givens}
-use Rattle.aml_meaning.specs.State.{State, on_objects}
-use Rattle.aml_meaning.specs.Run.{lift}
-use Rattle.aml_meaning.specs.Readings.{absolute, integer_kept, entry_found}
-use Rattle.aml_meaning.specs.Importing.{reference_to, imported_by, each_imported, elements_imported, package_imported, taken_back, imported}
-use Rattle.aml_meaning.specs.Exporting.{standing, path_of, text_exported, bytes_exported, reference_exported, value_exported, held_exported, element_exported, each_exported, elements_exported, package_exported, exported}
+use Rattle.aml_world.specs.state.Given.{Given, Nothing, Integer, Text, Bytes, Package, Named, Reference, Givens, none, more, givens}
+use Rattle.aml_world.specs.state.State.{State, on_objects}
+use Rattle.aml_world.specs.state.Run.{lift}
+use Rattle.aml_world.specs.state.Readings.{absolute, integer_kept, entry_found}
+use Rattle.aml_world.specs.state.Importing.{reference_to, imported_by, each_imported, elements_imported, package_imported, taken_back, imported}
+use Rattle.aml_world.specs.state.NameUses.{standing, path_of}
+use Rattle.aml_meaning.specs.Exporting.{text_exported, bytes_exported, reference_exported, value_exported, held_exported, element_exported, each_exported, elements_exported, package_exported, exported}
 use Rattle.aml_laws.specs.HandedBack as handed
 use Rattle.aml_laws.specs.HandedBack.{StandsItself, ComesBack, AllComeBack, elements_of}
 use Rattle.aml_laws.specs.NamesFound.{itself}

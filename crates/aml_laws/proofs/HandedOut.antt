@@ -28,16 +28,17 @@ use Rattle.aml_convert.specs.Integers.{bits_of, bytes_of}
 use Rattle.aml_namespace.specs.Numbering.{Numbered}
 use Rattle.aml_namespace.specs.Search.{found}
 use Rattle.aml_namespace.proofs.Finding.{numbered_found}
-use Rattle.aml_meaning.specs.declared.name_use.NameUse.{NameUse}
-use Rattle.aml_meaning.specs.declared.name_use.NameUse.TheVariants as uses
-use Rattle.aml_meaning.specs.Given.{Given, Integer, Text, Bytes, Package, Named, Reference as NoPath, givens}
-use Rattle.aml_meaning.specs.State.{State, on_objects}
-use Rattle.aml_meaning.specs.Run.{Run, lift}
-use Rattle.aml_meaning.specs.Regions.{given_of_bits}
-use Rattle.aml_meaning.specs.Fields.{field_given}
+use Rattle.aml_world.specs.declared.state.name_use.NameUse.{NameUse}
+use Rattle.aml_world.specs.declared.state.name_use.NameUse.TheVariants as uses
+use Rattle.aml_world.specs.state.Given.{Given, Integer, Text, Bytes, Package, Named, Reference as NoPath, givens}
+use Rattle.aml_world.specs.state.State.{State, on_objects}
+use Rattle.aml_world.specs.state.Run.{Run, lift}
+use Rattle.aml_world.specs.fields.Regions.{given_of_bits}
+use Rattle.aml_world.specs.fields.Fields.{field_given}
+use Rattle.aml_world.specs.state.NameUses.{path_of, held_or_path, name_use}
 use Rattle.aml_meaning.specs.FieldCalls.{called_at}
 use Rattle.aml_meaning.specs.Meaning.{meaning}
-use Rattle.aml_meaning.specs.Exporting.{path_of, reference_exported, held_or_path, name_use, text_exported, bytes_exported, value_exported, use_exported, name_exported, held_exported, element_exported, each_exported, elements_exported, package_exported, exported}
+use Rattle.aml_meaning.specs.Exporting.{reference_exported, text_exported, bytes_exported, value_exported, use_exported, name_exported, held_exported, element_exported, each_exported, elements_exported, package_exported, exported}
 use Rattle.aml_laws.specs.FieldNames.{IsField, of_unit, of_buffer, NamesField, bits_read_at}
 use Rattle.aml_laws.specs.HandedOut.{HasNoPath, gone, a_slot, an_element, a_byte, IsHandedOut, nothing, an_integer, a_string, a_buffer, a_package, a_path, no_path, AreHandedOut, no_elements, one_more, HandsOut, a_value, its_data, its_integer, its_bytes, its_path, path_it_would_have, IsKeptBack, too_deep, in_package, AreKeptBack, no_step, the_first, a_later_one, KeepsBack, kept_value, kept_data, kept_field, kept_name}
 use Rattle.aml_laws.specs.IntegersOfValues.{lowest_first}

@@ -12,15 +12,17 @@ use Rattle.ar_space.specs.declared.refusal.EvaluationFault.TheVariants.{ObjectLi
 use Rattle.aml_path.specs.declared.segment.Seg.{Seg}
 use Rattle.aml_grammar.specs.Tree.{Tree}
 use Rattle.aml_objects.specs.declared.value.Value.{Value}
+use Rattle.aml_world.specs.state.State.{State, on_space}
+use Rattle.aml_world.specs.state.Run.{Run, lift, charge}
+use Rattle.aml_world.specs.state.PassedOver.{is_passable}
+use Rattle.aml_world.specs.state.Noting.{with_passed}
+use Rattle.aml_world.specs.state.Slots.{opened}
+use Rattle.aml_world.specs.state.Invocations.{call_allowed}
 use Rattle.aml_meaning.specs.declared.flow.Flow.{Flow}
 use Rattle.aml_meaning.specs.declared.flow.Flow.TheVariants as flow
-use Rattle.aml_meaning.specs.State.{State, on_space}
-use Rattle.aml_meaning.specs.Run.{Run, lift, charge}
-use Rattle.aml_meaning.specs.PassedOver.{is_passable}
-use Rattle.aml_meaning.specs.Passing.{with_passed, item_done, passing}
+use Rattle.aml_meaning.specs.Passing.{item_done, passing}
 use Rattle.aml_meaning.specs.Tasks.{Task, task, passes_over, item}
-use Rattle.aml_meaning.specs.Slots.{opened}
-use Rattle.aml_meaning.specs.Invocations.{call_allowed, leaving}
+use Rattle.aml_meaning.specs.Calls.{leaving}
 use Rattle.aml_laws.specs.Numbers.{numbers_of}
 use Rattle.aml_laws.proofs.FrameNumbers.{frame_numbers_relation, numbers_length, numbers_pushed, numbers_of_closed}
 use Rattle.aml_laws.proofs.WorldRelations.{Preserves, RunPreserves, charge_preserves, in_new_frame}

@@ -22,7 +22,7 @@ use Rattle.aml_fields.proofs.BitLists.{length_from}
 use Rattle.aml_fields.proofs.OneUnit.{single, bits_of_unit, low_bits, merged_is}
 use Rattle.aml_fields.proofs.SpaceBits.{bits_again}
 use Rattle.aml_fields.proofs.UnitWrites.{narrow}
-use Rattle.aml_meaning.specs.Fields.{unit_bytes, unit_of}
+use Rattle.aml_world.specs.fields.Fields.{unit_bytes, unit_of}
 use Rattle.aml_laws.specs.IndexRegisters.{Register}
 
 -- ---- bits and numbers

@@ -19,12 +19,12 @@ use Rattle.aml_fields.specs.Units.{units_of}
 use Rattle.aml_fields.specs.UnitByUnit.{kept_by, kept, read_units, bits_read, write_units}
 use Rattle.aml_fields.specs.Regions.{unit_place, read_access, write_access}
 use Rattle.aml_fields.proofs.OneUnit.{single_unit}
-use Rattle.aml_meaning.specs.declared.regions.RegionField.{RegionField}
-use Rattle.aml_meaning.specs.Regions.{region_declared, region_field, field_of_object, field_declared}
-use Rattle.aml_meaning.specs.StoreTargets.{declaration}
-use Rattle.aml_meaning.specs.State.{State, on_space}
-use Rattle.aml_meaning.specs.Run.{Run, lift}
-use Rattle.aml_meaning.specs.Fields.{unit_bytes, unit_of, located, region_bits, region_written, index_unit, index_unit_written, index_bits, index_written}
+use Rattle.aml_world.specs.declared.fields.regions.RegionField.{RegionField}
+use Rattle.aml_world.specs.fields.Regions.{region_declared, region_field, field_of_object, field_declared}
+use Rattle.aml_world.specs.values.StoreTargets.{declaration}
+use Rattle.aml_world.specs.state.State.{State, on_space}
+use Rattle.aml_world.specs.state.Run.{Run, lift}
+use Rattle.aml_world.specs.fields.Fields.{unit_bytes, unit_of, located, region_bits, region_written, index_unit, index_unit_written, index_bits, index_written}
 use Rattle.aml_laws.specs.IndexRegisters.{Register, IsRegister, chosen_and_read, chosen_and_written, kept_and_written}
 use Rattle.aml_laws.specs.PlainRegions.{IsPlainRegion, in_memory, among_ports}
 use Rattle.aml_laws.proofs.IndexRegisters.{IsWhole, register_written, register_read, bits_of_register, read_number, some_bits}

@@ -16,27 +16,27 @@ use Rattle.aml_objects.specs.Contents.{Content, content_in}
 use Rattle.aml_objects.specs.declared.value.Value.{Value}
 use Rattle.aml_convert.specs.Conversions.{to_integer_of, to_buffer_of}
 use Rattle.aml_convert.specs.Strings.{string_of, part_of, middle_of}
-use Rattle.aml_meaning.specs.declared.profile.Profile.TheVariants as profiles
-use Rattle.aml_meaning.specs.declared.term_kind.Conversion.{Conversion}
-use Rattle.aml_meaning.specs.declared.term_kind.Conversion.TheVariants as conversions
+use Rattle.aml_world.specs.declared.state.profile.Profile.TheVariants as profiles
+use Rattle.aml_world.specs.declared.values.operation_kind.Conversion.{Conversion}
+use Rattle.aml_world.specs.declared.values.operation_kind.Conversion.TheVariants as conversions
+use Rattle.aml_world.specs.declared.values.operation_kind.TwoOperands.TheVariants as two
+use Rattle.aml_world.specs.state.State.{State}
+use Rattle.aml_world.specs.state.Run.{lift}
+use Rattle.aml_world.specs.state.Readings.{integer_in}
+use Rattle.aml_world.specs.values.Operations.{operated_on_one, lnot_in, element_indexed, byte_indexed, indexed}
+use Rattle.aml_world.specs.values.WideOperations.{decoded_in, coded_in, converted, string_text, string_in, middle_content, middle_in}
 use Rattle.aml_meaning.specs.declared.term_kind.TermKind.TheVariants as kinds
 use Rattle.aml_meaning.specs.declared.term_kind.WideKind.TheVariants as wide
-use Rattle.aml_meaning.specs.declared.term_kind.TwoOperands.TheVariants as two
-use Rattle.aml_meaning.specs.State.{State}
-use Rattle.aml_meaning.specs.Run.{lift}
 use Rattle.aml_meaning.specs.Terms.{kind_of}
 use Rattle.aml_meaning.specs.Tasks.{task, operand_value, operand_integer, value_at, two_values}
-use Rattle.aml_meaning.specs.Readings.{integer_in}
 use Rattle.aml_meaning.specs.DataTerms.{buffer_rule, var_package_rule}
 use Rattle.aml_meaning.specs.FieldTerms.{region_rule}
-use Rattle.aml_meaning.specs.Operations.{operated_on_one, turned, element_indexed, byte_indexed, indexed}
-use Rattle.aml_meaning.specs.OperatorTerms.{one_rule, not_rule}
+use Rattle.aml_meaning.specs.OperatorTerms.{one_rule, lnot_rule}
 use Rattle.aml_meaning.specs.StatementTerms.{if_rule, while_rule, loop, turns, turn}
-use Rattle.aml_meaning.specs.WideOperations.{decoded_in, coded_in, converted, string_text, string_in, middle_content, middle_in}
 use Rattle.aml_meaning.specs.WideTerms.{convert_rule, to_string_rule, middle_rule}
 use Rattle.aml_meaning.specs.Evaluation.{rule}
 use Rattle.aml_meaning.specs.Meaning.{meaning}
-use Rattle.aml_laws.specs.IntegerOperands.{TakesInteger, by_not, by_highest_bit, by_lowest_bit, by_negation, by_size_of_buffer, by_size_of_package, from_coded_decimal, to_coded_decimal, AsksInteger, of_integer, of_condition, IsIndexed, a_package, a_string, a_buffer}
+use Rattle.aml_laws.specs.IntegerOperands.{TakesInteger, by_not, by_highest_bit, by_lowest_bit, by_lnot, by_size_of_buffer, by_size_of_package, from_coded_decimal, to_coded_decimal, AsksInteger, of_integer, of_condition, IsIndexed, a_package, a_string, a_buffer}
 use Rattle.aml_laws.specs.JoinedTerms.{middle, HasBytes}
 use Rattle.aml_laws.specs.JoinedTerms as joined
 use Rattle.aml_laws.specs.OperandTerms.{AsksCondition, by_if, by_while}
@@ -84,11 +84,11 @@ module _ {S : Type 0} (accesses : Accesses S) (scope : List Seg) (depth : ℕ) (
   uncoded = rw is refl
 
   integer_asked : (op : Opcode) → TakesInteger w.profile op → (ps : Parts) → RuleStops (of_opcode op (part (inner x) ps))
-  unfolding rule one_rule operated_on_one not_rule turned buffer_rule var_package_rule operand_integer value_at operand_value settle lift go_on ◌>>=◌
+  unfolding rule one_rule operated_on_one lnot_rule lnot_in buffer_rule var_package_rule operand_integer value_at operand_value settle lift go_on ◌>>=◌
   integer_asked _ by_not ps = rw (gives, is) refl
   integer_asked _ by_highest_bit ps = rw (gives, is) refl
   integer_asked _ by_lowest_bit ps = rw (gives, is) refl
-  integer_asked _ by_negation ps = rw (gives, is) refl
+  integer_asked _ by_lnot ps = rw (gives, is) refl
   integer_asked _ by_size_of_buffer ps = rw (gives, is) refl
   integer_asked _ by_size_of_package ps = rw (gives, is) refl
   integer_asked _ (from_coded_decimal is_wide) ps = converting conversions.FromDecimal opcodes.FromBcd ps refl is_wide undecoded

@@ -14,8 +14,8 @@ use Rattle.aml_objects.specs.declared.entry.MethodBody.{MethodBody}
 use Rattle.aml_objects.specs.declared.entry.MethodBody.TheVariants.{Osi, Aml}
 use Rattle.aml_objects.specs.declared.entry.NamedObject.{NamedObject}
 use Rattle.aml_objects.specs.declared.entry.NamedObject.TheVariants as named
-use Rattle.aml_meaning.specs.declared.frame.Frame.{Frame}
-use Rattle.aml_meaning.specs.State.{State}
+use Rattle.aml_world.specs.declared.state.frame.Frame.{Frame}
+use Rattle.aml_world.specs.state.State.{State}
 use Rattle.aml_laws.specs.Within.{WithinWidth}
 use Rattle.aml_laws.specs.AllWithin.{Each, AllWithin}
 use Rattle.aml_laws.specs.AllWithin as within

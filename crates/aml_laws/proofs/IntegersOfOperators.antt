@@ -31,20 +31,19 @@ use Rattle.aml_convert.specs.Integers.{bits_of, truncated, ones, truth}
 use Rattle.aml_convert.specs.Operators.{complement, result_of, unary_result_of, logical_result_of, holds}
 use Rattle.aml_convert.specs.Conversions.{integer_in_string, integer_in_buffer, to_integer_of, numeral, explicit_integer_of}
 use Rattle.aml_convert.specs.Concatenation.{concatenated}
-use Rattle.aml_meaning.specs.declared.term_kind.OneOperand.{OneOperand}
-use Rattle.aml_meaning.specs.declared.term_kind.OneOperand.TheVariants as one
-use Rattle.aml_meaning.specs.declared.term_kind.TwoOperands.{TwoOperands}
-use Rattle.aml_meaning.specs.declared.term_kind.TwoOperands.TheVariants as two
-use Rattle.aml_meaning.specs.declared.term_kind.Test.{Test}
-use Rattle.aml_meaning.specs.declared.term_kind.Test.TheVariants as test
-use Rattle.aml_meaning.specs.declared.term_kind.Count.{Count}
-use Rattle.aml_meaning.specs.declared.term_kind.Count.TheVariants as count
-use Rattle.aml_meaning.specs.State.{State, on_objects}
-use Rattle.aml_meaning.specs.Readings.{integer_kept, integer_in}
-use Rattle.aml_meaning.specs.Regions.{integer_of_bits, integer_value, value_of_bits}
-use Rattle.aml_meaning.specs.Osi.{is_known, osi_answer}
-use Rattle.aml_meaning.specs.Operations.{as_integer, integers_operated, operated, divided_in, integer_operated, operated_on_one, integers_tested, operated_logically, integer_turned, turned, next_integer, integer_before, truth_of, compared_in, made_of, joined_contents, joined, joined_items, joined_resources, to_integer_in, buffer_bytes, new_buffer_of, to_buffer_in, below, element_indexed, byte_indexed, indexed}
-use Rattle.aml_meaning.specs.OperatorTerms.{result_of_two, result_of_one, result_of_test, counted_by}
+use Rattle.aml_world.specs.declared.values.operation_kind.OneOperand.{OneOperand}
+use Rattle.aml_world.specs.declared.values.operation_kind.OneOperand.TheVariants as one
+use Rattle.aml_world.specs.declared.values.operation_kind.TwoOperands.{TwoOperands}
+use Rattle.aml_world.specs.declared.values.operation_kind.TwoOperands.TheVariants as two
+use Rattle.aml_world.specs.declared.values.operation_kind.Test.{Test}
+use Rattle.aml_world.specs.declared.values.operation_kind.Test.TheVariants as test
+use Rattle.aml_world.specs.declared.values.operation_kind.Count.{Count}
+use Rattle.aml_world.specs.declared.values.operation_kind.Count.TheVariants as count
+use Rattle.aml_world.specs.state.State.{State, on_objects}
+use Rattle.aml_world.specs.state.Readings.{integer_kept, integer_in}
+use Rattle.aml_world.specs.fields.Regions.{integer_of_bits, integer_value, value_of_bits}
+use Rattle.aml_world.specs.state.Osi.{is_known, osi_answer}
+use Rattle.aml_world.specs.values.Operations.{as_integer, integers_operated, operated, divided_in, integer_operated, operated_on_one, integers_tested, operated_logically, integer_lnot, lnot_in, incremented, decremented, truth_of, compared_in, made_of, joined_contents, joined, joined_items, joined_resources, to_integer_in, buffer_bytes, new_buffer_of, to_buffer_in, below, element_indexed, byte_indexed, indexed, result_of_two, result_of_one, result_of_test, counted_by}
 use Rattle.aml_laws.specs.Within.{Below, WithinContent, Within, WithinWidth, FormsWithin}
 
 abbrev FitsWidth : IntegerWidth → ℕ → Type 0
@@ -311,17 +310,17 @@ module _ {S : Type 0} (w : State S) where
   test_within (test.Logical op) a b = logic_within op a b
   test_within (test.Compare c) a b = compared_within c a b
 
-  pub turned_within : (a : Value) → FormsWithin w (turned a)
-  unfolding turned integer_in integer_turned ◌>>=◌
-  turned_within a v e = integer_then (WithinWidth w.width) _ w _ (λ x ex u eu. integer_value_within w.width _ u eu (truth_fits w.width (x == 0))) v e
+  pub lnot_within : (a : Value) → FormsWithin w (lnot_in a)
+  unfolding lnot_in integer_in integer_lnot ◌>>=◌
+  lnot_within a v e = integer_then (WithinWidth w.width) _ w _ (λ x ex u eu. integer_value_within w.width _ u eu (truth_fits w.width (x == 0))) v e
 
   pub counted_within : (k : Count) (n : ℕ) → FormsWithin w (counted_by k n)
-  unfolding next_integer integer_before
-  counted_within count.Up n v e = integer_value_within w.width _ v e (truncated_fits w.width (n + 1))
-  counted_within count.Down n v e = integer_value_within w.width _ v e (truncated_fits w.width _)
+  unfolding incremented decremented
+  counted_within count.Increment n v e = integer_value_within w.width _ v e (truncated_fits w.width (n + 1))
+  counted_within count.Decrement n v e = integer_value_within w.width _ v e (truncated_fits w.width _)
 
   pub field_within : (count : ℕ) (bytes : List ℕ) → ((i : ℕ) → slice_index bytes i < 256) → FormsWithin w (value_of_bits count bytes)
   unfolding value_of_bits integer_value integer_of_bits give on_objects ◌>>=◌
   field_within count bytes h v e = branch_within (nat_lt (bits_of w.width) count) w.width _ _ v (made_buffer_within w.width bytes w.objects v) (integer_then (WithinWidth w.width) _ w _ (λ n en u eu. integer_value_within w.width n u eu (integer_in_buffer_fits w.width bytes n h en)) v) e
 
-pub ruleset operators_form_integers_of_the_width = (kept_within, read_within, two_within, one_within, divided_within, test_within, turned_within, counted_within, field_within)
+pub ruleset operators_form_integers_of_the_width = (kept_within, read_within, two_within, one_within, divided_within, test_within, lnot_within, counted_within, field_within)

@@ -10,8 +10,8 @@ use Rattle.aml_objects.specs.declared.entry.Entry.{Entry}
 use Rattle.aml_objects.specs.declared.entry.NamedObject.{NamedObject}
 use Rattle.aml_objects.specs.declared.entry.NamedObject.TheVariants as object
 use Rattle.aml_namespace.proofs.Paths.{path_total}
-use Rattle.aml_meaning.specs.declared.settings.EvaluationSettings.{EvaluationSettings}
-use Rattle.aml_meaning.specs.Predefined.{fresh_as, takes, at_root, predefined_scopes, predefined_objects, predefined}
+use Rattle.aml_world.specs.declared.state.settings.EvaluationSettings.{EvaluationSettings}
+use Rattle.aml_world.specs.state.Predefined.{fresh_as, takes, at_root, predefined_scopes, predefined_objects, predefined}
 use Rattle.aml_laws.proofs.ReadingStepsGiveBytes.{Any}
 use Rattle.aml_laws.proofs.Invariants.{Maintains, ok_maintained, then_maintains}
 use Rattle.aml_laws.proofs.ValuesOfObjects.{make_string_maintains}

@@ -19,12 +19,12 @@ use Rattle.aml_objects.specs.declared.entry.NamedObject.{NamedObject}
 use Rattle.aml_objects.specs.declared.entry.NamedObject.TheVariants as object
 use Rattle.aml_namespace.specs.Namespace.{released, entry_released, mutexes_released}
 use Rattle.aml_namespace.proofs.Changes.{released_at}
-use Rattle.aml_meaning.specs.declared.invocation.Invocation.{Invocation}
-use Rattle.aml_meaning.specs.declared.invocation.Invocation.TheVariants as invocations
-use Rattle.aml_meaning.specs.State.{State}
-use Rattle.aml_meaning.specs.Run.{Run}
+use Rattle.aml_world.specs.declared.state.invocation.Invocation.{Invocation}
+use Rattle.aml_world.specs.declared.state.invocation.Invocation.TheVariants as invocations
+use Rattle.aml_world.specs.state.State.{State}
+use Rattle.aml_world.specs.state.Run.{Run}
+use Rattle.aml_world.specs.state.Slots.{closed}
 use Rattle.aml_meaning.specs.Meaning.{meaning}
-use Rattle.aml_meaning.specs.Calling.{ending, with_steps, framed, in_frame, terms_kept, table_terms, at_root, table_run, loaded, value_of, called, with_rest, counted, evaluated}
 use Rattle.aml_laws.specs.Within.{WithinWidth}
 use Rattle.aml_laws.proofs.ReadingStepsGiveBytes.{Any}
 use Rattle.aml_laws.proofs.ReadTermsHoldBytes.{list_within_plain}
@@ -32,14 +32,14 @@ use Rattle.aml_laws.proofs.Invariants.{Maintained, Maintains, ok_fits, err_maint
 use Rattle.aml_laws.proofs.ValuesOfWorlds.{WorldWithin, osi_answered_maintains}
 use Rattle.aml_laws.proofs.ValuesOfFields.{RunWithin, lift_maintains}
 use Rattle.aml_laws.proofs.ValuesOfOperands.{InvocationFits, invocation_found_maintains, opened_maintains, field_read_maintains, method_value_maintains}
+use Rattle.aml_meaning.specs.Calling.{ending, with_steps, framed, in_frame, terms_kept, table_terms, at_root, table_run, loaded, value_of, called, with_rest, counted, evaluated}
 use Rattle.aml_meaning.specs.declared.flow.Flow.TheVariants as flow
-use Rattle.aml_meaning.specs.Tasks.{Task, in_turn}
 use Rattle.aml_laws.specs.Plain.{AreBytes, PlainTree, PlainTrees}
 use Rattle.aml_laws.specs.AllWithin.{Each, AllWithin}
 use Rattle.aml_laws.proofs.Claims.{Claim, integers_within, ValueFits, NamedFits, FrameFits, WorldFits}
 use Rattle.aml_laws.proofs.IntegersClaimed.{values_claimed, world_claimed, any_frame_is_open, value_within, world_within}
 use Rattle.aml_laws.proofs.ValuesOfRules.{meaning_maintains, meaning_parts, list_maintains}
-use Rattle.aml_meaning.specs.Slots.{closed}
+use Rattle.aml_meaning.specs.Tasks.{Task, in_turn}
 use Rattle.aml_laws.specs.Numbers.{numbers_of}
 
 released_fits : (claim : Claim) (o : NamedObject) → NamedFits claim o → NamedFits claim (released o)

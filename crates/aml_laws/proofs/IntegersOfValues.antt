@@ -14,8 +14,8 @@ use Rattle.aml_objects.specs.declared.value.Value.TheVariants as value
 use Rattle.aml_convert.specs.Integers.{bits_of, bytes_of, truncated}
 use Rattle.aml_convert.specs.Digits.{digit_and, leading_digits, leading_number}
 use Rattle.aml_convert.specs.declared.digits.Base.TheVariants.{Hexadecimal}
-use Rattle.aml_meaning.specs.State.{State}
-use Rattle.aml_meaning.specs.Readings.{integer_in}
+use Rattle.aml_world.specs.state.State.{State}
+use Rattle.aml_world.specs.state.Readings.{integer_in}
 use Rattle.aml_fields.proofs.Numbers.{little_rest}
 use Rattle.aml_laws.specs.IntegersOfValues.{lowest_first, IsDigit, figure, upper, lower, AreDigits, none, more, EndsDigits, at_end, at_other, at_most}
 

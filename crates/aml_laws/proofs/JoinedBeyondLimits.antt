@@ -15,19 +15,19 @@ use Rattle.aml_objects.specs.declared.value.Value.{Value}
 use Rattle.aml_convert.specs.Concatenation.{resources_joined}
 use Rattle.aml_convert.specs.Conversions.{to_buffer_of}
 use Rattle.aml_convert.specs.Strings.{decimal_string_of, hexadecimal_string_of}
-use Rattle.aml_meaning.specs.declared.profile.Profile.TheVariants as profiles
-use Rattle.aml_meaning.specs.declared.term_kind.Conversion.{Conversion}
-use Rattle.aml_meaning.specs.declared.term_kind.Conversion.TheVariants as conversions
-use Rattle.aml_meaning.specs.declared.term_kind.OneOperand.TheVariants as one
+use Rattle.aml_world.specs.declared.state.profile.Profile.TheVariants as profiles
+use Rattle.aml_world.specs.declared.values.operation_kind.Conversion.{Conversion}
+use Rattle.aml_world.specs.declared.values.operation_kind.Conversion.TheVariants as conversions
+use Rattle.aml_world.specs.declared.values.operation_kind.OneOperand.TheVariants as one
+use Rattle.aml_world.specs.declared.values.operation_kind.TwoOperands.TheVariants as two
+use Rattle.aml_world.specs.state.State.{State, on_objects}
+use Rattle.aml_world.specs.state.Run.{lift}
+use Rattle.aml_world.specs.values.Operations.{made_of, joined, joined_items, joined_resources, buffer_bytes, new_buffer_of}
+use Rattle.aml_world.specs.values.WideOperations.{decimal_text, new_decimal_string, hexadecimal_text, new_hexadecimal_string, converted}
 use Rattle.aml_meaning.specs.declared.term_kind.TermKind.TheVariants as kinds
-use Rattle.aml_meaning.specs.declared.term_kind.TwoOperands.TheVariants as two
 use Rattle.aml_meaning.specs.declared.term_kind.WideKind.TheVariants as wide
-use Rattle.aml_meaning.specs.State.{State, on_objects}
-use Rattle.aml_meaning.specs.Run.{lift}
 use Rattle.aml_meaning.specs.Terms.{kind_of}
 use Rattle.aml_meaning.specs.Tasks.{task, operand_value, value_at}
-use Rattle.aml_meaning.specs.Operations.{made_of, joined, joined_items, joined_resources, buffer_bytes, new_buffer_of}
-use Rattle.aml_meaning.specs.WideOperations.{decimal_text, new_decimal_string, hexadecimal_text, new_hexadecimal_string, converted}
 use Rattle.aml_meaning.specs.WideTerms.{convert_rule}
 use Rattle.aml_meaning.specs.Meaning.{meaning}
 use Rattle.aml_laws.specs.JoinedTerms.{IsJoined, strings, buffers, integers}

@@ -5,8 +5,8 @@ use Rattle.ar_space.specs.Accesses.{Accesses}
 use Rattle.ar_space.specs.Outcome.{Outcome}
 use Rattle.ar_space.specs.Change.{give, go_on, ◌>>=◌}
 use Rattle.aml_objects.specs.declared.entry.FieldUnit.{FieldUnit}
-use Rattle.aml_meaning.specs.State.{State}
-use Rattle.aml_meaning.specs.Run.{Run}
+use Rattle.aml_world.specs.state.State.{State}
+use Rattle.aml_world.specs.state.Run.{Run}
 use Rattle.aml_laws.specs.Histories.{FieldUnitStands}
 use Rattle.aml_laws.proofs.Preorders.{Respects, then_respects}
 use Rattle.aml_laws.proofs.FieldUnitsFound.{RunFinds}

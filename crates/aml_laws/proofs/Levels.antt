@@ -6,9 +6,9 @@ use Rattle.ar_space.specs.declared.refusal.Refusal.{Refusal}
 use Rattle.ar_space.specs.Accesses.{Accesses}
 use Rattle.ar_space.specs.Outcome.{Outcome}
 use Rattle.ar_space.specs.Change.{Change}
-use Rattle.aml_meaning.specs.declared.profile.Profile.TheVariants as profiles
-use Rattle.aml_meaning.specs.declared.profile.Profile.{Profile}
-use Rattle.aml_meaning.specs.PassedOver.{is_passable}
+use Rattle.aml_world.specs.declared.state.profile.Profile.TheVariants as profiles
+use Rattle.aml_world.specs.declared.state.profile.Profile.{Profile}
+use Rattle.aml_world.specs.state.PassedOver.{is_passable}
 use Rattle.aml_meaning.specs.Tasks.{module_level}
 use Rattle.aml_laws.specs.Widened.{LeftOut}
 use Rattle.aml_laws.proofs.Together.{SideBySide, Raise, Deepens, Sides, Passes, MayPass, Shape, Together, Comes, IsEnded, alike}

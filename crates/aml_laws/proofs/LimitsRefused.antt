@@ -12,9 +12,10 @@ use Rattle.aml_objects.specs.declared.object.Element.{Element}
 use Rattle.aml_objects.specs.declared.object.Object.{Object}
 use Rattle.aml_objects.specs.declared.object.Object.TheVariants as object
 use Rattle.aml_objects.specs.declared.value.Value.{Value}
-use Rattle.aml_meaning.specs.State.{State}
-use Rattle.aml_meaning.specs.Run.{lift}
-use Rattle.aml_meaning.specs.Invocations.{call_allowed, invoked}
+use Rattle.aml_world.specs.state.State.{State}
+use Rattle.aml_world.specs.state.Run.{lift}
+use Rattle.aml_world.specs.state.Invocations.{call_allowed}
+use Rattle.aml_meaning.specs.Calls.{invoked}
 use Rattle.aml_meaning.specs.Meaning.{meaning}
 
 pub object_made : (x : Object) (h : Objects) → length h < 262144 → make x h ≡ (Ok (length h), h ++ x ∷ [])

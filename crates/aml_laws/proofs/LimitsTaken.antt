@@ -15,9 +15,9 @@ use Rattle.aml_objects.specs.declared.object.Element.TheVariants as element
 use Rattle.aml_objects.specs.declared.object.Object.TheVariants as object
 use Rattle.aml_objects.specs.declared.value.Value.{Value}
 use Rattle.aml_objects.specs.declared.value.Value.TheVariants as value
-use Rattle.aml_meaning.specs.State.{State, on_objects}
-use Rattle.aml_meaning.specs.Run.{lift}
-use Rattle.aml_meaning.specs.Importing.{imported_by, each_imported, elements_imported, package_imported, taken_back, imported}
+use Rattle.aml_world.specs.state.State.{State, on_objects}
+use Rattle.aml_world.specs.state.Run.{lift}
+use Rattle.aml_world.specs.state.Importing.{imported_by, each_imported, elements_imported, package_imported, taken_back, imported}
 use Rattle.aml_meaning.specs.Exporting.{value_exported, held_exported, element_exported, each_exported, elements_exported, package_exported, exported}
 use Rattle.aml_laws.specs.Calls.{body_frame}
 use Rattle.aml_laws.specs.Limits.{nested, IsNested, innermost, round}

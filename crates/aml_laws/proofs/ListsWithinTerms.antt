@@ -21,16 +21,16 @@ use Rattle.aml_objects.specs.declared.entry.NamedObject.TheVariants as objects
 use Rattle.aml_objects.specs.declared.value.Value.{Value}
 use Rattle.aml_convert.specs.Operators.{is_true}
 use Rattle.aml_namespace.specs.Search.{found}
+use Rattle.aml_world.specs.state.Run.{Run, lift}
+use Rattle.aml_world.specs.state.State.{State}
+use Rattle.aml_world.specs.state.Readings.{entry_found, path_found, is_scope, scope_found}
+use Rattle.aml_world.specs.state.Declaring.{new_name}
 use Rattle.aml_meaning.specs.declared.flow.Flow.{Flow}
 use Rattle.aml_meaning.specs.declared.flow.Flow.TheVariants as flow
 use Rattle.aml_meaning.specs.Evaluation.{rule}
 use Rattle.aml_meaning.specs.Meaning.{meaning}
-use Rattle.aml_meaning.specs.Run.{Run, lift}
-use Rattle.aml_meaning.specs.State.{State}
 use Rattle.aml_meaning.specs.Tasks.{Task, task, module_level, operand_value, operand_integer, in_turn}
 use Rattle.aml_meaning.specs.Terms.{else_of}
-use Rattle.aml_meaning.specs.Readings.{entry_found, path_found, is_scope, scope_found}
-use Rattle.aml_meaning.specs.Declaring.{new_name}
 use Rattle.aml_meaning.specs.DeclarationTerms.{scope_rule, new_scope}
 use Rattle.aml_meaning.specs.StatementTerms.{branch, if_rule, else_rule, while_rule, loop, turn, turn_of, after_turn, loop_end}
 use Rattle.aml_meaning.proofs.Loops.{loop_is}

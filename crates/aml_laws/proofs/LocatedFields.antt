@@ -19,12 +19,12 @@ use Rattle.aml_fields.specs.UnitByUnit.{kept, bits_read, write_units}
 use Rattle.aml_fields.specs.Regions.{read_unit, write_whole}
 use Rattle.aml_fields.proofs.Putting.{length_extended}
 use Rattle.aml_fields.proofs.SpaceBits.{number_below, bits_again}
-use Rattle.aml_meaning.specs.declared.regions.RegionField.{RegionField}
-use Rattle.aml_meaning.specs.Regions.{field_declared}
-use Rattle.aml_meaning.specs.StoreTargets.{declaration}
-use Rattle.aml_meaning.specs.State.{State, on_space}
-use Rattle.aml_meaning.specs.Run.{Run, lift}
-use Rattle.aml_meaning.specs.Fields.{unit_bytes, unit_of, bits_in, written_in, located, region_bits, region_written, index_unit, index_unit_written, index_bits, index_written, bank_selected, bank_unit, bank_unit_written, bank_bits, bank_written}
+use Rattle.aml_world.specs.declared.fields.regions.RegionField.{RegionField}
+use Rattle.aml_world.specs.fields.Regions.{field_declared}
+use Rattle.aml_world.specs.values.StoreTargets.{declaration}
+use Rattle.aml_world.specs.state.State.{State, on_space}
+use Rattle.aml_world.specs.state.Run.{Run, lift}
+use Rattle.aml_world.specs.fields.Fields.{unit_bytes, unit_of, bits_in, written_in, located, region_bits, region_written, index_unit, index_unit_written, index_bits, index_written, bank_selected, bank_unit, bank_unit_written, bank_bits, bank_written}
 use Rattle.aml_laws.specs.BankFields.{IsFieldUnit}
 use Rattle.aml_laws.specs.LocatedFields.{number_written, read_behind_bank_field, written_behind_bank_field, read_behind_index_field, written_behind_index_field}
 use Rattle.aml_laws.proofs.BanksSelected.{value_held, read_where, written_where}

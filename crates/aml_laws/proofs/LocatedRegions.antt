@@ -16,16 +16,16 @@ use Rattle.aml_fields.specs.declared.region.AddressSpace.TheVariants as spaces
 use Rattle.aml_fields.specs.declared.region.Region.{Region}
 use Rattle.aml_namespace.proofs.Numbering.{numbered_stands}
 use Rattle.aml_namespace.specs.Namespace.{Map, with_number, numbered, above}
+use Rattle.aml_world.specs.state.State.{State}
+use Rattle.aml_world.specs.state.Run.{Run, lift}
+use Rattle.aml_world.specs.values.StoreTargets.{or_gone, declaration}
+use Rattle.aml_world.specs.fields.Regions.{space_numbered, region_of_object, region_declared}
+use Rattle.aml_world.specs.fields.Fields.{pci_address, space_at, located}
+use Rattle.aml_world.specs.declared.fields.regions.RegionSpace.TheVariants as kinds
 use Rattle.aml_meaning.specs.declared.flow.Flow.{Flow}
-use Rattle.aml_meaning.specs.State.{State}
-use Rattle.aml_meaning.specs.Run.{Run, lift}
-use Rattle.aml_meaning.specs.StoreTargets.{or_gone, declaration}
-use Rattle.aml_meaning.specs.Regions.{space_numbered, region_of_object, region_declared}
-use Rattle.aml_meaning.specs.Fields.{pci_address, space_at, located}
 use Rattle.aml_meaning.specs.FieldCalls.{called_at}
 use Rattle.aml_meaning.specs.Meaning.{evaluated_within, meaning}
 use Rattle.aml_meaning.specs.Tasks.{Task}
-use Rattle.aml_meaning.specs.declared.regions.RegionSpace.TheVariants as kinds
 use Rattle.aml_laws.specs.Histories.{numbered_entry, RegionStands}
 use Rattle.aml_laws.proofs.ChangesNothing.{region_declared_changes_nothing}
 use Rattle.aml_laws.proofs.RegisterAccesses.{number_of_space, pci_space_numbered, IsRegion}

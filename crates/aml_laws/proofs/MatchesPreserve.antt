@@ -7,12 +7,13 @@ use Rattle.aml_objects.specs.declared.object.Element.{Element}
 use Rattle.aml_objects.specs.declared.object.Element.TheVariants as element
 use Rattle.aml_objects.specs.declared.value.Value.{Value}
 use Rattle.aml_objects.specs.declared.value.Value.TheVariants as value
+use Rattle.aml_world.specs.declared.values.searches.Search.{Search}
+use Rattle.aml_world.specs.declared.values.store_target.Held.{Held}
+use Rattle.aml_world.specs.state.Run.{Run}
+use Rattle.aml_world.specs.values.Searches.{search_begun, name_held, held_by, element_held, meets, value_meets}
 use Rattle.aml_meaning.specs.declared.flow.Flow.{Flow}
-use Rattle.aml_meaning.specs.declared.searches.Search.{Search}
-use Rattle.aml_meaning.specs.declared.store_target.Held.{Held}
-use Rattle.aml_meaning.specs.Run.{Run}
 use Rattle.aml_meaning.specs.Tasks.{Task}
-use Rattle.aml_meaning.specs.MatchTerms.{search_begun, name_held, held_by, element_held, meets, value_meets, held_meets, if_held, element_meets, found_or, none_matches, searched_last, match_rule}
+use Rattle.aml_meaning.specs.MatchTerms.{held_meets, if_held, element_meets, found_or, none_matches, searched_last, match_rule}
 use Rattle.aml_laws.proofs.FieldUnitsFound.{units_held_if, lift_finds, element_held_finds}
 use Rattle.aml_laws.proofs.KnownFieldUnits.{by_any, give_by, then_by, found_then}
 use Rattle.aml_laws.proofs.ObjectKinds.{element_at_keeps_kinds}

@@ -18,11 +18,12 @@ use Rattle.aml_objects.specs.declared.value.Value.TheVariants as value
 use Rattle.aml_convert.specs.Conversions.{compared}
 use Rattle.aml_convert.specs.Matching.{match_operator, is_match}
 use Rattle.aml_convert.specs.declared.matching.MatchOperator.{MatchOperator}
-use Rattle.aml_meaning.specs.declared.searches.MatchTest.{MatchTest}
-use Rattle.aml_meaning.specs.State.{State}
-use Rattle.aml_meaning.specs.Run.{lift}
+use Rattle.aml_world.specs.declared.values.searches.MatchTest.{MatchTest}
+use Rattle.aml_world.specs.state.State.{State}
+use Rattle.aml_world.specs.state.Run.{lift}
+use Rattle.aml_world.specs.values.Searches.{package_of, test_with, test_of, search_begun}
 use Rattle.aml_meaning.specs.Tasks.{task, operand_value, value_at}
-use Rattle.aml_meaning.specs.MatchTerms.{package_of, test_with, test_of, search_begun, match_rule}
+use Rattle.aml_meaning.specs.MatchTerms.{match_rule}
 use Rattle.aml_meaning.specs.Evaluation.{rule}
 use Rattle.aml_meaning.specs.Meaning.{meaning}
 use Rattle.aml_laws.specs.OperatorTerms.{IsRefused}

@@ -6,14 +6,14 @@ use Rattle.ar_space.specs.declared.refusal.EvaluationFault.TheVariants.{OutOfSte
 use Rattle.ar_space.specs.Accesses.{Accesses}
 use Rattle.aml_path.specs.declared.segment.Seg.{Seg}
 use Rattle.aml_grammar.specs.Tree.{Tree, Trees}
-use Rattle.aml_meaning.specs.declared.flow.Flow.{Flow}
-use Rattle.aml_meaning.specs.declared.profile.Profile.TheVariants as profiles
-use Rattle.aml_meaning.specs.declared.profile.Profile.{Profile}
-use Rattle.aml_meaning.specs.declared.settings.Nesting.{Nesting}
-use Rattle.aml_meaning.specs.PassedOver.{is_passable}
-use Rattle.aml_meaning.specs.Run.{Run}
+use Rattle.aml_world.specs.declared.state.profile.Profile.TheVariants as profiles
+use Rattle.aml_world.specs.declared.state.profile.Profile.{Profile}
+use Rattle.aml_world.specs.declared.state.settings.Nesting.{Nesting}
+use Rattle.aml_world.specs.state.PassedOver.{is_passable}
+use Rattle.aml_world.specs.state.Run.{Run}
+use Rattle.aml_world.specs.state.State.{State}
 use Rattle.ar_space.specs.declared.refusal.Refusal.{Refusal}
-use Rattle.aml_meaning.specs.State.{State}
+use Rattle.aml_meaning.specs.declared.flow.Flow.{Flow}
 use Rattle.aml_meaning.specs.Tasks.{Task, item, in_turn}
 use Rattle.aml_meaning.specs.Evaluation.{rule}
 use Rattle.aml_meaning.specs.Meaning.{meaning, evaluated_within}

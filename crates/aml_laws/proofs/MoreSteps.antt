@@ -8,14 +8,14 @@ use Rattle.ar_space.specs.declared.refusal.EvaluationFault.TheVariants.{OutOfSte
 use Rattle.ar_space.specs.Accesses.{Accesses}
 use Rattle.ar_space.specs.Outcome.{Outcome}
 use Rattle.ar_space.specs.Change.{Change}
-use Rattle.aml_meaning.specs.PassedOver.{is_passable}
+use Rattle.aml_world.specs.state.PassedOver.{is_passable}
 use Rattle.aml_path.specs.declared.segment.Seg.{Seg}
 use Rattle.aml_grammar.specs.Tree.{Trees}
 use Rattle.aml_objects.specs.declared.value.Value.{Value}
-use Rattle.aml_meaning.specs.Given.{Given}
-use Rattle.aml_meaning.specs.State.{State}
+use Rattle.aml_world.specs.state.Given.{Given}
+use Rattle.aml_world.specs.state.State.{State}
 use Rattle.aml_meaning.specs.Tasks.{Task, in_turn}
-use Rattle.aml_meaning.specs.Invocations.{invoked}
+use Rattle.aml_meaning.specs.Calls.{invoked}
 use Rattle.aml_meaning.specs.Meaning.{meaning}
 use Rattle.aml_meaning.specs.Calling.{loaded, called, with_rest, counted, evaluated, answered}
 use Rattle.aml_laws.specs.Steps.{IsOutOfSteps, with_more_left, value_with_more_left}

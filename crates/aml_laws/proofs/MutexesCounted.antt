@@ -17,10 +17,10 @@ use Rattle.aml_objects.specs.declared.value.Slot.{Slot}
 use Rattle.aml_namespace.specs.Numbering.{Numbered}
 use Rattle.aml_namespace.proofs.Finding.{numbered_found}
 use Rattle.aml_namespace.specs.Namespace.{replaced}
-use Rattle.aml_meaning.specs.declared.store_target.StoreTarget.TheVariants as targets
-use Rattle.aml_meaning.specs.State.{State, on_names}
-use Rattle.aml_meaning.specs.Mutexes.{count_of_object, mutex_count, acquired, given_back, acquired_by_number, given_back_by_number, acquired_at, given_back_at}
-use Rattle.aml_meaning.specs.StoreTargets.{declaration}
+use Rattle.aml_world.specs.declared.values.store_target.StoreTarget.TheVariants as targets
+use Rattle.aml_world.specs.state.State.{State, on_names}
+use Rattle.aml_world.specs.state.Mutexes.{count_of_object, mutex_count, acquired, given_back, acquired_by_number, given_back_by_number, acquired_at, given_back_at}
+use Rattle.aml_world.specs.values.StoreTargets.{declaration}
 use Rattle.aml_laws.specs.Mutexes.{mutex_entry, with_acquisitions, IsNoMutex}
 
 module _ {S : Type 0} (w : State S) (path : List Seg) (n : ℕ) where

@@ -12,13 +12,13 @@ use Rattle.aml_objects.specs.declared.entry.Entry.{Entry}
 use Rattle.aml_objects.specs.declared.entry.NamedObject.{NamedObject}
 use Rattle.aml_objects.specs.declared.entry.NamedObject.TheVariants as object
 use Rattle.aml_namespace.specs.Search.{Found, found}
+use Rattle.aml_world.specs.declared.state.invocation.Invocation.TheVariants as invocation
+use Rattle.aml_world.specs.state.Invocations.{invocation_of, invocation_of_object, named_use, invocation_found}
+use Rattle.aml_world.specs.state.Readings.{absolute, arguments_of, entry_found, arguments_found}
+use Rattle.aml_world.specs.state.Run.{Run, lift}
+use Rattle.aml_world.specs.state.State.{State}
 use Rattle.aml_meaning.specs.declared.flow.Flow.{Flow}
-use Rattle.aml_meaning.specs.declared.invocation.Invocation.TheVariants as invocation
 use Rattle.aml_meaning.specs.FieldCalls.{asked, answer_within, called_at}
-use Rattle.aml_meaning.specs.Invocations.{invocation_of, invocation_of_object, named_use, invocation_found}
-use Rattle.aml_meaning.specs.Readings.{absolute, arguments_of, entry_found, arguments_found}
-use Rattle.aml_meaning.specs.Run.{Run, lift}
-use Rattle.aml_meaning.specs.State.{State}
 use Rattle.aml_meaning.specs.Tasks.{Task}
 use Rattle.aml_laws.proofs.LimitsRefused.{call_is_allowed}
 use Rattle.aml_laws.specs.BusesFound.{TellsNumber}

@@ -24,28 +24,29 @@ use Rattle.aml_objects.specs.declared.value.Reference.TheVariants as reference
 use Rattle.aml_objects.specs.declared.value.Value.{Value}
 use Rattle.aml_objects.specs.declared.value.Value.TheVariants as value
 use Rattle.aml_convert.specs.Integers.{bits_of, bytes_of, truncated}
+use Rattle.aml_world.specs.declared.values.store_target.Held.{Held}
+use Rattle.aml_world.specs.declared.values.store_target.Held.TheVariants as held
+use Rattle.aml_world.specs.declared.values.store_target.StoreTarget.TheVariants as targets
+use Rattle.aml_world.specs.declared.values.store_target.Stored.TheVariants as store
+use Rattle.aml_world.specs.declared.values.operation_kind.Count.{Count}
+use Rattle.aml_world.specs.declared.values.operation_kind.Count.TheVariants as count
+use Rattle.aml_world.specs.state.State.{State, on_objects}
+use Rattle.aml_world.specs.state.Run.{Run, lift}
+use Rattle.aml_world.specs.state.Readings.{integer_in}
+use Rattle.aml_world.specs.fields.Regions.{integer_of_bits}
+use Rattle.aml_world.specs.fields.Fields.{field_integer}
+use Rattle.aml_world.specs.values.StoreTargets.{named_once, dereferenced}
+use Rattle.aml_world.specs.values.Stores.{copy_into_element, stored}
+use Rattle.aml_world.specs.values.Operations.{counted_by}
 use Rattle.aml_meaning.specs.declared.flow.Flow.{Flow}
 use Rattle.aml_meaning.specs.declared.flow.Flow.TheVariants as flow
-use Rattle.aml_meaning.specs.declared.store_target.Held.{Held}
-use Rattle.aml_meaning.specs.declared.store_target.Held.TheVariants as held
-use Rattle.aml_meaning.specs.declared.store_target.StoreTarget.TheVariants as targets
-use Rattle.aml_meaning.specs.declared.store_target.Stored.TheVariants as store
-use Rattle.aml_meaning.specs.declared.term_kind.Count.{Count}
-use Rattle.aml_meaning.specs.declared.term_kind.Count.TheVariants as count
 use Rattle.aml_meaning.specs.declared.term_kind.TermKind.TheVariants as kinds
 use Rattle.aml_meaning.specs.declared.term_kind.OperatorKind.TheVariants as operators
-use Rattle.aml_meaning.specs.State.{State, on_objects}
-use Rattle.aml_meaning.specs.Run.{Run, lift}
 use Rattle.aml_meaning.specs.Terms.{kind_of}
 use Rattle.aml_meaning.specs.Tasks.{Task, task}
-use Rattle.aml_meaning.specs.Readings.{integer_in}
-use Rattle.aml_meaning.specs.Regions.{integer_of_bits}
-use Rattle.aml_meaning.specs.Fields.{field_integer}
 use Rattle.aml_meaning.specs.FieldCalls.{held_integer, stored_to, stored_back}
-use Rattle.aml_meaning.specs.StoreTargets.{named_once, dereferenced}
-use Rattle.aml_meaning.specs.Stores.{copy_into_element, stored}
 use Rattle.aml_meaning.specs.TargetTerms.{target_of}
-use Rattle.aml_meaning.specs.OperatorTerms.{counted_by, count_rule}
+use Rattle.aml_meaning.specs.OperatorTerms.{count_rule}
 use Rattle.aml_meaning.specs.Evaluation.{rule}
 use Rattle.aml_meaning.specs.Meaning.{meaning}
 use Rattle.aml_laws.specs.NamesCounted.{FindsInteger, of_data, of_field, FindsNoInteger, of_nothing, of_an_object, of_no_value, of_other_data, of_unread_field, CountsName, CountsNoName}
@@ -187,14 +188,14 @@ module _ {S : Type 0} (accesses : Accesses S) (scope : List Seg) (depth : ℕ) (
 
 pub name_increments : {S : Type 0} → CountsName S opcodes.Increment (λ width a m. m ≡ (a + 1) % 2 ^ bits_of width)
 name_increments accesses scope depth u w steps o i after names n home h a end finds es at l =
-    (truncated end.0.width (a + 1), refl, name_counted accesses scope depth u w steps o i after (behind_is accesses scope depth u (w, steps) (targets.Refers (reference.Element o i)) after names) count.Up opcodes.Increment refl n home h a (truncated end.0.width (a + 1)) end finds es at l (next_is end.0 a))
+    (truncated end.0.width (a + 1), refl, name_counted accesses scope depth u w steps o i after (behind_is accesses scope depth u (w, steps) (targets.Refers (reference.Element o i)) after names) count.Increment opcodes.Increment refl n home h a (truncated end.0.width (a + 1)) end finds es at l (next_is end.0 a))
 
 pub name_decrements : {S : Type 0} → CountsName S opcodes.Decrement (λ width a m. (m < 2 ^ bits_of width) × ((m + 1) % 2 ^ bits_of width ≡ a % 2 ^ bits_of width))
 name_decrements accesses scope depth u w steps o i after names n home h a end finds es at l =
-    (less end.0 a, one_less end.0.width a, name_counted accesses scope depth u w steps o i after (behind_is accesses scope depth u (w, steps) (targets.Refers (reference.Element o i)) after names) count.Down opcodes.Decrement refl n home h a (less end.0 a) end finds es at l (before_is end.0 a))
+    (less end.0 a, one_less end.0.width a, name_counted accesses scope depth u w steps o i after (behind_is accesses scope depth u (w, steps) (targets.Refers (reference.Element o i)) after names) count.Decrement opcodes.Decrement refl n home h a (less end.0 a) end finds es at l (before_is end.0 a))
 
 pub name_increments_not : {S : Type 0} → CountsNoName S opcodes.Increment
-name_increments_not accesses scope depth u w steps o i after names n home h x end none = name_kept accesses scope depth u w steps o i after (behind_is accesses scope depth u (w, steps) (targets.Refers (reference.Element o i)) after names) count.Up opcodes.Increment refl n home h x end none
+name_increments_not accesses scope depth u w steps o i after names n home h x end none = name_kept accesses scope depth u w steps o i after (behind_is accesses scope depth u (w, steps) (targets.Refers (reference.Element o i)) after names) count.Increment opcodes.Increment refl n home h x end none
 
 pub name_decrements_not : {S : Type 0} → CountsNoName S opcodes.Decrement
-name_decrements_not accesses scope depth u w steps o i after names n home h x end none = name_kept accesses scope depth u w steps o i after (behind_is accesses scope depth u (w, steps) (targets.Refers (reference.Element o i)) after names) count.Down opcodes.Decrement refl n home h x end none
+name_decrements_not accesses scope depth u w steps o i after names n home h x end none = name_kept accesses scope depth u w steps o i after (behind_is accesses scope depth u (w, steps) (targets.Refers (reference.Element o i)) after names) count.Decrement opcodes.Decrement refl n home h x end none

@@ -15,19 +15,19 @@ use Rattle.aml_objects.specs.declared.value.Slot.{Slot}
 use Rattle.aml_objects.specs.declared.value.Value.{Value}
 use Rattle.aml_objects.specs.declared.value.Value.TheVariants as value
 use Rattle.aml_namespace.specs.Search.{found}
+use Rattle.aml_world.specs.declared.state.invocation.Invocation.TheVariants as invocation
+use Rattle.aml_world.specs.state.State.{State}
+use Rattle.aml_world.specs.state.Run.{lift}
+use Rattle.aml_world.specs.state.Readings.{read_as, entry_found, arguments_found}
+use Rattle.aml_world.specs.state.Invocations.{invocation_of_object, named_use, invocation_found}
+use Rattle.aml_world.specs.values.StoreTargets.{latest_frame, slot_held, own_slot, slot_read}
 use Rattle.aml_meaning.specs.declared.flow.Flow.TheVariants as flow
-use Rattle.aml_meaning.specs.declared.invocation.Invocation.TheVariants as invocation
 use Rattle.aml_meaning.specs.declared.term_kind.TermKind.TheVariants as kinds
 use Rattle.aml_meaning.specs.declared.term_kind.OperatorKind.TheVariants as operators
-use Rattle.aml_meaning.specs.State.{State}
-use Rattle.aml_meaning.specs.Run.{lift}
 use Rattle.aml_meaning.specs.Terms.{kind_of}
 use Rattle.aml_meaning.specs.Tasks.{task}
-use Rattle.aml_meaning.specs.Readings.{read_as, entry_found, arguments_found}
-use Rattle.aml_meaning.specs.Invocations.{invocation_of_object, named_use, invocation_found}
 use Rattle.aml_meaning.specs.InvocationTerms.{name_value}
 use Rattle.aml_meaning.specs.OperatorTerms.{slot_rule}
-use Rattle.aml_meaning.specs.StoreTargets.{latest_frame, slot_held, own_slot, slot_read}
 use Rattle.aml_meaning.specs.Evaluation.{rule}
 use Rattle.aml_meaning.specs.Meaning.{meaning}
 use Rattle.aml_laws.specs.CallTerms.{IsNoMethod}

@@ -20,19 +20,19 @@ use Rattle.aml_objects.specs.declared.value.Value.{Value}
 use Rattle.aml_objects.specs.declared.value.Value.TheVariants as value
 use Rattle.aml_convert.specs.Integers.{bits_of, bytes_of}
 use Rattle.aml_namespace.specs.Search.{found}
+use Rattle.aml_world.specs.declared.values.store_target.Held.{Held}
+use Rattle.aml_world.specs.declared.values.store_target.Held.TheVariants as held
+use Rattle.aml_world.specs.declared.values.store_target.StoreTarget.TheVariants as targets
+use Rattle.aml_world.specs.state.State.{State, on_objects}
+use Rattle.aml_world.specs.state.Run.{lift}
+use Rattle.aml_world.specs.state.Readings.{entry_found}
+use Rattle.aml_world.specs.fields.Regions.{value_of_bits}
+use Rattle.aml_world.specs.fields.Fields.{field_value}
+use Rattle.aml_world.specs.values.StoreTargets.{named_once, name_once, held_once, dereferenced}
 use Rattle.aml_meaning.specs.declared.flow.Flow.TheVariants as flow
-use Rattle.aml_meaning.specs.declared.store_target.Held.{Held}
-use Rattle.aml_meaning.specs.declared.store_target.Held.TheVariants as held
-use Rattle.aml_meaning.specs.declared.store_target.StoreTarget.TheVariants as targets
-use Rattle.aml_meaning.specs.State.{State, on_objects}
-use Rattle.aml_meaning.specs.Run.{lift}
 use Rattle.aml_meaning.specs.Tasks.{task, operand_value, value_at}
-use Rattle.aml_meaning.specs.Readings.{entry_found}
-use Rattle.aml_meaning.specs.Regions.{value_of_bits}
-use Rattle.aml_meaning.specs.Fields.{field_value}
 use Rattle.aml_meaning.specs.FieldCalls.{held_value}
 use Rattle.aml_meaning.specs.OperatorTerms.{dereference_rule}
-use Rattle.aml_meaning.specs.StoreTargets.{named_once, name_once, held_once, dereferenced}
 use Rattle.aml_meaning.specs.Evaluation.{rule}
 use Rattle.aml_meaning.specs.Meaning.{meaning}
 use Rattle.aml_laws.specs.OperatorTerms.{nothing, GivesValue, Gives, IsRefused}

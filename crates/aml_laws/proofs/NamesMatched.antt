@@ -16,15 +16,16 @@ use Rattle.aml_convert.specs.Integers.{bits_of}
 use Rattle.aml_convert.specs.Matching.{is_match}
 use Rattle.aml_convert.specs.declared.matching.MatchOperator.{MatchOperator}
 use Rattle.aml_namespace.specs.Search.{found}
+use Rattle.aml_world.specs.declared.values.searches.Search.{Search}
+use Rattle.aml_world.specs.state.State.{State, on_objects}
+use Rattle.aml_world.specs.state.Run.{Run, lift}
+use Rattle.aml_world.specs.state.Readings.{integer_kept}
+use Rattle.aml_world.specs.values.Operations.{size_held}
+use Rattle.aml_world.specs.values.Searches.{search_begun, name_held, element_held, meets}
 use Rattle.aml_meaning.specs.declared.flow.Flow.{Flow}
 use Rattle.aml_meaning.specs.declared.flow.Flow.TheVariants as flow
-use Rattle.aml_meaning.specs.declared.searches.Search.{Search}
-use Rattle.aml_meaning.specs.State.{State, on_objects}
-use Rattle.aml_meaning.specs.Run.{Run, lift}
-use Rattle.aml_meaning.specs.Readings.{integer_kept}
-use Rattle.aml_meaning.specs.Operations.{size_held}
 use Rattle.aml_meaning.specs.Tasks.{task, operand_value, value_at}
-use Rattle.aml_meaning.specs.MatchTerms.{search_begun, name_held, element_held, meets, found_or, none_matches, held_meets, element_meets, searched_last, match_rule}
+use Rattle.aml_meaning.specs.MatchTerms.{found_or, none_matches, held_meets, element_meets, searched_last, match_rule}
 use Rattle.aml_meaning.specs.Evaluation.{rule}
 use Rattle.aml_meaning.specs.Meaning.{meaning}
 use Rattle.aml_laws.specs.OperatorTerms.{Gives}

@@ -9,14 +9,14 @@ use Rattle.aml_path.specs.Paths.{Name}
 use Rattle.aml_grammar.specs.Tree.{Tree}
 use Rattle.aml_objects.specs.declared.value.Value.{Value}
 use Rattle.aml_namespace.specs.Search.{found}
+use Rattle.aml_world.specs.state.Given.{Given}
+use Rattle.aml_world.specs.state.Invocations.{invocation_found}
+use Rattle.aml_world.specs.state.Readings.{entry_found, arguments_found}
+use Rattle.aml_world.specs.state.Run.{lift}
+use Rattle.aml_world.specs.state.State.{State}
 use Rattle.aml_meaning.specs.Calling.{called, answer_exported, answered}
 use Rattle.aml_meaning.specs.Evaluation.{rule}
-use Rattle.aml_meaning.specs.Given.{Given}
 use Rattle.aml_meaning.specs.InvocationTerms.{name_value}
-use Rattle.aml_meaning.specs.Invocations.{invocation_found}
-use Rattle.aml_meaning.specs.Readings.{entry_found, arguments_found}
-use Rattle.aml_meaning.specs.Run.{lift}
-use Rattle.aml_meaning.specs.State.{State}
 use Rattle.aml_meaning.specs.Tasks.{task}
 use Rattle.aml_laws.specs.CallTerms.{call_of}
 use Rattle.aml_laws.specs.Ends.{EndsAs}

@@ -18,7 +18,7 @@ use Rattle.aml_objects.specs.declared.entry.OperationRegion.{OperationRegion}
 use Rattle.aml_namespace.specs.Namespace.{Map, Namespace}
 use Rattle.aml_namespace.specs.Numbering.{Numbered}
 use Rattle.aml_namespace.proofs.Paths.{path_total}
-use Rattle.aml_meaning.specs.State.{State}
+use Rattle.aml_world.specs.state.State.{State}
 use Rattle.aml_laws.specs.Becomes.{Becomes}
 use Rattle.aml_laws.specs.Noted.{WithNotes, noted}
 use Rattle.aml_laws.specs.Histories.{numbered_entry, with_declaration, RegionStands, FieldUnitStands, IsOfField, scope_of, TakesPlaceOf, StandsAlike, SameSettings, with_frame, MethodStands, GoneBelow, History, same, changed, declared, call_ended, framed, field_stands, read, written, bridge_asked, place_of, width_of, IsDeclared, asks, IsExplained, NotesExplained, NumberStands, NoneRemoved}

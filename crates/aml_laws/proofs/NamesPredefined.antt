@@ -7,10 +7,10 @@ use Rattle.std.specs.FinMap.{get, insert, empty, get-insert, get-empty}
 use Rattle.ar_space.specs.Change.{settle, give, go_on, ◌>>=◌}
 use Rattle.ar_space.specs.Outcome.{Outcome}
 use Rattle.ar_space.specs.declared.integer_width.IntegerWidth.{IntegerWidth}
-use Rattle.aml_grammar.specs.Arities.{is_of, or_else, latest, arity_at}
-use Rattle.aml_grammar.specs.declared.arities.Arity.{Arity}
+use Rattle.aml_arities.specs.Arities.{is_of, or_else, latest, arity_at}
+use Rattle.aml_arities.specs.declared.arities.Arity.{Arity}
 use Rattle.aml_path.specs.Paths.{path_cmp, path_eq}
-use Rattle.aml_grammar.proofs.PathTrees.{tied}
+use Rattle.aml_arities.proofs.PathTrees.{tied}
 use Rattle.aml_path.specs.Segments.{seg_of}
 use Rattle.aml_path.specs.declared.segment.Seg.{Seg}
 use Rattle.aml_objects.specs.Objects.{make, fits, make_string}
@@ -23,9 +23,9 @@ use Rattle.aml_objects.specs.declared.object.Object.TheVariants as object
 use Rattle.aml_objects.specs.declared.value.Value.TheVariants as value
 use Rattle.aml_namespace.specs.Namespace.{declared}
 use Rattle.aml_namespace.proofs.Paths.{path_total, same_path}
-use Rattle.aml_meaning.specs.declared.settings.EvaluationSettings.{EvaluationSettings}
-use Rattle.aml_meaning.specs.State.{State, on_objects, on_names}
-use Rattle.aml_meaning.specs.Predefined.{fresh_as, takes, at_root, predefined_scopes, predefined_objects, predefined}
+use Rattle.aml_world.specs.declared.state.settings.EvaluationSettings.{EvaluationSettings}
+use Rattle.aml_world.specs.state.State.{State, on_objects, on_names}
+use Rattle.aml_world.specs.state.Predefined.{fresh_as, takes, at_root, predefined_scopes, predefined_objects, predefined}
 use Rattle.aml_laws.specs.PredefinedNames.{IsPredefined, events, processors, system_bus, indicators, thermal_zones, global_lock, operating_system, revision, interfaces, StandsAtRoot, IsRoot, IsPathOfPredefined}
 
 -- ---- names that were put one after another, the latest first

@@ -19,16 +19,16 @@ use Rattle.aml_objects.specs.declared.value.Value.{Value}
 use Rattle.aml_objects.specs.declared.value.Value.TheVariants as value
 use Rattle.aml_convert.specs.Integers.{bits_of}
 use Rattle.aml_namespace.specs.Search.{found}
+use Rattle.aml_world.specs.declared.values.store_target.StoreTarget.TheVariants as targets
+use Rattle.aml_world.specs.state.State.{State}
+use Rattle.aml_world.specs.state.Run.{lift}
+use Rattle.aml_world.specs.state.Readings.{integer_kept}
+use Rattle.aml_world.specs.values.Stores.{stored}
+use Rattle.aml_world.specs.values.StoreTargets.{latest_frame, frame_found, slot_held, frame_number, slot_reference, unless_empty, slot_initialized, where_found, reference_if_found}
 use Rattle.aml_meaning.specs.declared.flow.Flow.{Flow}
 use Rattle.aml_meaning.specs.declared.flow.Flow.TheVariants as flow
-use Rattle.aml_meaning.specs.declared.store_target.StoreTarget.TheVariants as targets
-use Rattle.aml_meaning.specs.State.{State}
-use Rattle.aml_meaning.specs.Run.{lift}
 use Rattle.aml_meaning.specs.Tasks.{task}
-use Rattle.aml_meaning.specs.Readings.{integer_kept}
-use Rattle.aml_meaning.specs.Stores.{stored}
 use Rattle.aml_meaning.specs.OperatorTerms.{sought_name, sought_target, sought, reference_stored, conditional_rule}
-use Rattle.aml_meaning.specs.StoreTargets.{latest_frame, frame_found, slot_held, frame_number, slot_reference, unless_empty, slot_initialized, where_found, reference_if_found}
 use Rattle.aml_meaning.specs.Evaluation.{rule}
 use Rattle.aml_meaning.specs.Meaning.{meaning}
 use Rattle.aml_laws.specs.OperatorTerms.{alone, NamesSlot, slot, SlotHolds, SlotIsEmpty, Gives, IsRefused}

@@ -16,16 +16,16 @@ use Rattle.aml_objects.specs.declared.value.Reference.TheVariants as reference
 use Rattle.aml_objects.specs.declared.value.Value.{Value}
 use Rattle.aml_objects.specs.declared.value.Value.TheVariants as value
 use Rattle.aml_namespace.specs.Search.{found}
+use Rattle.aml_world.specs.declared.values.object_type.Referent.TheVariants as referent
+use Rattle.aml_world.specs.declared.values.store_target.StoreTarget.TheVariants as targets
+use Rattle.aml_world.specs.state.State.{State, on_objects}
+use Rattle.aml_world.specs.state.Run.{lift}
+use Rattle.aml_world.specs.state.Readings.{entry_found}
+use Rattle.aml_world.specs.values.Operations.{type_number, type_of_referent}
+use Rattle.aml_world.specs.values.StoreTargets.{name_followed, held_followed, followed}
 use Rattle.aml_meaning.specs.declared.flow.Flow.TheVariants as flow
-use Rattle.aml_meaning.specs.declared.object_type.Referent.TheVariants as referent
-use Rattle.aml_meaning.specs.declared.store_target.StoreTarget.TheVariants as targets
-use Rattle.aml_meaning.specs.State.{State, on_objects}
-use Rattle.aml_meaning.specs.Run.{lift}
 use Rattle.aml_meaning.specs.Tasks.{task, operand_value}
-use Rattle.aml_meaning.specs.Readings.{entry_found}
-use Rattle.aml_meaning.specs.Operations.{type_number, type_of_referent}
 use Rattle.aml_meaning.specs.OperatorTerms.{referent_of_value, type_rule}
-use Rattle.aml_meaning.specs.StoreTargets.{name_followed, held_followed, followed}
 use Rattle.aml_meaning.specs.Evaluation.{rule}
 use Rattle.aml_meaning.specs.Meaning.{meaning}
 use Rattle.aml_laws.specs.OperatorTerms.{two_to, nothing, Gives}

@@ -18,18 +18,19 @@ use Rattle.aml_convert.specs.Integers.{bits_of}
 use Rattle.aml_convert.specs.Conversions.{to_integer_of}
 use Rattle.aml_objects.specs.Contents as contents
 use Rattle.aml_namespace.specs.Namespace.{numbered}
-use Rattle.aml_meaning.specs.declared.invocation.Invocation.{Invocation}
-use Rattle.aml_meaning.specs.declared.invocation.Invocation.TheVariants as invocation
-use Rattle.aml_meaning.specs.declared.name_use.NameUse.{NameUse}
-use Rattle.aml_meaning.specs.declared.name_use.NameUse.TheVariants as uses
-use Rattle.aml_meaning.specs.Given as given
-use Rattle.aml_meaning.specs.Given.{Given, Givens, givens}
-use Rattle.aml_meaning.specs.State.{State, on_objects}
-use Rattle.aml_meaning.specs.Run.{lift}
-use Rattle.aml_meaning.specs.Regions.{given_of_bits}
-use Rattle.aml_meaning.specs.Fields.{field_given}
-use Rattle.aml_meaning.specs.Importing.{imported_by, each_imported, elements_imported, package_imported, taken_back, imported}
-use Rattle.aml_meaning.specs.Exporting.{standing, path_of, text_exported, bytes_exported, reference_exported, field_exported, value_exported, use_exported, name_exported, held_exported, element_exported, each_exported, elements_exported, package_exported, exported}
+use Rattle.aml_world.specs.declared.state.invocation.Invocation.{Invocation}
+use Rattle.aml_world.specs.declared.state.invocation.Invocation.TheVariants as invocation
+use Rattle.aml_world.specs.declared.state.name_use.NameUse.{NameUse}
+use Rattle.aml_world.specs.declared.state.name_use.NameUse.TheVariants as uses
+use Rattle.aml_world.specs.state.Given as given
+use Rattle.aml_world.specs.state.Given.{Given, Givens, givens}
+use Rattle.aml_world.specs.state.State.{State, on_objects}
+use Rattle.aml_world.specs.state.Run.{lift}
+use Rattle.aml_world.specs.fields.Regions.{given_of_bits}
+use Rattle.aml_world.specs.fields.Fields.{field_given}
+use Rattle.aml_world.specs.state.Importing.{imported_by, each_imported, elements_imported, package_imported, taken_back, imported}
+use Rattle.aml_world.specs.state.NameUses.{standing, path_of}
+use Rattle.aml_meaning.specs.Exporting.{text_exported, bytes_exported, reference_exported, field_exported, value_exported, use_exported, name_exported, held_exported, element_exported, each_exported, elements_exported, package_exported, exported}
 use Rattle.aml_meaning.specs.Calling.{ending, with_steps, invocation_exported, answer_exported, answered}
 use Rattle.aml_laws.specs.AllWithin.{Each}
 use Rattle.aml_laws.specs.HandedIn.{NestsWithin, AllNestWithin}

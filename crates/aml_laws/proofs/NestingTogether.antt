@@ -8,13 +8,13 @@ use Rattle.ar_space.specs.declared.refusal.Refusal.{Refusal}
 use Rattle.ar_space.specs.declared.refusal.Refusal.TheVariants as refusal
 use Rattle.ar_space.specs.declared.refusal.EvaluationFault.TheVariants.{CallDepth, DepthSetting}
 use Rattle.aml_path.specs.declared.segment.Seg.{Seg}
-use Rattle.aml_grammar.specs.declared.arities.Arity.{Arity}
+use Rattle.aml_arities.specs.declared.arities.Arity.{Arity}
 use Rattle.aml_grammar.specs.Shape.{trees_of}
 use Rattle.aml_grammar.specs.Grammar.{reading_within, table_reading_within}
-use Rattle.aml_marked.proofs.FewerLevels.{reading_less, table_less}
-use Rattle.aml_meaning.specs.declared.settings.Nesting.{Nesting}
-use Rattle.aml_meaning.specs.State.{State}
-use Rattle.aml_meaning.specs.Invocations.{body_terms, body_arities, call_allowed, call_allowed_within}
+use Rattle.aml_marks.proofs.FewerLevels.{reading_less, table_less}
+use Rattle.aml_world.specs.declared.state.settings.Nesting.{Nesting}
+use Rattle.aml_world.specs.state.State.{State}
+use Rattle.aml_world.specs.state.Invocations.{body_terms, body_arities, call_allowed, call_allowed_within}
 use Rattle.aml_laws.proofs.Together.{Sides, Deepens, Together, Comes, IsEnded}
 use Rattle.aml_laws.proofs.WorldsTogether.{world_over, worlds}
 

@@ -8,12 +8,12 @@ use Rattle.ar_space.specs.declared.integer_width.IntegerWidth.{IntegerWidth}
 use Rattle.ar_space.specs.declared.refusal.Refusal.{Refusal}
 use Rattle.ar_space.specs.Accesses.{Accesses}
 use Rattle.aml_path.specs.declared.segment.Seg.{Seg}
-use Rattle.aml_meaning.specs.declared.passed_over.PassedItem.{PassedItem}
-use Rattle.aml_meaning.specs.declared.settings.EvaluationSettings.{EvaluationSettings}
-use Rattle.aml_meaning.specs.PassedOver.{PassedOver, kept_with, counted_on, passed_with}
-use Rattle.aml_meaning.specs.Passing.{with_passed}
-use Rattle.aml_meaning.specs.Predefined.{fresh_as, predefined}
-use Rattle.aml_meaning.specs.State.{State}
+use Rattle.aml_world.specs.declared.state.passed_over.PassedItem.{PassedItem}
+use Rattle.aml_world.specs.declared.state.settings.EvaluationSettings.{EvaluationSettings}
+use Rattle.aml_world.specs.state.PassedOver.{PassedOver, kept_with, counted_on, passed_with}
+use Rattle.aml_world.specs.state.Noting.{with_passed}
+use Rattle.aml_world.specs.state.Predefined.{fresh_as, predefined}
+use Rattle.aml_world.specs.state.State.{State}
 use Rattle.aml_laws.specs.Becomes.{Becomes}
 use Rattle.aml_laws.specs.PassedNotes.{KeepsTheFirst, with_one_more, GoesOn}
 use Rattle.aml_laws.proofs.WorldRelations.{WorldRelation, plain}

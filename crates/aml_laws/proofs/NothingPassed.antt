@@ -2,8 +2,8 @@
 use Rattle.std.specs.Prelude.{◌≡◌, true, false, refl}
 use Rattle.std.proofs.Common.{sym, ◌∙◌}
 use Rattle.ar_space.specs.Accesses.{Accesses}
-use Rattle.aml_meaning.specs.declared.profile.Profile.TheVariants as profiles
-use Rattle.aml_meaning.specs.State.{State}
+use Rattle.aml_world.specs.declared.state.profile.Profile.TheVariants as profiles
+use Rattle.aml_world.specs.state.State.{State}
 use Rattle.aml_laws.specs.Becomes.{Becomes}
 use Rattle.aml_laws.proofs.WorldRelations.{WorldRelation, plain}
 use Rattle.aml_laws.proofs.EvaluationsPreserve.{becomes_preserves}

@@ -3,7 +3,7 @@ use Rattle.std.specs.Prelude.{◌≤◌, true, false, refl}
 use Rattle.std.proofs.Common.{arith}
 use Rattle.ar_space.specs.Accesses.{Accesses}
 use Rattle.aml_namespace.specs.Namespace.{without_below, mutexes_released}
-use Rattle.aml_meaning.specs.State.{State}
+use Rattle.aml_world.specs.state.State.{State}
 use Rattle.aml_laws.specs.Becomes.{Becomes}
 use Rattle.aml_laws.proofs.WorldRelations.{WorldRelation, plain}
 use Rattle.aml_laws.proofs.EvaluationsPreserve.{becomes_preserves}

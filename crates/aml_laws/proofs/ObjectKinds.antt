@@ -15,7 +15,7 @@ use Rattle.aml_objects.specs.declared.entry.BufferField.{BufferField}
 use Rattle.aml_objects.specs.Objects.{Objects, make, make_string, make_buffer, make_package, string_at, buffer_at, elements_at, with_sized, with_buffer, write_buffer, with_string, write_string, byte_written, with_byte, write_byte, exchanged_with, with_exchanged, exchange_buffer, element_at, byte_at, element_there, element_written, with_element, write_element}
 use Rattle.aml_objects.specs.Copies.{string_copy, buffer_copy, value_copy, held_copy, element_copy, copies_of, whole_copy, package_copy, if_whole, whole, copied}
 use Rattle.aml_fields.specs.BufferFields.{new_buffer_field, read_buffer_field, write_buffer_field}
-use Rattle.aml_meaning.specs.declared.object_type.ObjectType.{ObjectType}
+use Rattle.aml_world.specs.declared.values.object_type.ObjectType.{ObjectType}
 use Rattle.aml_laws.specs.Kinds.{kind_of, kind_at, KeepsKinds}
 use Rattle.aml_laws.proofs.LimitsRefused.{object_made, object_refused}
 use Rattle.aml_laws.proofs.Preorders.{either_branch, Preorder, Respects, give_respects, settle_respects, stop_respects, then_respects}

@@ -1,7 +1,7 @@
 -- After every evaluation objects have their numbers and their kinds.
 use Rattle.std.specs.Prelude.{true, false, refl}
 use Rattle.ar_space.specs.Accesses.{Accesses}
-use Rattle.aml_meaning.specs.State.{State}
+use Rattle.aml_world.specs.state.State.{State}
 use Rattle.aml_laws.specs.Becomes.{Becomes}
 use Rattle.aml_laws.specs.Kinds.{KeepsKinds}
 use Rattle.aml_laws.proofs.ObjectKinds.{kinds_reflexive, kinds_transitive}

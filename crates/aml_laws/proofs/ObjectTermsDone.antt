@@ -16,22 +16,22 @@ use Rattle.aml_objects.specs.declared.value.Reference.{Reference}
 use Rattle.aml_objects.specs.declared.value.Value.{Value}
 use Rattle.aml_objects.specs.declared.value.Value.TheVariants as value
 use Rattle.aml_namespace.specs.Search.{found}
+use Rattle.aml_world.specs.declared.state.profile.Profile.TheVariants as profiles
+use Rattle.aml_world.specs.declared.values.store_target.StoreTarget.{StoreTarget}
+use Rattle.aml_world.specs.declared.values.operation_kind.EventChange.{EventChange}
+use Rattle.aml_world.specs.declared.values.operation_kind.EventChange.TheVariants as changes
+use Rattle.aml_world.specs.state.State.{State}
+use Rattle.aml_world.specs.state.Run.{lift}
+use Rattle.aml_world.specs.state.Readings.{path_found}
+use Rattle.aml_world.specs.values.StoreTargets.{target_named, reference_of}
+use Rattle.aml_world.specs.state.Mutexes.{acquired_at, given_back_at}
+use Rattle.aml_world.specs.state.Events.{event_named, event_changed, waited}
 use Rattle.aml_meaning.specs.declared.flow.Flow.TheVariants as flow
-use Rattle.aml_meaning.specs.declared.profile.Profile.TheVariants as profiles
-use Rattle.aml_meaning.specs.declared.store_target.StoreTarget.{StoreTarget}
-use Rattle.aml_meaning.specs.declared.term_kind.EventChange.{EventChange}
-use Rattle.aml_meaning.specs.declared.term_kind.EventChange.TheVariants as changes
 use Rattle.aml_meaning.specs.declared.term_kind.TermKind.TheVariants as kinds
 use Rattle.aml_meaning.specs.declared.term_kind.WideKind.TheVariants as wide
-use Rattle.aml_meaning.specs.State.{State}
-use Rattle.aml_meaning.specs.Run.{lift}
 use Rattle.aml_meaning.specs.Terms.{kind_of}
 use Rattle.aml_meaning.specs.Tasks.{task, operand_value, value_at}
-use Rattle.aml_meaning.specs.Readings.{path_found}
-use Rattle.aml_meaning.specs.TargetTerms.{target_named, name_target}
-use Rattle.aml_meaning.specs.StoreTargets.{reference_of}
-use Rattle.aml_meaning.specs.Mutexes.{acquired_at, given_back_at}
-use Rattle.aml_meaning.specs.Events.{event_named, event_changed, waited}
+use Rattle.aml_meaning.specs.TargetTerms.{name_target}
 use Rattle.aml_meaning.specs.OperatorTerms.{acquire_rule, reference_rule}
 use Rattle.aml_meaning.specs.StatementTerms.{release_rule, notify_rule, pause_rule, fatal_rule}
 use Rattle.aml_meaning.specs.WideTerms.{in_wide, event_rule, wait_rule}

@@ -18,19 +18,19 @@ use Rattle.aml_objects.specs.declared.value.Value.{Value}
 use Rattle.aml_objects.specs.declared.value.Value.TheVariants as value
 use Rattle.aml_convert.specs.Integers.{bits_of, bytes_of}
 use Rattle.aml_namespace.specs.Search.{found}
+use Rattle.aml_world.specs.fields.Fields.{field_value, field_given}
+use Rattle.aml_world.specs.state.Given as given
+use Rattle.aml_world.specs.state.Given.{Given}
+use Rattle.aml_world.specs.state.Importing.{all_imported}
+use Rattle.aml_world.specs.state.Invocations.{named_use, invocation_found}
+use Rattle.aml_world.specs.state.Readings.{arguments_of, entry_found, arguments_found}
+use Rattle.aml_world.specs.fields.Regions.{given_of_bits, value_of_bits}
+use Rattle.aml_world.specs.state.Run.{lift}
+use Rattle.aml_world.specs.state.State.{State}
 use Rattle.aml_meaning.specs.Calling.{called, answer_exported, answered}
 use Rattle.aml_meaning.specs.Exporting.{exported, field_exported}
 use Rattle.aml_meaning.specs.FieldCalls.{field_read}
-use Rattle.aml_meaning.specs.Fields.{field_value, field_given}
-use Rattle.aml_meaning.specs.Given as given
-use Rattle.aml_meaning.specs.Given.{Given}
-use Rattle.aml_meaning.specs.Importing.{all_imported}
-use Rattle.aml_meaning.specs.Invocations.{named_use, invocation_found}
 use Rattle.aml_meaning.specs.Meaning.{meaning}
-use Rattle.aml_meaning.specs.Readings.{arguments_of, entry_found, arguments_found}
-use Rattle.aml_meaning.specs.Regions.{given_of_bits, value_of_bits}
-use Rattle.aml_meaning.specs.Run.{lift}
-use Rattle.aml_meaning.specs.State.{State}
 use Rattle.aml_laws.specs.CallTerms.{IsNoMethod}
 use Rattle.aml_laws.specs.Ends.{EndsAs}
 use Rattle.aml_laws.specs.FieldNames.{IsField, of_unit, of_buffer, NamesField, bits_read_at}

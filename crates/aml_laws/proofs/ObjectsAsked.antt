@@ -18,20 +18,20 @@ use Rattle.aml_objects.specs.declared.value.Reference.{Reference}
 use Rattle.aml_objects.specs.declared.value.Slot.{Slot}
 use Rattle.aml_objects.specs.declared.value.Value.{Value}
 use Rattle.aml_objects.specs.declared.value.Value.TheVariants as value
+use Rattle.aml_world.specs.declared.values.object_type.ObjectType.{ObjectType}
+use Rattle.aml_world.specs.declared.values.object_type.ObjectType.TheVariants as types
+use Rattle.aml_world.specs.declared.values.object_type.Referent.{Referent}
+use Rattle.aml_world.specs.declared.values.object_type.Referent.TheVariants as referent
+use Rattle.aml_world.specs.declared.values.store_target.StoreTarget.{StoreTarget}
+use Rattle.aml_world.specs.declared.values.store_target.StoreTarget.TheVariants as targets
+use Rattle.aml_world.specs.state.State.{State}
+use Rattle.aml_world.specs.state.Run.{lift}
+use Rattle.aml_world.specs.values.Operations.{type_number, type_of_value, size_in}
+use Rattle.aml_world.specs.values.StoreTargets.{latest_frame, slot_held, own_slot, referent_of, value_followed, referent_followed, followed, most_references, slot_referent, declared_referent, name_referent, target_referent}
 use Rattle.aml_meaning.specs.declared.flow.Flow.TheVariants as flow
-use Rattle.aml_meaning.specs.declared.object_type.ObjectType.{ObjectType}
-use Rattle.aml_meaning.specs.declared.object_type.ObjectType.TheVariants as types
-use Rattle.aml_meaning.specs.declared.object_type.Referent.{Referent}
-use Rattle.aml_meaning.specs.declared.object_type.Referent.TheVariants as referent
-use Rattle.aml_meaning.specs.declared.store_target.StoreTarget.{StoreTarget}
-use Rattle.aml_meaning.specs.declared.store_target.StoreTarget.TheVariants as targets
-use Rattle.aml_meaning.specs.State.{State}
-use Rattle.aml_meaning.specs.Run.{lift}
 use Rattle.aml_meaning.specs.Tasks.{task}
-use Rattle.aml_meaning.specs.Operations.{type_number, type_of_value, size_in}
 use Rattle.aml_meaning.specs.FieldCalls.{referent_read}
 use Rattle.aml_meaning.specs.OperatorTerms.{referent_of_target, referent_at, size_rule, type_rule}
-use Rattle.aml_meaning.specs.StoreTargets.{latest_frame, slot_held, own_slot, referent_of, value_followed, referent_followed, followed, most_references, slot_referent, declared_referent, name_referent, target_referent}
 use Rattle.aml_meaning.specs.Evaluation.{rule}
 use Rattle.aml_meaning.specs.Meaning.{meaning}
 use Rattle.aml_laws.specs.OperatorTerms.{alone, counting, NamesTarget, nothing, debug, slot, named, SlotHolds, SlotIsEmpty, TargetHolds, in_slot, in_name, Gives, IsRefused}

@@ -13,19 +13,19 @@ use Rattle.aml_grammar.specs.declared.opcode.Opcode.TheVariants as opcodes
 use Rattle.aml_grammar.specs.Tree.{Tree, Trees, name, number, inner, list, Parts, no_parts, part}
 use Rattle.aml_objects.specs.declared.value.Value.{Value}
 use Rattle.aml_convert.specs.declared.operators.BinaryOperator.{BinaryOperator}
-use Rattle.aml_meaning.specs.declared.profile.Profile.TheVariants as profiles
-use Rattle.aml_meaning.specs.declared.term_kind.Conversion.{Conversion}
-use Rattle.aml_meaning.specs.declared.term_kind.Conversion.TheVariants as conversions
+use Rattle.aml_world.specs.declared.state.profile.Profile.TheVariants as profiles
+use Rattle.aml_world.specs.declared.values.operation_kind.Conversion.{Conversion}
+use Rattle.aml_world.specs.declared.values.operation_kind.Conversion.TheVariants as conversions
+use Rattle.aml_world.specs.state.State.{State}
 use Rattle.aml_meaning.specs.declared.term_kind.TermKind.TheVariants as kinds
 use Rattle.aml_meaning.specs.declared.term_kind.WideKind.TheVariants as wide
-use Rattle.aml_meaning.specs.State.{State}
 use Rattle.aml_meaning.specs.Terms.{kind_of}
 use Rattle.aml_meaning.specs.Tasks.{task, operand_value, operand_integer, value_at, two_values}
 use Rattle.aml_meaning.specs.DataTerms.{buffer_rule, var_package_rule}
 use Rattle.aml_meaning.specs.DeclarationTerms.{name_rule}
 use Rattle.aml_meaning.specs.FieldTerms.{region_rule, sized_field_rule, bits_field_rule}
 use Rattle.aml_meaning.specs.MatchTerms.{match_rule}
-use Rattle.aml_meaning.specs.OperatorTerms.{one_rule, not_rule, store_rule, copy_rule, dereference_rule, two_rule, divide_rule, test_rule}
+use Rattle.aml_meaning.specs.OperatorTerms.{one_rule, lnot_rule, store_rule, copy_rule, dereference_rule, two_rule, divide_rule, test_rule}
 use Rattle.aml_meaning.specs.StatementTerms.{if_rule, while_rule, loop, turns, turn, return_rule, pause_rule, fatal_rule}
 use Rattle.aml_meaning.specs.WideTerms.{wide_rule, convert_rule, to_string_rule, middle_rule}
 use Rattle.aml_meaning.specs.Evaluation.{rule}
@@ -33,7 +33,7 @@ use Rattle.aml_meaning.specs.Meaning.{meaning}
 use Rattle.aml_laws.specs.BufferFieldTerms.{HasSize, of_bit, of_byte, of_word, of_double_word, of_quad_word}
 use Rattle.aml_laws.specs.IntegersOfValues.{TakesIntegers}
 use Rattle.aml_laws.specs.MatchedTerms.{match}
-use Rattle.aml_laws.specs.OperandTerms.{TakesFirst, by_not, by_highest_bit, by_lowest_bit, by_to_buffer, by_to_integer, by_negation, by_store, by_copy, by_dereference, by_return, by_sleep, by_stall, by_size_of_buffer, by_size_of_package, by_decimal_string, by_hexadecimal_string, from_coded_decimal, to_coded_decimal, AsksCondition, by_if, by_while, TakesTwo, by_integers, by_buffer_field, by_join, by_join_of_resources, by_index, by_division, by_and, by_or, by_equal, by_greater, by_less, by_string, TakesThree, by_bits, by_part, TakesValues, of_first, of_condition, of_two, of_three, of_match, of_region, of_name, of_fatal, ComesTo, this_one, a_later_one}
+use Rattle.aml_laws.specs.OperandTerms.{TakesFirst, by_not, by_highest_bit, by_lowest_bit, by_to_buffer, by_to_integer, by_lnot, by_store, by_copy, by_dereference, by_return, by_sleep, by_stall, by_size_of_buffer, by_size_of_package, by_decimal_string, by_hexadecimal_string, from_coded_decimal, to_coded_decimal, AsksCondition, by_if, by_while, TakesTwo, by_integers, by_buffer_field, by_join, by_join_of_resources, by_index, by_division, by_and, by_or, by_equal, by_greater, by_less, by_string, TakesThree, by_bits, by_part, TakesValues, of_first, of_condition, of_two, of_three, of_match, of_region, of_name, of_fatal, ComesTo, this_one, a_later_one}
 use Rattle.aml_laws.specs.OperatorTerms.{of_opcode, GivesValue, GivesNothing, IsRefused}
 use Rattle.aml_laws.specs.RegionTerms.{operation_region}
 use Rattle.aml_laws.proofs.OperandsRefused.{IsKind, kind_taken}
@@ -89,13 +89,13 @@ module _ {S : Type 0} (accesses : Accesses S) (scope : List Seg) (depth : ℕ) w
         converting kind is_wide is = conversion_asked kind is_wide ∙ conversion_stops is
 
       first_stops : (op : Opcode) → TakesFirst w.profile op → (x : Tree) (ps : Parts) → Stops x (w, steps) e after → RuleStops (of_opcode op (part (inner x) ps))
-      unfolding rule one_rule not_rule store_rule copy_rule dereference_rule return_rule pause_rule buffer_rule var_package_rule operand_integer value_at settle go_on ◌>>=◌
+      unfolding rule one_rule lnot_rule store_rule copy_rule dereference_rule return_rule pause_rule buffer_rule var_package_rule operand_integer value_at settle go_on ◌>>=◌
       first_stops _ by_not x ps is = rw is refl
       first_stops _ by_highest_bit x ps is = rw is refl
       first_stops _ by_lowest_bit x ps is = rw is refl
       first_stops _ by_to_buffer x ps is = rw is refl
       first_stops _ by_to_integer x ps is = rw is refl
-      first_stops _ by_negation x ps is = rw is refl
+      first_stops _ by_lnot x ps is = rw is refl
       first_stops _ by_store x ps is = rw is refl
       first_stops _ by_copy x ps is = rw is refl
       first_stops _ by_dereference x ps is = rw is refl

@@ -17,26 +17,27 @@ use Rattle.aml_objects.specs.declared.value.Value.TheVariants as value
 use Rattle.aml_convert.specs.declared.operators.BinaryOperator.{BinaryOperator}
 use Rattle.aml_convert.specs.declared.operators.UnaryOperator.{UnaryOperator}
 use Rattle.aml_convert.specs.Operators.{result_of, unary_result_of}
+use Rattle.aml_world.specs.declared.values.store_target.StoreTarget.{StoreTarget}
+use Rattle.aml_world.specs.declared.values.store_target.Stored.TheVariants as store
+use Rattle.aml_world.specs.declared.values.operation_kind.TwoOperands.{TwoOperands}
+use Rattle.aml_world.specs.declared.values.operation_kind.TwoOperands.TheVariants as two
+use Rattle.aml_world.specs.declared.values.operation_kind.OneOperand.{OneOperand}
+use Rattle.aml_world.specs.declared.values.operation_kind.OneOperand.TheVariants as one
+use Rattle.aml_world.specs.state.State.{State}
+use Rattle.aml_world.specs.state.Run.{Run, lift}
+use Rattle.aml_world.specs.values.Stores.{stored}
+use Rattle.aml_world.specs.state.Readings.{integer_in, path_found}
+use Rattle.aml_world.specs.values.Operations.{as_integer, integers_operated, operated, integer_operated, operated_on_one, result_of_two, result_of_one}
+use Rattle.aml_world.specs.values.StoreTargets.{target_named}
 use Rattle.aml_meaning.specs.declared.flow.Flow.{Flow}
 use Rattle.aml_meaning.specs.declared.flow.Flow.TheVariants as flow
-use Rattle.aml_meaning.specs.declared.store_target.StoreTarget.{StoreTarget}
-use Rattle.aml_meaning.specs.declared.store_target.TargetKind.TheVariants as target_kinds
-use Rattle.aml_meaning.specs.declared.store_target.Stored.TheVariants as store
+use Rattle.aml_meaning.specs.declared.term_kind.TargetKind.TheVariants as target_kinds
 use Rattle.aml_meaning.specs.declared.term_kind.TermKind.TheVariants as kinds
 use Rattle.aml_meaning.specs.declared.term_kind.OperatorKind.TheVariants as operators
-use Rattle.aml_meaning.specs.declared.term_kind.TwoOperands.{TwoOperands}
-use Rattle.aml_meaning.specs.declared.term_kind.TwoOperands.TheVariants as two
-use Rattle.aml_meaning.specs.declared.term_kind.OneOperand.{OneOperand}
-use Rattle.aml_meaning.specs.declared.term_kind.OneOperand.TheVariants as one
-use Rattle.aml_meaning.specs.State.{State}
-use Rattle.aml_meaning.specs.Run.{Run, lift}
-use Rattle.aml_meaning.specs.Stores.{stored}
 use Rattle.aml_meaning.specs.Terms.{kind_of, target_kind}
 use Rattle.aml_meaning.specs.Tasks.{task, operand_value, value_at, two_values}
-use Rattle.aml_meaning.specs.Readings.{integer_in, path_found}
-use Rattle.aml_meaning.specs.Operations.{as_integer, integers_operated, operated, integer_operated, operated_on_one}
-use Rattle.aml_meaning.specs.OperatorTerms.{result_of_two, two_rule, result_of_one, one_rule}
-use Rattle.aml_meaning.specs.TargetTerms.{target_named, name_target, target_of, target_at, targeted}
+use Rattle.aml_meaning.specs.OperatorTerms.{two_rule, one_rule}
+use Rattle.aml_meaning.specs.TargetTerms.{name_target, target_of, target_at, targeted}
 use Rattle.aml_meaning.specs.FieldCalls.{stored_to}
 use Rattle.aml_meaning.specs.Evaluation.{rule}
 use Rattle.aml_meaning.specs.Meaning.{meaning}

@@ -23,14 +23,14 @@ use Rattle.aml_objects.specs.declared.object.Object.TheVariants as object
 use Rattle.aml_objects.specs.declared.value.Value.{Value}
 use Rattle.aml_objects.specs.declared.value.Value.TheVariants as value
 use Rattle.aml_convert.specs.Integers.{truth}
+use Rattle.aml_world.specs.state.State.{State}
+use Rattle.aml_world.specs.state.Run.{lift}
+use Rattle.aml_world.specs.state.Readings.{entry_found, arguments_found}
+use Rattle.aml_world.specs.state.Invocations.{call_allowed, named_use, invocation_found}
+use Rattle.aml_world.specs.state.Osi.{same_text, is_known, osi_answer, osi_answered}
 use Rattle.aml_meaning.specs.declared.flow.Flow.TheVariants as flow
-use Rattle.aml_meaning.specs.State.{State}
-use Rattle.aml_meaning.specs.Run.{lift}
 use Rattle.aml_meaning.specs.Tasks.{task, operand_value}
-use Rattle.aml_meaning.specs.Readings.{entry_found, arguments_found}
-use Rattle.aml_meaning.specs.Invocations.{call_allowed, named_use, invocation_found}
 use Rattle.aml_meaning.specs.InvocationTerms.{arguments_in_turn, osi_rule, name_value}
-use Rattle.aml_meaning.specs.Osi.{same_text, is_known, osi_answer, osi_answered}
 use Rattle.aml_meaning.specs.Evaluation.{rule}
 use Rattle.aml_meaning.specs.Meaning.{meaning}
 use Rattle.aml_laws.specs.OperatorTerms.{GivesValue, GivesNothing, Gives, IsRefused}

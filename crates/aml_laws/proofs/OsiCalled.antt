@@ -19,16 +19,16 @@ use Rattle.aml_objects.specs.declared.value.Value.TheVariants as value
 use Rattle.aml_objects.specs.declared.value.Reference.TheVariants as reference
 use Rattle.aml_convert.specs.Integers.{truth}
 use Rattle.aml_namespace.specs.Search.{found}
+use Rattle.aml_world.specs.state.Given as given
+use Rattle.aml_world.specs.state.Given.{Given, Givens}
+use Rattle.aml_world.specs.state.Importing.{reference_to, imported_by, each_imported, elements_imported, package_imported, taken_back, imported, all_imported}
+use Rattle.aml_world.specs.state.Invocations.{named_use, invocation_found}
+use Rattle.aml_world.specs.state.Osi.{is_known, osi_answered}
+use Rattle.aml_world.specs.state.Readings.{absolute, integer_kept, entry_found, arguments_found}
+use Rattle.aml_world.specs.state.Run.{lift}
+use Rattle.aml_world.specs.state.State.{State, on_objects}
 use Rattle.aml_meaning.specs.Calling.{called, answer_exported, answered}
 use Rattle.aml_meaning.specs.Exporting.{value_exported, exported}
-use Rattle.aml_meaning.specs.Given as given
-use Rattle.aml_meaning.specs.Given.{Given, Givens}
-use Rattle.aml_meaning.specs.Importing.{reference_to, imported_by, each_imported, elements_imported, package_imported, taken_back, imported, all_imported}
-use Rattle.aml_meaning.specs.Invocations.{named_use, invocation_found}
-use Rattle.aml_meaning.specs.Osi.{is_known, osi_answered}
-use Rattle.aml_meaning.specs.Readings.{absolute, integer_kept, entry_found, arguments_found}
-use Rattle.aml_meaning.specs.Run.{lift}
-use Rattle.aml_meaning.specs.State.{State, on_objects}
 use Rattle.aml_laws.specs.CallTerms.{HandedInTurn, no_data, first_data}
 use Rattle.aml_laws.specs.Ends.{EndsAs}
 use Rattle.aml_laws.specs.JoinedTerms.{with_object, Fits}

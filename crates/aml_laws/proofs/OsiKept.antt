@@ -3,9 +3,9 @@ use Rattle.std.specs.Prelude.{◌≡◌, ℕ, List, true, false, refl}
 use Rattle.std.proofs.Common.{◌∙◌}
 use Rattle.ar_space.specs.Accesses.{Accesses}
 use Rattle.ar_space.specs.declared.integer_width.IntegerWidth.{IntegerWidth}
-use Rattle.aml_meaning.specs.declared.settings.EvaluationSettings.{EvaluationSettings}
-use Rattle.aml_meaning.specs.State.{State}
-use Rattle.aml_meaning.specs.Predefined.{fresh_as, predefined}
+use Rattle.aml_world.specs.declared.state.settings.EvaluationSettings.{EvaluationSettings}
+use Rattle.aml_world.specs.state.State.{State}
+use Rattle.aml_world.specs.state.Predefined.{fresh_as, predefined}
 use Rattle.aml_laws.specs.Becomes.{Becomes}
 use Rattle.aml_laws.proofs.WorldRelations.{WorldRelation, plain}
 use Rattle.aml_laws.proofs.EvaluationsPreserve.{becomes_preserves, predefined_preserves}

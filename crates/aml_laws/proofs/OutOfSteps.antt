@@ -9,10 +9,10 @@ use Rattle.ar_space.specs.Outcome.{Outcome}
 use Rattle.aml_path.specs.declared.segment.Seg.{Seg}
 use Rattle.aml_grammar.specs.Tree.{Trees}
 use Rattle.aml_objects.specs.declared.value.Value.{Value}
-use Rattle.aml_meaning.specs.Given.{Given}
-use Rattle.aml_meaning.specs.State.{State}
+use Rattle.aml_world.specs.state.Given.{Given}
+use Rattle.aml_world.specs.state.State.{State}
 use Rattle.aml_meaning.specs.Tasks.{Task, in_turn}
-use Rattle.aml_meaning.specs.Invocations.{invoked}
+use Rattle.aml_meaning.specs.Calls.{invoked}
 use Rattle.aml_meaning.specs.Meaning.{meaning}
 use Rattle.aml_meaning.specs.Calling.{at_root, called, answer_exported}
 use Rattle.aml_laws.proofs.FaultsOfChanges.{Spent}

@@ -17,7 +17,7 @@ use Rattle.aml_objects.specs.declared.entry.NamedObject.TheVariants as object
 use Rattle.aml_namespace.proofs.Paths.{path_total, only_equal}
 use Rattle.aml_namespace.proofs.Changes.{released_at}
 use Rattle.aml_namespace.specs.Namespace.{Map, Namespace, released, entry_released, mutexes_released}
-use Rattle.aml_meaning.specs.State.{State}
+use Rattle.aml_world.specs.state.State.{State}
 use Rattle.aml_laws.specs.Outside.{is_method, is_open, OutsideIn, Outside, number_in}
 
 -- ---- paths below paths

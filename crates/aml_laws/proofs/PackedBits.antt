@@ -34,10 +34,10 @@ use Rattle.aml_fields.proofs.Covers.{units_cover}
 use Rattle.aml_fields.proofs.Numbers.{AreZeros, little_rest, one_number, zeros_behind}
 use Rattle.aml_fields.proofs.Putting.{length_extended}
 use Rattle.aml_fields.proofs.SpaceBits.{bits_of_little}
-use Rattle.aml_meaning.specs.State.{State, on_objects, on_space}
-use Rattle.aml_meaning.specs.Run.{Run, lift}
-use Rattle.aml_meaning.specs.Regions.{field_declared}
-use Rattle.aml_meaning.specs.Fields.{located, region_bits, index_unit, index_bits, bank_unit, bank_bits, field_unit_bits, bits_in}
+use Rattle.aml_world.specs.state.State.{State, on_objects, on_space}
+use Rattle.aml_world.specs.state.Run.{Run, lift}
+use Rattle.aml_world.specs.fields.Regions.{field_declared}
+use Rattle.aml_world.specs.fields.Fields.{located, region_bits, index_unit, index_bits, bank_unit, bank_bits, field_unit_bits, bits_in}
 use Rattle.aml_meaning.specs.FieldCalls.{called_at}
 use Rattle.aml_meaning.specs.Meaning.{meaning}
 use Rattle.aml_laws.specs.FieldNames.{IsField, of_unit, of_buffer, NamesField, bits_read_at}

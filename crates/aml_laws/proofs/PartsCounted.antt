@@ -12,23 +12,24 @@ use Rattle.aml_objects.specs.declared.value.Reference.TheVariants as reference
 use Rattle.aml_objects.specs.declared.value.Value.{Value}
 use Rattle.aml_objects.specs.declared.value.Value.TheVariants as value
 use Rattle.aml_convert.specs.Integers.{bits_of, truncated}
+use Rattle.aml_world.specs.declared.values.store_target.Held.TheVariants as held
+use Rattle.aml_world.specs.declared.values.store_target.StoreTarget.TheVariants as targets
+use Rattle.aml_world.specs.declared.values.store_target.Stored.TheVariants as store
+use Rattle.aml_world.specs.declared.values.operation_kind.Count.{Count}
+use Rattle.aml_world.specs.declared.values.operation_kind.Count.TheVariants as count
+use Rattle.aml_world.specs.values.StoreTargets.{is_element, dereferenced}
+use Rattle.aml_world.specs.state.State.{State}
+use Rattle.aml_world.specs.state.Run.{lift}
+use Rattle.aml_world.specs.state.Readings.{integer_in}
+use Rattle.aml_world.specs.values.Stores.{stored}
+use Rattle.aml_world.specs.values.Operations.{counted_by}
 use Rattle.aml_meaning.specs.declared.flow.Flow.TheVariants as flow
-use Rattle.aml_meaning.specs.declared.store_target.Held.TheVariants as held
-use Rattle.aml_meaning.specs.declared.store_target.StoreTarget.TheVariants as targets
-use Rattle.aml_meaning.specs.declared.store_target.Stored.TheVariants as store
-use Rattle.aml_meaning.specs.declared.term_kind.Count.{Count}
-use Rattle.aml_meaning.specs.declared.term_kind.Count.TheVariants as count
 use Rattle.aml_meaning.specs.declared.term_kind.TermKind.TheVariants as kinds
 use Rattle.aml_meaning.specs.declared.term_kind.OperatorKind.TheVariants as operators
-use Rattle.aml_meaning.specs.FieldCalls.{is_element, back_to, stored_to}
-use Rattle.aml_meaning.specs.State.{State}
-use Rattle.aml_meaning.specs.Run.{lift}
-use Rattle.aml_meaning.specs.Readings.{integer_in}
+use Rattle.aml_meaning.specs.FieldCalls.{back_to, stored_to}
 use Rattle.aml_meaning.specs.Terms.{kind_of}
 use Rattle.aml_meaning.specs.Tasks.{task}
-use Rattle.aml_meaning.specs.Stores.{stored}
-use Rattle.aml_meaning.specs.StoreTargets.{dereferenced}
-use Rattle.aml_meaning.specs.OperatorTerms.{counted_by, count_rule}
+use Rattle.aml_meaning.specs.OperatorTerms.{count_rule}
 use Rattle.aml_meaning.specs.Evaluation.{rule}
 use Rattle.aml_meaning.specs.Meaning.{meaning}
 use Rattle.aml_laws.specs.OperatorTerms.{two_to, counting, nothing, Gives}
@@ -77,8 +78,8 @@ module _ {S : Type 0} (accesses : Accesses S) (scope : List Seg) (depth : ℕ) (
 
 pub part_increments : {S : Type 0} → CountsPart S opcodes.Increment (λ width a m. m ≡ (a + 1) % 2 ^ bits_of width)
 part_increments accesses scope depth x y w steps v i after h n f parts l r a part some converts =
-    (truncated after.0.width (a + 1), refl, λ end e. part_is_counted accesses scope depth x y w steps v r i a after h some converts count.Up opcodes.Increment refl (truncated after.0.width (a + 1)) (next_is after.0 a) n f parts l part end e)
+    (truncated after.0.width (a + 1), refl, λ end e. part_is_counted accesses scope depth x y w steps v r i a after h some converts count.Increment opcodes.Increment refl (truncated after.0.width (a + 1)) (next_is after.0 a) n f parts l part end e)
 
 pub part_decrements : {S : Type 0} → CountsPart S opcodes.Decrement (λ width a m. (m < 2 ^ bits_of width) × ((m + 1) % 2 ^ bits_of width ≡ a % 2 ^ bits_of width))
 part_decrements accesses scope depth x y w steps v i after h n f parts l r a part some converts =
-    (less after.0 a, one_less after.0.width a, λ end e. part_is_counted accesses scope depth x y w steps v r i a after h some converts count.Down opcodes.Decrement refl (less after.0 a) (before_is after.0 a) n f parts l part end e)
+    (less after.0 a, one_less after.0.width a, λ end e. part_is_counted accesses scope depth x y w steps v r i a after h some converts count.Decrement opcodes.Decrement refl (less after.0 a) (before_is after.0 a) n f parts l part end e)

@@ -11,7 +11,7 @@ use Rattle.ar_space.specs.declared.refusal.ValueFault.TheVariants.{WrongType}
 use Rattle.aml_path.specs.declared.segment.Seg.{Seg}
 use Rattle.aml_objects.specs.declared.entry.Entry.{Entry}
 use Rattle.aml_namespace.specs.Namespace.{Map}
-use Rattle.aml_meaning.specs.Given.{Given, Nothing, Integer, Text, Bytes, Package, Named, Reference, Givens, none, more, givens}
+use Rattle.aml_world.specs.state.Given.{Given, Nothing, Integer, Text, Bytes, Package, Named, Reference, Givens, none, more, givens}
 use Rattle.aml_laws.specs.HandedIn.{many, MayBeHandedIn, AllMayBeHandedIn, nothing, integer, text, some_bytes, named, of_package, no_more, one_more}
 use Rattle.aml_laws.specs.HandedIn.{FirstRefusedPart, not_found, without_path, long_text, many_bytes, too_deep, many_elements, inside}
 use Rattle.aml_laws.specs.NamesFound.{alias_path, itself, target, chain}

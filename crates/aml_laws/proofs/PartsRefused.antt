@@ -8,9 +8,9 @@ use Rattle.aml_path.specs.declared.segment.Seg.{Seg}
 use Rattle.aml_grammar.specs.declared.opcode.Opcode.TheVariants as opcodes
 use Rattle.aml_grammar.specs.Tree.{Tree, Part}
 use Rattle.aml_objects.specs.declared.value.Value.{Value}
-use Rattle.aml_meaning.specs.declared.term_kind.TwoOperands.TheVariants as two
-use Rattle.aml_meaning.specs.State.{State}
-use Rattle.aml_meaning.specs.Operations.{indexed}
+use Rattle.aml_world.specs.declared.values.operation_kind.TwoOperands.TheVariants as two
+use Rattle.aml_world.specs.state.State.{State}
+use Rattle.aml_world.specs.values.Operations.{indexed}
 use Rattle.aml_laws.specs.OperatorTerms.{two_to, IsRefused}
 use Rattle.aml_laws.specs.ReferringTerms.{HasNoParts, an_integer_has_none, a_reference_has_none}
 use Rattle.aml_laws.specs.TestTerms.{TwoValues}

@@ -25,15 +25,15 @@ use Rattle.aml_objects.specs.declared.value.Slot.TheVariants.{Argument}
 use Rattle.aml_objects.specs.declared.value.Value.{Value}
 use Rattle.aml_objects.specs.declared.value.Value.TheVariants as value
 use Rattle.aml_namespace.specs.Namespace.{replaced}
-use Rattle.aml_meaning.specs.declared.store_target.Holding.TheVariants as holding
-use Rattle.aml_meaning.specs.declared.store_target.StoreTarget.TheVariants as targets
-use Rattle.aml_meaning.specs.declared.frame.Frame.{Frame}
-use Rattle.aml_meaning.specs.declared.store_target.Stored.{Stored}
-use Rattle.aml_meaning.specs.declared.store_target.Stored.TheVariants as store
-use Rattle.aml_meaning.specs.State.{State, on_objects, on_names}
-use Rattle.aml_meaning.specs.Slots.{slot_in, frame_index}
-use Rattle.aml_meaning.specs.StoreTargets.{holding_of, held_at, latest_frame, frame_found, slot_held, most_references}
-use Rattle.aml_meaning.specs.Stores.{slot_put, copy_into_slot, copy_into_name, copy_into_element, store_over_value, store_over_slot, store_in_frame, store_in_frame_numbered, store_in_slot, stored_through, store_byte, byte_in, store_in_name, copy_in_name, stored, copied_to}
+use Rattle.aml_world.specs.declared.values.store_target.Holding.TheVariants as holding
+use Rattle.aml_world.specs.declared.values.store_target.StoreTarget.TheVariants as targets
+use Rattle.aml_world.specs.declared.state.frame.Frame.{Frame}
+use Rattle.aml_world.specs.declared.values.store_target.Stored.{Stored}
+use Rattle.aml_world.specs.declared.values.store_target.Stored.TheVariants as store
+use Rattle.aml_world.specs.state.State.{State, on_objects, on_names}
+use Rattle.aml_world.specs.state.Slots.{slot_in, frame_index}
+use Rattle.aml_world.specs.values.StoreTargets.{holding_of, held_at, latest_frame, frame_found, slot_held, most_references}
+use Rattle.aml_world.specs.values.Stores.{slot_put, copy_into_slot, copy_into_name, copy_into_element, store_over_value, store_over_slot, store_in_frame, store_in_frame_numbered, store_in_slot, stored_through, store_byte, byte_in, store_in_name, copy_in_name, stored, copied_to}
 use Rattle.aml_laws.specs.Copyable.{IsCopyable}
 use Rattle.aml_laws.specs.StoredNames.{data_entry, with_object_numbered}
 use Rattle.aml_laws.specs.StoredParts.{CopyMade, TakesCopies, a_local, an_argument, SlotTakesCopy, ElementTakesCopy, NameTakesCopy, TakesUnconverted, for_package, for_reference, for_no_value, GivesByte, of_integer, of_string, of_buffer, ByteTaken, in_string, in_buffer, IsNoData, uninitialized, a_package, a_reference, HoldsNothing, scope, device, processor, power_resource, thermal_zone, method, region, mutex, event}

@@ -9,9 +9,9 @@ use Rattle.ar_space.specs.Change.{◌>>=◌}
 use Rattle.aml_objects.specs.Objects.{Objects, make_package}
 use Rattle.aml_objects.specs.declared.object.Element.{Element}
 use Rattle.aml_objects.specs.declared.object.Element.TheVariants as element
-use Rattle.aml_meaning.specs.Given.{Given, Givens, givens}
-use Rattle.aml_meaning.specs.State.{State, on_objects}
-use Rattle.aml_meaning.specs.Importing.{imported_by, each_imported, elements_imported, package_imported, imported}
+use Rattle.aml_world.specs.state.Given.{Given, Givens, givens}
+use Rattle.aml_world.specs.state.State.{State, on_objects}
+use Rattle.aml_world.specs.state.Importing.{imported_by, each_imported, elements_imported, package_imported, imported}
 use Rattle.aml_laws.specs.HandedIn.{AllMayBeHandedIn, no_more, one_more, FirstRefusedPart, not_found, without_path, long_text, many_bytes, too_deep, many_elements, inside}
 use Rattle.aml_laws.proofs.CopiesBeyondLimits.{IsTooMuch, then_too_much}
 use Rattle.aml_laws.proofs.DataBeyondLimits.{all_by, given_has_no_room, all_have_no_room, taken_back_too_much}

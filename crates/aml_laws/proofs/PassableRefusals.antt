@@ -18,7 +18,7 @@ use Rattle.ar_space.specs.declared.refusal.TableFault.TheVariants as tables
 use Rattle.ar_space.specs.declared.refusal.TermFault.TheVariants as terms
 use Rattle.ar_space.specs.declared.refusal.ValueFault.TheVariants as values
 use Rattle.ar_space.specs.Numbers.{number_of}
-use Rattle.aml_meaning.specs.PassedOver.{is_passable}
+use Rattle.aml_world.specs.state.PassedOver.{is_passable}
 use Rattle.aml_laws.specs.PassedNumbers.{passed_numbers}
 
 pub passed_by_number : (e : Refusal) → is_passable e ≡ list_any (λ n. n == number_of e) passed_numbers

@@ -17,10 +17,10 @@ use Rattle.aml_objects.specs.declared.value.Value.{Value}
 use Rattle.aml_objects.specs.declared.value.Value.TheVariants as value
 use Rattle.aml_objects.specs.declared.value.Reference.TheVariants as reference
 use Rattle.aml_namespace.specs.Search.{found}
-use Rattle.aml_meaning.specs.Given.{Given, Givens, Named, givens}
-use Rattle.aml_meaning.specs.State.{State, on_objects}
-use Rattle.aml_meaning.specs.Readings.{absolute, entry_found}
-use Rattle.aml_meaning.specs.Importing.{reference_to, imported_by, each_imported, elements_imported, package_imported, taken_back, imported}
+use Rattle.aml_world.specs.state.Given.{Given, Givens, Named, givens}
+use Rattle.aml_world.specs.state.State.{State, on_objects}
+use Rattle.aml_world.specs.state.Readings.{absolute, entry_found}
+use Rattle.aml_world.specs.state.Importing.{reference_to, imported_by, each_imported, elements_imported, package_imported, taken_back, imported}
 use Rattle.aml_laws.specs.HandedIn.{many, AllMayBeHandedIn, no_more, one_more, FirstRefusedPart, not_found, without_path, long_text, many_bytes, too_deep, many_elements, inside}
 use Rattle.aml_laws.specs.NamesFound.{LeadsTo}
 use Rattle.aml_laws.specs.NamesWritten.{from_root}

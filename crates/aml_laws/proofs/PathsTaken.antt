@@ -22,11 +22,11 @@ use Rattle.aml_objects.specs.declared.entry.NamedObject.TheVariants as named
 use Rattle.aml_objects.specs.declared.value.Value.{Value}
 use Rattle.aml_namespace.specs.Namespace.{above, declared}
 use Rattle.aml_namespace.specs.Search.{found}
-use Rattle.aml_meaning.specs.State.{State, on_names}
-use Rattle.aml_meaning.specs.Run.{lift}
+use Rattle.aml_world.specs.state.State.{State, on_names}
+use Rattle.aml_world.specs.state.Run.{lift}
+use Rattle.aml_world.specs.state.Readings.{path_found}
+use Rattle.aml_world.specs.state.Declaring.{not_in_method, new_name, new_method}
 use Rattle.aml_meaning.specs.Tasks.{task, module_level, operand_value}
-use Rattle.aml_meaning.specs.Readings.{path_found}
-use Rattle.aml_meaning.specs.Declaring.{not_in_method, new_name, new_method}
 use Rattle.aml_meaning.specs.DeclarationTerms.{declaring, name_rule, alias_rule, method_rule, new_scope}
 use Rattle.aml_meaning.specs.Evaluation.{rule}
 use Rattle.aml_meaning.specs.Meaning.{meaning}

@@ -15,12 +15,12 @@ use Rattle.aml_path.specs.declared.segment.Seg.{Seg}
 use Rattle.aml_fields.specs.declared.region.AddressSpace.{AddressSpace}
 use Rattle.aml_fields.specs.declared.region.AddressSpace.TheVariants as spaces
 use Rattle.aml_fields.specs.Regions.{read_access, read_unit}
-use Rattle.aml_meaning.specs.State.{State, on_space}
-use Rattle.aml_meaning.specs.Run.{Run, lift}
-use Rattle.aml_meaning.specs.PciFunctions.{adr, segment_group, base_bus, pci_function}
-use Rattle.aml_meaning.specs.Regions.{pci_space}
-use Rattle.aml_meaning.specs.Bridges.{bridge_header, bridges_to, bridges_above, secondary_bus}
-use Rattle.aml_meaning.specs.Fields.{inherited, bus_behind, bus_behind_all, pci_address}
+use Rattle.aml_world.specs.state.State.{State, on_space}
+use Rattle.aml_world.specs.state.Run.{Run, lift}
+use Rattle.aml_world.specs.fields.PciFunctions.{adr, segment_group, base_bus, pci_function}
+use Rattle.aml_world.specs.fields.Regions.{pci_space}
+use Rattle.aml_world.specs.fields.Bridges.{bridge_header, bridges_to, bridges_above, secondary_bus}
+use Rattle.aml_world.specs.fields.Fields.{inherited, bus_behind, bus_behind_all, pci_address}
 use Rattle.aml_laws.specs.PciAddresses.{MayBeFunction, IsNoFunction, no_group, no_bus, no_device, no_number, BridgeTells, is_nowhere, type_has_fault, is_no_bridge, bus_has_fault, is_bridge}
 use Rattle.aml_laws.specs.PciAddresses.{with_space, PartAnswers, of_none, of_nearest, BridgesLead, no_further, adr_refused, bridge_refused, leads_on}
 use Rattle.aml_laws.specs.PciAddresses.{AddressAnswers, segment_refused, bus_refused, bridges_refused, function_refused, out_of_range, in_range}

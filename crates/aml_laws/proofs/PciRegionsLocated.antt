@@ -11,11 +11,11 @@ use Rattle.aml_path.specs.declared.segment.Seg.{Seg}
 use Rattle.aml_objects.specs.declared.entry.OperationRegion.{OperationRegion}
 use Rattle.aml_fields.specs.declared.region.AddressSpace.{AddressSpace}
 use Rattle.aml_namespace.proofs.Declaring.{above_is}
-use Rattle.aml_meaning.specs.State.{State}
-use Rattle.aml_meaning.specs.Run.{Run, lift}
-use Rattle.aml_meaning.specs.StoreTargets.{declaration}
-use Rattle.aml_meaning.specs.Regions.{region_declared}
-use Rattle.aml_meaning.specs.Fields.{pci_address, located}
+use Rattle.aml_world.specs.state.State.{State}
+use Rattle.aml_world.specs.state.Run.{Run, lift}
+use Rattle.aml_world.specs.values.StoreTargets.{declaration}
+use Rattle.aml_world.specs.fields.Regions.{region_declared}
+use Rattle.aml_world.specs.fields.Fields.{pci_address, located}
 use Rattle.aml_laws.specs.PciRegions.{RegionStandsIn, located_at}
 
 differs : (n k : ℕ) → k < n → (n == k) ≡ false

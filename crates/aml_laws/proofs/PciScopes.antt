@@ -11,11 +11,11 @@ use Rattle.aml_objects.specs.declared.entry.Entry.{Entry}
 use Rattle.aml_objects.specs.declared.entry.NamedObject.{NamedObject}
 use Rattle.aml_objects.specs.declared.entry.NamedObject.TheVariants as object
 use Rattle.aml_namespace.specs.Namespace.{Map, above}
-use Rattle.aml_meaning.specs.declared.pci_functions.Sought.{Sought}
-use Rattle.aml_meaning.specs.declared.pci_functions.Sought.TheVariants as sought
-use Rattle.aml_meaning.specs.declared.profile.Profile.TheVariants as profiles
-use Rattle.aml_meaning.specs.State.{State}
-use Rattle.aml_meaning.specs.PciFunctions.{adr, hid, is_device_object, is_device, has, is_function, is_bridge, fits, nearest_from, nearest, or_behind, behind_asked, pci_function}
+use Rattle.aml_world.specs.declared.fields.pci_functions.Sought.{Sought}
+use Rattle.aml_world.specs.declared.fields.pci_functions.Sought.TheVariants as sought
+use Rattle.aml_world.specs.declared.state.profile.Profile.TheVariants as profiles
+use Rattle.aml_world.specs.state.State.{State}
+use Rattle.aml_world.specs.fields.PciFunctions.{adr, hid, is_device_object, is_device, has, is_function, is_bridge, fits, nearest_from, nearest, or_behind, behind_asked, pci_function}
 use Rattle.aml_laws.specs.PciScopes.{StandsIn, IsFunctionAt, IsBridgeAt, IsNearestSuch, NoneSuch}
 
 -- ---- what is tested, in words

@@ -13,24 +13,25 @@ use Rattle.aml_grammar.specs.Tree.{Tree, Part, null}
 use Rattle.aml_objects.specs.declared.value.Value.{Value}
 use Rattle.aml_convert.specs.declared.operators.BinaryOperator.TheVariants as integers
 use Rattle.aml_convert.specs.declared.operators.UnaryOperator.TheVariants as unary
+use Rattle.aml_world.specs.declared.values.store_target.StoreTarget.{StoreTarget}
+use Rattle.aml_world.specs.declared.values.store_target.Stored.{Stored}
+use Rattle.aml_world.specs.declared.values.operation_kind.OneOperand.{OneOperand}
+use Rattle.aml_world.specs.declared.values.operation_kind.OneOperand.TheVariants as one
+use Rattle.aml_world.specs.declared.values.operation_kind.TwoOperands.{TwoOperands}
+use Rattle.aml_world.specs.declared.values.operation_kind.TwoOperands.TheVariants as two
+use Rattle.aml_world.specs.declared.values.operation_kind.Conversion.{Conversion}
+use Rattle.aml_world.specs.declared.values.operation_kind.Conversion.TheVariants as conversions
+use Rattle.aml_world.specs.state.State.{State}
+use Rattle.aml_world.specs.state.Run.{Run, lift}
+use Rattle.aml_world.specs.state.Readings.{path_found}
+use Rattle.aml_world.specs.values.Stores.{stored, copied_to}
+use Rattle.aml_world.specs.values.FormedStores.{formed_to}
+use Rattle.aml_world.specs.values.StoreTargets.{target_named}
 use Rattle.aml_meaning.specs.declared.flow.Flow.{Flow}
 use Rattle.aml_meaning.specs.declared.flow.Flow.TheVariants as flow
-use Rattle.aml_meaning.specs.declared.store_target.StoreTarget.{StoreTarget}
-use Rattle.aml_meaning.specs.declared.store_target.Stored.{Stored}
-use Rattle.aml_meaning.specs.declared.term_kind.OneOperand.{OneOperand}
-use Rattle.aml_meaning.specs.declared.term_kind.OneOperand.TheVariants as one
-use Rattle.aml_meaning.specs.declared.term_kind.TwoOperands.{TwoOperands}
-use Rattle.aml_meaning.specs.declared.term_kind.TwoOperands.TheVariants as two
-use Rattle.aml_meaning.specs.declared.term_kind.Conversion.{Conversion}
-use Rattle.aml_meaning.specs.declared.term_kind.Conversion.TheVariants as conversions
-use Rattle.aml_meaning.specs.State.{State}
-use Rattle.aml_meaning.specs.Run.{Run, lift}
-use Rattle.aml_meaning.specs.Readings.{path_found}
 use Rattle.aml_meaning.specs.Tasks.{task, value_at, two_values}
-use Rattle.aml_meaning.specs.Stores.{stored, copied_to}
-use Rattle.aml_meaning.specs.FormedStores.{formed_to}
 use Rattle.aml_meaning.specs.FieldCalls.{completed, stored_to}
-use Rattle.aml_meaning.specs.TargetTerms.{target_named, name_target, target_at, targeted}
+use Rattle.aml_meaning.specs.TargetTerms.{name_target, target_at, targeted}
 use Rattle.aml_meaning.specs.OperatorTerms.{store_rule, copy_rule, two_rule, one_rule}
 use Rattle.aml_meaning.specs.WideTerms.{in_wide, formed_at, convert_rule, to_string_rule, middle_rule}
 use Rattle.aml_meaning.specs.Evaluation.{rule}

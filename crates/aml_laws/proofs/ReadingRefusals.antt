@@ -11,7 +11,7 @@ use Rattle.aml_grammar.specs.Operands.{access_field, alias_source, argument_coun
 use Rattle.aml_grammar.specs.State.{State, Step, all_bytes, bit_count, byte, byte_of, enter, integer, is_next, leave, look, narrow, next_bytes, package_size, peek, peek_of, size_after, text, times, until_end, until_of}
 use Rattle.aml_grammar.specs.Table.{row_of}
 use Rattle.aml_grammar.specs.Tree.{Part, Tree}
-use Rattle.aml_grammar.specs.declared.arities.Arity.{Arity}
+use Rattle.aml_arities.specs.declared.arities.Arity.{Arity}
 use Rattle.aml_grammar.specs.declared.context.Context.{Context}
 use Rattle.aml_grammar.specs.declared.context.Earlier.{Earlier}
 use Rattle.aml_grammar.specs.declared.context.Position.TheVariants as positions

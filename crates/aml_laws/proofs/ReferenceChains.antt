@@ -22,19 +22,19 @@ use Rattle.aml_objects.specs.declared.value.Slot.{Slot}
 use Rattle.aml_objects.specs.declared.value.Slot.TheVariants.{Local, Argument}
 use Rattle.aml_objects.specs.declared.value.Reference.{Reference}
 use Rattle.aml_objects.specs.declared.value.Reference.TheVariants as reference
-use Rattle.aml_meaning.specs.declared.store_target.Held.{Held}
-use Rattle.aml_meaning.specs.declared.store_target.Held.TheVariants as held
-use Rattle.aml_meaning.specs.declared.store_target.Stored.{Stored}
-use Rattle.aml_meaning.specs.declared.store_target.StoreTarget.TheVariants as targets
-use Rattle.aml_meaning.specs.declared.object_type.ObjectType.{ObjectType}
-use Rattle.aml_meaning.specs.declared.object_type.ObjectType.TheVariants as types
-use Rattle.aml_meaning.specs.declared.object_type.Referent.{Referent}
-use Rattle.aml_meaning.specs.declared.object_type.Referent.TheVariants as referent
-use Rattle.aml_meaning.specs.State.{State, on_objects}
-use Rattle.aml_meaning.specs.Readings.{entry_found}
-use Rattle.aml_meaning.specs.Slots.{frame_index, slot_at}
-use Rattle.aml_meaning.specs.StoreTargets.{or_ended, frame_found, slot_held, declaration, once, declared_once, value_once, slot_once, named_once, name_once, element_once, held_once, byte_once, dereferenced, referent_of, byte_followed, value_followed, referent_followed, declared_followed, slot_followed, element_named, name_followed, element_followed, held_followed, reference_followed, followed, own_slot, slot_referent, declared_referent, name_referent, target_referent}
-use Rattle.aml_meaning.specs.Stores.{store_over_slot, store_in_frame, store_in_frame_numbered, store_at_reference, stored_through}
+use Rattle.aml_world.specs.declared.values.store_target.Held.{Held}
+use Rattle.aml_world.specs.declared.values.store_target.Held.TheVariants as held
+use Rattle.aml_world.specs.declared.values.store_target.Stored.{Stored}
+use Rattle.aml_world.specs.declared.values.store_target.StoreTarget.TheVariants as targets
+use Rattle.aml_world.specs.declared.values.object_type.ObjectType.{ObjectType}
+use Rattle.aml_world.specs.declared.values.object_type.ObjectType.TheVariants as types
+use Rattle.aml_world.specs.declared.values.object_type.Referent.{Referent}
+use Rattle.aml_world.specs.declared.values.object_type.Referent.TheVariants as referent
+use Rattle.aml_world.specs.state.State.{State, on_objects}
+use Rattle.aml_world.specs.state.Readings.{entry_found}
+use Rattle.aml_world.specs.state.Slots.{frame_index, slot_at}
+use Rattle.aml_world.specs.values.StoreTargets.{or_ended, frame_found, slot_held, declaration, once, declared_once, value_once, slot_once, named_once, name_once, element_once, held_once, byte_once, dereferenced, referent_of, byte_followed, value_followed, referent_followed, declared_followed, slot_followed, element_named, name_followed, element_followed, held_followed, reference_followed, followed, own_slot, slot_referent, declared_referent, name_referent, target_referent}
+use Rattle.aml_world.specs.values.Stores.{store_over_slot, store_in_frame, store_in_frame_numbered, store_at_reference, stored_through}
 use Rattle.aml_laws.specs.Limits.{is_reference, is_byte, HasType, of_scope, of_device, of_processor, of_power_resource, of_thermal_zone, of_method, of_region, of_field_unit, of_buffer_field, of_mutex, of_event, RefersLast, to_value, to_name, to_field, to_byte, Chain, last, next, IsLink, ArgumentChain, alone, link}
 
 -- what a byte gives is no reference

@@ -9,10 +9,10 @@ use Rattle.aml_objects.specs.Objects.{Objects, make_package}
 use Rattle.aml_objects.specs.declared.object.Element.{Element}
 use Rattle.aml_objects.specs.declared.object.Element.TheVariants as element
 use Rattle.aml_objects.specs.declared.value.Value.{Value}
-use Rattle.aml_meaning.specs.Given as given
-use Rattle.aml_meaning.specs.Given.{Given, Givens}
-use Rattle.aml_meaning.specs.Importing.{imported_by, each_imported, elements_imported, package_imported, taken_back, imported}
-use Rattle.aml_meaning.specs.State.{State, on_objects}
+use Rattle.aml_world.specs.state.Given as given
+use Rattle.aml_world.specs.state.Given.{Given, Givens}
+use Rattle.aml_world.specs.state.Importing.{imported_by, each_imported, elements_imported, package_imported, taken_back, imported}
+use Rattle.aml_world.specs.state.State.{State, on_objects}
 use Rattle.aml_laws.specs.HandedIn.{HasPaths, AllHavePaths}
 use Rattle.aml_laws.proofs.LocatedRegions.{gave_both}
 use Rattle.aml_laws.proofs.NestedData.{not_taken_back}

@@ -28,19 +28,18 @@ use Rattle.aml_objects.specs.declared.value.Value.TheVariants as value
 use Rattle.aml_convert.specs.Integers.{bits_of, bytes_of}
 use Rattle.aml_namespace.specs.Namespace.{numbered}
 use Rattle.aml_namespace.specs.Search.{found}
+use Rattle.aml_world.specs.declared.values.object_type.Referent.{Referent}
+use Rattle.aml_world.specs.declared.values.object_type.Referent.TheVariants as referent
+use Rattle.aml_world.specs.declared.values.store_target.Held.TheVariants as held
+use Rattle.aml_world.specs.declared.values.store_target.StoreTarget.TheVariants as targets
+use Rattle.aml_world.specs.state.State.{State, on_objects}
+use Rattle.aml_world.specs.state.Run.{lift}
+use Rattle.aml_world.specs.state.Readings.{entry_found}
+use Rattle.aml_world.specs.fields.Regions.{value_of_bits}
+use Rattle.aml_world.specs.fields.Fields.{field_value}
+use Rattle.aml_world.specs.values.StoreTargets.{reference_in, frame_found, slot_held, declaration, once, declared_once, value_once, slot_once, held_once, byte_once, dereferenced, byte_followed, element_named, declared_followed, slot_followed, name_followed, held_followed, reference_followed, followed, target_referent}
 use Rattle.aml_meaning.specs.declared.flow.Flow.TheVariants as flow
-use Rattle.aml_meaning.specs.declared.object_type.Referent.{Referent}
-use Rattle.aml_meaning.specs.declared.object_type.Referent.TheVariants as referent
-use Rattle.aml_meaning.specs.declared.store_target.Held.TheVariants as held
-use Rattle.aml_meaning.specs.declared.store_target.StoreTarget.TheVariants as targets
-use Rattle.aml_meaning.specs.State.{State, on_objects}
-use Rattle.aml_meaning.specs.Run.{lift}
 use Rattle.aml_meaning.specs.Tasks.{task, operand_value, value_at}
-use Rattle.aml_meaning.specs.Readings.{entry_found}
-use Rattle.aml_meaning.specs.Regions.{value_of_bits}
-use Rattle.aml_meaning.specs.Fields.{field_value}
-use Rattle.aml_meaning.specs.TargetTerms.{reference_in}
-use Rattle.aml_meaning.specs.StoreTargets.{frame_found, slot_held, declaration, once, declared_once, value_once, slot_once, held_once, byte_once, dereferenced, byte_followed, element_named, declared_followed, slot_followed, name_followed, held_followed, reference_followed, followed, target_referent}
 use Rattle.aml_meaning.specs.OperatorTerms.{dereference_rule}
 use Rattle.aml_meaning.specs.Evaluation.{rule}
 use Rattle.aml_meaning.specs.Meaning.{meaning}

@@ -15,13 +15,13 @@ use Rattle.aml_objects.specs.declared.value.Reference.TheVariants as reference
 use Rattle.aml_objects.specs.declared.value.Slot.{Slot}
 use Rattle.aml_objects.specs.declared.value.Value.{Value}
 use Rattle.aml_objects.specs.declared.value.Value.TheVariants as value
-use Rattle.aml_meaning.specs.declared.store_target.StoreTarget.{StoreTarget}
-use Rattle.aml_meaning.specs.declared.store_target.StoreTarget.TheVariants as targets
+use Rattle.aml_world.specs.declared.values.store_target.StoreTarget.{StoreTarget}
+use Rattle.aml_world.specs.declared.values.store_target.StoreTarget.TheVariants as targets
+use Rattle.aml_world.specs.state.Run.{lift}
+use Rattle.aml_world.specs.state.State.{State, on_objects}
+use Rattle.aml_world.specs.values.StoreTargets.{latest_frame, frame_found, slot_held, frame_number, slot_reference, declared_number, name_reference, reference_of, slot_initialized, element_initialized, if_initialized}
 use Rattle.aml_meaning.specs.Meaning.{meaning}
 use Rattle.aml_meaning.specs.OperatorTerms.{sought_target, sought}
-use Rattle.aml_meaning.specs.Run.{lift}
-use Rattle.aml_meaning.specs.State.{State, on_objects}
-use Rattle.aml_meaning.specs.StoreTargets.{latest_frame, frame_found, slot_held, frame_number, slot_reference, declared_number, name_reference, reference_of, slot_initialized, element_initialized, if_initialized}
 use Rattle.aml_meaning.specs.TargetTerms.{target_of}
 use Rattle.aml_laws.specs.Dereferenced.{Holds, by_name, by_slot, by_element, by_byte_of_string, by_byte_of_buffer, IsEmpty, empty_slot, empty_element}
 use Rattle.aml_laws.specs.OperatorTerms.{Gives, IsRefused}

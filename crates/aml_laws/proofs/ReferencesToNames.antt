@@ -14,13 +14,13 @@ use Rattle.aml_objects.specs.declared.value.Reference.{Reference}
 use Rattle.aml_objects.specs.declared.value.Reference.TheVariants as reference
 use Rattle.aml_namespace.specs.Namespace.{Namespace, numbered}
 use Rattle.aml_namespace.specs.Numbering.{Numbered}
-use Rattle.aml_meaning.specs.declared.store_target.Held.{Held}
-use Rattle.aml_meaning.specs.declared.store_target.Held.TheVariants as held
-use Rattle.aml_meaning.specs.declared.store_target.StoreTarget.TheVariants as targets
-use Rattle.aml_meaning.specs.State.{State}
-use Rattle.aml_meaning.specs.StoreTargets.{holding_of, holding_in, held_at, held_in, or_gone, declaration, once, declared_once, name_read, number_in_entry, declared_number, name_reference, dereferenced}
-use Rattle.aml_meaning.specs.Stores.{store_over, copy_over, store_in_declared, store_in_name, copy_into_declared, copy_in_name, stored, copied_to, stored_through}
-use Rattle.aml_meaning.specs.Mutexes.{acquired, given_back, acquired_by_number, given_back_by_number, acquired_at, given_back_at}
+use Rattle.aml_world.specs.declared.values.store_target.Held.{Held}
+use Rattle.aml_world.specs.declared.values.store_target.Held.TheVariants as held
+use Rattle.aml_world.specs.declared.values.store_target.StoreTarget.TheVariants as targets
+use Rattle.aml_world.specs.state.State.{State}
+use Rattle.aml_world.specs.values.StoreTargets.{holding_of, holding_in, held_at, held_in, or_gone, declaration, once, declared_once, name_read, number_in_entry, declared_number, name_reference, dereferenced}
+use Rattle.aml_world.specs.values.Stores.{store_over, copy_over, store_in_declared, store_in_name, copy_into_declared, copy_in_name, stored, copied_to, stored_through}
+use Rattle.aml_world.specs.state.Mutexes.{acquired, given_back, acquired_by_number, given_back_by_number, acquired_at, given_back_at}
 use Rattle.aml_laws.specs.StoredParts.{HoldsNothing, scope, device, processor, power_resource, thermal_zone, method, region, mutex, event, IsRead, a_value, a_unit, a_buffer_field, an_alias, no_data}
 use Rattle.aml_laws.proofs.DeclarationNumbers.{with_number_stands, unnumbered}
 

@@ -12,13 +12,13 @@ use Rattle.aml_objects.specs.declared.value.Slot.{Slot}
 use Rattle.aml_objects.specs.declared.value.Slot.TheVariants.{Local}
 use Rattle.aml_objects.specs.declared.value.Reference.{Reference}
 use Rattle.aml_objects.specs.declared.value.Reference.TheVariants as reference
-use Rattle.aml_meaning.specs.declared.frame.Frame.{Frame}
-use Rattle.aml_meaning.specs.declared.store_target.Held.TheVariants as held
-use Rattle.aml_meaning.specs.declared.store_target.StoreTarget.TheVariants as targets
-use Rattle.aml_meaning.specs.State.{State}
-use Rattle.aml_meaning.specs.Slots.{frame_index, slot_at}
-use Rattle.aml_meaning.specs.StoreTargets.{last_index, or_ended, latest_frame, frame_found, slot_held, own_slot, initialized, slot_read, value_once, slot_once, dereferenced, held_in_slot, number_in_frame, frame_number, slot_reference, most_references}
-use Rattle.aml_meaning.specs.Stores.{store_in_frame, store_in_frame_numbered, stored_through, store_in_slot, stored, copied_to}
+use Rattle.aml_world.specs.declared.state.frame.Frame.{Frame}
+use Rattle.aml_world.specs.declared.values.store_target.Held.TheVariants as held
+use Rattle.aml_world.specs.declared.values.store_target.StoreTarget.TheVariants as targets
+use Rattle.aml_world.specs.state.State.{State}
+use Rattle.aml_world.specs.state.Slots.{frame_index, slot_at}
+use Rattle.aml_world.specs.values.StoreTargets.{last_index, or_ended, latest_frame, frame_found, slot_held, own_slot, initialized, slot_read, value_once, slot_once, dereferenced, held_in_slot, number_in_frame, frame_number, slot_reference, most_references}
+use Rattle.aml_world.specs.values.Stores.{store_in_frame, store_in_frame_numbered, stored_through, store_in_slot, stored, copied_to}
 use Rattle.aml_laws.specs.Numbers.{numbers_of, RiseTo}
 
 number_is_above : (next : ℕ) (x : Frame) (xs : List Frame) (k : ℕ) (f : Frame) → RiseTo next (numbers_of (x ∷ xs)) → slice_get xs k ≡ Some f → x.number < f.number

@@ -6,13 +6,13 @@ use Rattle.ar_space.specs.Change.{give, stop}
 use Rattle.aml_objects.specs.declared.value.Value.{Value}
 use Rattle.aml_objects.specs.declared.value.Reference.{Reference}
 use Rattle.aml_namespace.specs.Numbering.{Numbered}
-use Rattle.aml_meaning.specs.declared.store_target.Held.{Held}
-use Rattle.aml_meaning.specs.declared.store_target.StoreTarget.{StoreTarget}
-use Rattle.aml_meaning.specs.declared.store_target.StoreTarget.TheVariants as targets
-use Rattle.aml_meaning.specs.State.{State}
-use Rattle.aml_meaning.specs.StoreTargets.{reference_of, dereferenced, target_read}
-use Rattle.aml_meaning.specs.Stores.{stored}
-use Rattle.aml_meaning.specs.Mutexes.{acquired_at, given_back_at}
+use Rattle.aml_world.specs.declared.values.store_target.Held.{Held}
+use Rattle.aml_world.specs.declared.values.store_target.StoreTarget.{StoreTarget}
+use Rattle.aml_world.specs.declared.values.store_target.StoreTarget.TheVariants as targets
+use Rattle.aml_world.specs.state.State.{State}
+use Rattle.aml_world.specs.values.StoreTargets.{reference_of, dereferenced, target_read}
+use Rattle.aml_world.specs.values.Stores.{stored}
+use Rattle.aml_world.specs.state.Mutexes.{acquired_at, given_back_at}
 use Rattle.aml_laws.specs.Numbers.{numbers_of, RiseTo}
 use Rattle.aml_laws.proofs.ReferencesToNames.{name_reads, name_stores, name_acquires, name_gives_back}
 use Rattle.aml_laws.proofs.ReferencesToSlots.{slot_found, slot_reads, slot_stores}

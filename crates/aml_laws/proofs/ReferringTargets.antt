@@ -20,15 +20,15 @@ use Rattle.aml_objects.specs.declared.value.Value.{Value}
 use Rattle.aml_objects.specs.declared.value.Value.TheVariants as value
 use Rattle.aml_namespace.specs.Search.{found}
 use Rattle.aml_namespace.proofs.Finding.{numbered_found}
-use Rattle.aml_meaning.specs.declared.store_target.StoreTarget.{StoreTarget}
-use Rattle.aml_meaning.specs.declared.store_target.StoreTarget.TheVariants as targets
-use Rattle.aml_meaning.specs.State.{State, on_objects}
+use Rattle.aml_world.specs.declared.values.store_target.StoreTarget.{StoreTarget}
+use Rattle.aml_world.specs.declared.values.store_target.StoreTarget.TheVariants as targets
+use Rattle.aml_world.specs.state.State.{State, on_objects}
+use Rattle.aml_world.specs.state.Run.{Run, lift}
+use Rattle.aml_world.specs.state.Readings.{path_found}
+use Rattle.aml_world.specs.values.StoreTargets.{target_named, reference_in, declaration, frame_found, name_tested, frame_tested, byte_tested, tested}
 use Rattle.aml_meaning.specs.declared.flow.Flow.{Flow}
-use Rattle.aml_meaning.specs.Run.{Run, lift}
 use Rattle.aml_meaning.specs.Tasks.{Task, operand_value, value_at}
-use Rattle.aml_meaning.specs.Readings.{path_found}
-use Rattle.aml_meaning.specs.TargetTerms.{target_named, reference_in, indexed_target, dereferenced_target, target_of, part_target}
-use Rattle.aml_meaning.specs.StoreTargets.{declaration, frame_found, name_tested, frame_tested, byte_tested, tested}
+use Rattle.aml_meaning.specs.TargetTerms.{indexed_target, dereferenced_target, target_of, part_target}
 use Rattle.aml_meaning.specs.Meaning.{meaning}
 use Rattle.aml_laws.specs.ObjectTerms.{on_target}
 use Rattle.aml_laws.specs.OperatorTerms.{of_one, two_to, NamesTarget, nothing, debug, slot, named, GivesValue, GivesNothing, IsRefused}

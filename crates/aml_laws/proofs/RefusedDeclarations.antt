@@ -12,8 +12,8 @@ use Rattle.aml_objects.specs.declared.entry.MethodFlags.{MethodFlags}
 use Rattle.aml_objects.specs.declared.entry.NamedObject.{NamedObject}
 use Rattle.std.specs.FinMap.{contains_key, insert}
 use Rattle.aml_namespace.specs.Namespace.{Namespace, above, declared}
-use Rattle.aml_meaning.specs.State.{State, on_names}
-use Rattle.aml_meaning.specs.Declaring.{not_in_method, new_name, new_method}
+use Rattle.aml_world.specs.state.State.{State, on_names}
+use Rattle.aml_world.specs.state.Declaring.{not_in_method, new_name, new_method}
 
 refused_by_cases : (a b c : Bool) (x y z e : Refusal) (n : ℕ) (s t : Namespace)
     → (if◌then◌else◌ {A = Outcome ℕ × Namespace} a (if◌then◌else◌ {A = Outcome ℕ × Namespace} b (Err x, s) (if◌then◌else◌ {A = Outcome ℕ × Namespace} c (Err y, s) (Ok n, t))) (Err z, s)).0 ≡ Err e

@@ -25,18 +25,19 @@ use Rattle.aml_objects.specs.declared.entry.OperationRegion.{OperationRegion}
 use Rattle.aml_objects.specs.declared.entry.UpdateRule.{UpdateRule}
 use Rattle.aml_objects.specs.declared.entry.UpdateRule.TheVariants.{Preserve, WriteAsOnes, WriteAsZeros}
 use Rattle.aml_objects.specs.declared.value.Value.{Value}
+use Rattle.aml_world.specs.declared.state.profile.Profile.TheVariants as profiles
+use Rattle.aml_world.specs.state.Declaring.{new_name}
+use Rattle.aml_world.specs.fields.FieldLayouts.{width_numbered, access_width, rule_numbered, update_rule}
+use Rattle.aml_world.specs.state.Profiles.{asked_for}
+use Rattle.aml_world.specs.state.Readings.{integer_in}
+use Rattle.aml_world.specs.state.Run.{Run, lift}
+use Rattle.aml_world.specs.state.State.{State}
 use Rattle.aml_meaning.specs.declared.flow.Flow.{Flow}
 use Rattle.aml_meaning.specs.declared.flow.Flow.TheVariants as flow
-use Rattle.aml_meaning.specs.declared.profile.Profile.TheVariants as profiles
 use Rattle.aml_meaning.specs.DeclarationTerms.{declaring}
-use Rattle.aml_meaning.specs.Declaring.{new_name}
 use Rattle.aml_meaning.specs.Evaluation.{rule}
-use Rattle.aml_meaning.specs.FieldTerms.{width_numbered, access_width, rule_numbered, update_rule, is_connection, has_connection, asked_if, connections_asked, region_rule, field_list_rule, index_list_rule, fields_laid}
+use Rattle.aml_meaning.specs.FieldTerms.{is_connection, has_connection, asked_if, connections_asked, region_rule, field_list_rule, index_list_rule, fields_laid}
 use Rattle.aml_meaning.specs.Meaning.{meaning}
-use Rattle.aml_meaning.specs.Profiles.{asked_for}
-use Rattle.aml_meaning.specs.Readings.{integer_in}
-use Rattle.aml_meaning.specs.Run.{Run, lift}
-use Rattle.aml_meaning.specs.State.{State}
 use Rattle.aml_meaning.specs.Tasks.{Task, task, module_level, operand_value, value_at}
 use Rattle.aml_laws.specs.BankDeclarations.{Finds, FindsField}
 use Rattle.aml_laws.specs.FieldsPut.{TakesList, of_any, of_fields, FindsNoRegion, FindsNoUnit}

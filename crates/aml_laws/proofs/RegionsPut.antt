@@ -13,19 +13,20 @@ use Rattle.aml_objects.specs.declared.entry.NamedObject.TheVariants as named
 use Rattle.aml_objects.specs.declared.entry.OperationRegion.{OperationRegion}
 use Rattle.aml_objects.specs.declared.value.Value.{Value}
 use Rattle.aml_objects.specs.declared.value.Value.TheVariants as value
+use Rattle.aml_world.specs.declared.values.operation_kind.BufferFieldSize.{BufferFieldSize}
+use Rattle.aml_world.specs.declared.values.operation_kind.BufferFieldSize.TheVariants as sizes
+use Rattle.aml_world.specs.fields.BufferFields.{bits_of_step, bits_of_size}
+use Rattle.aml_world.specs.state.Readings.{integer_in}
+use Rattle.aml_world.specs.state.Run.{Run, lift}
+use Rattle.aml_world.specs.state.State.{State}
 use Rattle.aml_meaning.specs.declared.flow.Flow.{Flow}
 use Rattle.aml_meaning.specs.declared.flow.Flow.TheVariants as flow
-use Rattle.aml_meaning.specs.declared.term_kind.BufferFieldSize.{BufferFieldSize}
-use Rattle.aml_meaning.specs.declared.term_kind.BufferFieldSize.TheVariants as sizes
 use Rattle.aml_meaning.specs.declared.term_kind.RegionKind.TheVariants as regions
 use Rattle.aml_meaning.specs.declared.term_kind.TermKind.TheVariants as kinds
 use Rattle.aml_meaning.specs.DeclarationTerms.{declaring}
 use Rattle.aml_meaning.specs.Evaluation.{rule}
-use Rattle.aml_meaning.specs.FieldTerms.{bits_of_step, bits_of_size, region_rule, sized_field_rule, bits_field_rule}
+use Rattle.aml_meaning.specs.FieldTerms.{region_rule, sized_field_rule, bits_field_rule}
 use Rattle.aml_meaning.specs.Meaning.{meaning}
-use Rattle.aml_meaning.specs.Readings.{integer_in}
-use Rattle.aml_meaning.specs.Run.{Run, lift}
-use Rattle.aml_meaning.specs.State.{State}
 use Rattle.aml_meaning.specs.Tasks.{Task, task, operand_value, value_at, two_values}
 use Rattle.aml_meaning.specs.Terms.{kind_of}
 use Rattle.aml_laws.specs.BufferFieldTerms.{create, create_field, HasSize, of_bit, of_byte, of_word, of_double_word, of_quad_word, HasBits, bits_from}

@@ -16,7 +16,7 @@ use Rattle.aml_fields.specs.declared.region.Region.{Region}
 use Rattle.aml_fields.specs.declared.field_units.Unit.{Unit as Access}
 use Rattle.aml_fields.specs.Units.{units_of}
 use Rattle.aml_fields.specs.Regions.{place_in, or_limit, unit_place, read_access, read_unit, read_field, write_access, write_unit, write_field, write_whole}
-use Rattle.aml_meaning.specs.Regions.{pci_space}
+use Rattle.aml_world.specs.fields.Regions.{pci_space}
 use Rattle.aml_laws.specs.Reached.{Reached}
 use Rattle.aml_laws.specs.Reached as by
 use Rattle.aml_laws.specs.RegionAccesses.{space_of, address_of, LiesWithin, ReachesUnit, IsPlaceOf, is_address, is_port, is_register, ReachedWithin}

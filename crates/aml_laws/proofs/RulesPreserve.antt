@@ -11,6 +11,15 @@ use Rattle.aml_objects.specs.declared.value.Value.{Value}
 use Rattle.aml_objects.specs.declared.value.Slot.{Slot}
 use Rattle.aml_objects.specs.declared.object.Element.{Element}
 use Rattle.aml_objects.specs.declared.entry.NamedObject.{NamedObject}
+use Rattle.aml_world.specs.declared.values.operation_kind.OneOperand.{OneOperand}
+use Rattle.aml_world.specs.declared.values.operation_kind.TwoOperands.{TwoOperands}
+use Rattle.aml_world.specs.declared.values.operation_kind.Test.{Test}
+use Rattle.aml_world.specs.declared.values.operation_kind.Count.{Count}
+use Rattle.aml_world.specs.declared.state.invocation.Invocation.{Invocation}
+use Rattle.aml_world.specs.declared.state.invocation.Invocation.TheVariants as invocations
+use Rattle.aml_world.specs.declared.values.store_target.StoreTarget.{StoreTarget}
+use Rattle.aml_world.specs.state.State.{State}
+use Rattle.aml_world.specs.state.Run.{Run}
 use Rattle.aml_meaning.specs.declared.flow.Flow.{Flow}
 use Rattle.aml_meaning.specs.declared.term_kind.TermKind.{TermKind}
 use Rattle.aml_meaning.specs.declared.term_kind.TermKind.TheVariants as kinds
@@ -20,28 +29,19 @@ use Rattle.aml_meaning.specs.declared.term_kind.DeclarationKind.{DeclarationKind
 use Rattle.aml_meaning.specs.declared.term_kind.DeclarationKind.TheVariants as declarations
 use Rattle.aml_meaning.specs.declared.term_kind.OperatorKind.{OperatorKind}
 use Rattle.aml_meaning.specs.declared.term_kind.OperatorKind.TheVariants as operators
-use Rattle.aml_meaning.specs.declared.term_kind.OneOperand.{OneOperand}
-use Rattle.aml_meaning.specs.declared.term_kind.TwoOperands.{TwoOperands}
-use Rattle.aml_meaning.specs.declared.term_kind.Test.{Test}
-use Rattle.aml_meaning.specs.declared.term_kind.Count.{Count}
 use Rattle.aml_meaning.specs.declared.term_kind.StatementKind.{StatementKind}
 use Rattle.aml_meaning.specs.declared.term_kind.StatementKind.TheVariants as statements
-use Rattle.aml_meaning.specs.declared.invocation.Invocation.{Invocation}
-use Rattle.aml_meaning.specs.declared.invocation.Invocation.TheVariants as invocations
-use Rattle.aml_meaning.specs.declared.store_target.StoreTarget.{StoreTarget}
-use Rattle.aml_meaning.specs.declared.store_target.TargetKind.{TargetKind}
-use Rattle.aml_meaning.specs.declared.store_target.TargetKind.TheVariants as target
 use Rattle.aml_objects.specs.declared.value.Reference.{Reference}
+use Rattle.aml_meaning.specs.declared.term_kind.TargetKind.{TargetKind}
+use Rattle.aml_meaning.specs.declared.term_kind.TargetKind.TheVariants as target
 use Rattle.aml_meaning.specs.declared.term_kind.RegionKind.{RegionKind}
 use Rattle.aml_meaning.specs.declared.term_kind.RegionKind.TheVariants as regions
-use Rattle.aml_meaning.specs.State.{State}
-use Rattle.aml_meaning.specs.Run.{Run}
 use Rattle.aml_meaning.specs.Terms.{kind_of, target_kind, count_of}
 use Rattle.aml_meaning.specs.Tasks.{Task, in_turn}
 use Rattle.aml_meaning.specs.DataTerms.{constant_rule, integer_rule, string_rule, buffer_rule, named_element, valued_element, element_by, elements_in_turn, package_of, package_rule, var_package_rule, data_rule}
 use Rattle.aml_meaning.specs.DeclarationTerms.{declaring, name_rule, alias_rule, method_rule, scope_rule, new_scope, declaration_rule}
 use Rattle.aml_meaning.specs.TargetTerms.{indexed_target, dereferenced_target, target_by_kind, target_of, first_target, part_target, name_target, target_by, target_at, targeted}
-use Rattle.aml_meaning.specs.OperatorTerms.{slot_rule, store_rule, copy_rule, two_rule, divide_rule, one_rule, test_rule, not_rule, count_rule, referent_of_value, referent_of_target, referent_by_kind, referent_by, size_rule, type_rule, acquire_rule, reference_rule, dereference_rule, sought_name, sought_target, sought, reference_stored, reference_found, conditional_rule, operator_rule}
+use Rattle.aml_meaning.specs.OperatorTerms.{slot_rule, store_rule, copy_rule, two_rule, divide_rule, one_rule, test_rule, lnot_rule, count_rule, referent_of_value, referent_of_target, referent_by_kind, referent_by, size_rule, type_rule, acquire_rule, reference_rule, dereference_rule, sought_name, sought_target, sought, reference_stored, reference_found, conditional_rule, operator_rule}
 use Rattle.aml_meaning.specs.StatementTerms.{otherwise, branch, if_rule, else_rule, turn_of, turn, loop_end, after_turn, turns, loop, while_rule, return_rule, release_rule, notify_rule, pause_rule, fatal_rule, statement_rule}
 use Rattle.aml_meaning.specs.InvocationTerms.{arguments_in_turn, call_rule, osi_rule, field_rule, invocation_rule, name_value}
 use Rattle.aml_meaning.specs.FieldTerms.{fields_laid, region_rule, field_list_rule, index_list_rule, sized_field_rule, bits_field_rule, region_term_rule}
@@ -54,7 +54,7 @@ use Rattle.aml_laws.proofs.KnownFieldUnits.{by_any, give_by, then_by, found_then
 use Rattle.aml_laws.proofs.FoundNamesStand.{MethodStandsAt}
 use Rattle.aml_laws.proofs.LocatedRegions.{IsAsMeant, meant, bounded}
 use Rattle.aml_laws.proofs.WorldRelations.{PartsLead, Levels, always, WorldRelation, RunPreserves, RunPreservesFrom, CalledStands, units_of_field, on_objects_preserves, run_give_preserves, run_stop_preserves, run_settle_preserves, lift_preserves, charge_preserves, run_then_preserves, found_then_preserves, run_preserves_from, then_preserves_from}
-use Rattle.aml_laws.proofs.ChangesPreserve.{integer_kept_preserves, integer_in_preserves, path_found_preserves, scope_found_preserves, target_named_preserves, within_preserves, new_buffer_preserves, new_package_preserves, new_name_preserves, new_method_preserves, divided_in_preserves, turned_preserves, size_in_preserves, result_of_two_preserves, result_of_one_preserves, result_of_test_preserves, counted_by_preserves, osi_answered_preserves, invocation_found_finds_invocation, call_allowed_preserves}
+use Rattle.aml_laws.proofs.ChangesPreserve.{integer_kept_preserves, integer_in_preserves, path_found_preserves, scope_found_preserves, target_named_preserves, within_preserves, new_buffer_preserves, new_package_preserves, new_name_preserves, new_method_preserves, divided_in_preserves, lnot_preserves, size_in_preserves, result_of_two_preserves, result_of_one_preserves, result_of_test_preserves, counted_by_preserves, osi_answered_preserves, invocation_found_finds_invocation, call_allowed_preserves}
 use Rattle.aml_laws.proofs.StoreTargetsPreserve.{slot_read_preserves, tested_preserves, dereferenced_preserves, target_read_preserves, reference_of_preserves, if_initialized_preserves, reference_if_found_preserves, target_referent_preserves, value_referent_preserves, copied_to_preserves, acquired_at_preserves, given_back_at_preserves}
 use Rattle.aml_laws.proofs.OperandsAndCallsPreserve.{at_all_depths, operand_value_leads, operand_integer_preserves, value_at_leads, two_values_leads, in_turn_leads, invoked_leads_from, field_read_preserves, held_integer_preserves, referent_read_preserves, completed_preserves, stored_to_preserves, held_value_preserves, stored_back_preserves}
 use Rattle.aml_laws.proofs.WideTermsPreserve.{connections_asked_preserves, in_wide_preserves}
@@ -241,9 +241,9 @@ module _ {S : Type 0} {accesses : Accesses S} {levels : Levels accesses} (ev : T
   unfolding test_rule
   test_rule_preserves k scope depth t = run_then_preserves _ _ (two_values_leads ev parts scope depth t) (λ x. run_then_preserves _ _ (lift_preserves _ (result_of_test_preserves k x.0 x.1)) (λ r. run_give_preserves _))
 
-  not_rule_preserves : (scope : List Seg) (depth : ℕ) (t : Tree) → RunPreserves (levels.at depth) (not_rule accesses ev scope depth t)
-  unfolding not_rule
-  not_rule_preserves scope depth t = run_then_preserves _ _ (value_at_leads ev parts scope depth t 0) (λ v. run_then_preserves _ _ (lift_preserves _ (turned_preserves v)) (λ r. run_give_preserves _))
+  lnot_rule_preserves : (scope : List Seg) (depth : ℕ) (t : Tree) → RunPreserves (levels.at depth) (lnot_rule accesses ev scope depth t)
+  unfolding lnot_rule
+  lnot_rule_preserves scope depth t = run_then_preserves _ _ (value_at_leads ev parts scope depth t 0) (λ v. run_then_preserves _ _ (lift_preserves _ (lnot_preserves v)) (λ r. run_give_preserves _))
 
   count_rule_preserves : (k : Count) (scope : List Seg) (depth : ℕ) (t : Tree) → RunPreserves (levels.at depth) (count_rule accesses ev k scope depth t)
   unfolding count_rule
@@ -354,7 +354,7 @@ module _ {S : Type 0} {accesses : Accesses S} {levels : Levels accesses} (ev : T
   operator_rule_preserves operators.Divide scope depth t = divide_rule_preserves scope depth t
   operator_rule_preserves (operators.One k) scope depth t = one_rule_preserves k scope depth t
   operator_rule_preserves (operators.Test k) scope depth t = test_rule_preserves k scope depth t
-  operator_rule_preserves operators.LogicalNot scope depth t = not_rule_preserves scope depth t
+  operator_rule_preserves operators.LNot scope depth t = lnot_rule_preserves scope depth t
   operator_rule_preserves (operators.Count k) scope depth t = count_rule_preserves k scope depth t
   operator_rule_preserves operators.SizeOf scope depth t = size_rule_preserves scope depth t
   operator_rule_preserves operators.ObjectType scope depth t = type_rule_preserves scope depth t

@@ -12,6 +12,14 @@ use Rattle.aml_objects.specs.declared.value.Value.{Value}
 use Rattle.aml_objects.specs.declared.value.Slot.{Slot}
 use Rattle.aml_objects.specs.declared.object.Element.{Element}
 use Rattle.aml_objects.specs.declared.entry.NamedObject.{NamedObject}
+use Rattle.aml_world.specs.declared.values.operation_kind.OneOperand.{OneOperand}
+use Rattle.aml_world.specs.declared.values.operation_kind.TwoOperands.{TwoOperands}
+use Rattle.aml_world.specs.declared.values.operation_kind.Test.{Test}
+use Rattle.aml_world.specs.declared.values.operation_kind.Count.{Count}
+use Rattle.aml_world.specs.declared.state.invocation.Invocation.{Invocation}
+use Rattle.aml_world.specs.declared.state.invocation.Invocation.TheVariants as invocations
+use Rattle.aml_world.specs.declared.values.store_target.StoreTarget.{StoreTarget}
+use Rattle.aml_world.specs.state.Run.{Run}
 use Rattle.aml_meaning.specs.declared.flow.Flow.{Flow}
 use Rattle.aml_meaning.specs.declared.term_kind.TermKind.{TermKind}
 use Rattle.aml_meaning.specs.declared.term_kind.TermKind.TheVariants as kinds
@@ -21,34 +29,26 @@ use Rattle.aml_meaning.specs.declared.term_kind.DeclarationKind.{DeclarationKind
 use Rattle.aml_meaning.specs.declared.term_kind.DeclarationKind.TheVariants as declarations
 use Rattle.aml_meaning.specs.declared.term_kind.OperatorKind.{OperatorKind}
 use Rattle.aml_meaning.specs.declared.term_kind.OperatorKind.TheVariants as operators
-use Rattle.aml_meaning.specs.declared.term_kind.OneOperand.{OneOperand}
-use Rattle.aml_meaning.specs.declared.term_kind.TwoOperands.{TwoOperands}
-use Rattle.aml_meaning.specs.declared.term_kind.Test.{Test}
-use Rattle.aml_meaning.specs.declared.term_kind.Count.{Count}
 use Rattle.aml_meaning.specs.declared.term_kind.StatementKind.{StatementKind}
 use Rattle.aml_meaning.specs.declared.term_kind.StatementKind.TheVariants as statements
-use Rattle.aml_meaning.specs.declared.invocation.Invocation.{Invocation}
-use Rattle.aml_meaning.specs.declared.invocation.Invocation.TheVariants as invocations
-use Rattle.aml_meaning.specs.declared.store_target.StoreTarget.{StoreTarget}
-use Rattle.aml_meaning.specs.declared.store_target.TargetKind.{TargetKind}
-use Rattle.aml_meaning.specs.declared.store_target.TargetKind.TheVariants as target
+use Rattle.aml_meaning.specs.declared.term_kind.TargetKind.{TargetKind}
 use Rattle.aml_objects.specs.declared.value.Reference.{Reference}
+use Rattle.aml_meaning.specs.declared.term_kind.TargetKind.TheVariants as target
 use Rattle.aml_meaning.specs.declared.term_kind.RegionKind.{RegionKind}
 use Rattle.aml_meaning.specs.declared.term_kind.RegionKind.TheVariants as regions
-use Rattle.aml_meaning.specs.Run.{Run}
 use Rattle.aml_meaning.specs.Terms.{kind_of, target_kind, count_of}
 use Rattle.aml_meaning.specs.Tasks.{Task}
 use Rattle.aml_meaning.specs.DataTerms.{constant_rule, integer_rule, string_rule, buffer_rule, named_element, valued_element, element_by, elements_in_turn, package_of, package_rule, var_package_rule, data_rule}
 use Rattle.aml_meaning.specs.DeclarationTerms.{declaring, name_rule, alias_rule, method_rule, scope_rule, new_scope, declaration_rule}
 use Rattle.aml_meaning.specs.TargetTerms.{indexed_target, dereferenced_target, target_by_kind, target_of, first_target, part_target, name_target, target_by, target_at, targeted}
-use Rattle.aml_meaning.specs.OperatorTerms.{slot_rule, store_rule, copy_rule, two_rule, divide_rule, one_rule, test_rule, not_rule, count_rule, referent_of_value, referent_of_target, referent_by_kind, referent_by, size_rule, type_rule, acquire_rule, reference_rule, dereference_rule, sought_name, sought_target, sought, reference_stored, reference_found, conditional_rule, operator_rule}
+use Rattle.aml_meaning.specs.OperatorTerms.{slot_rule, store_rule, copy_rule, two_rule, divide_rule, one_rule, test_rule, lnot_rule, count_rule, referent_of_value, referent_of_target, referent_by_kind, referent_by, size_rule, type_rule, acquire_rule, reference_rule, dereference_rule, sought_name, sought_target, sought, reference_stored, reference_found, conditional_rule, operator_rule}
 use Rattle.aml_meaning.specs.StatementTerms.{otherwise, branch, if_rule, else_rule, turn_of, turn, loop_end, after_turn, turns, loop, while_rule, return_rule, release_rule, notify_rule, pause_rule, fatal_rule, statement_rule}
 use Rattle.aml_meaning.specs.InvocationTerms.{arguments_in_turn, call_rule, osi_rule, field_rule, invocation_rule, name_value}
 use Rattle.aml_meaning.specs.FieldTerms.{fields_laid, region_rule, field_list_rule, index_list_rule, sized_field_rule, bits_field_rule, region_term_rule}
 use Rattle.aml_meaning.specs.Evaluation.{kind_rule, code_rule, rule}
 use Rattle.aml_laws.proofs.Together.{Fits, Sides, Together, ended_fits, ended_together, fits_before, fits_ended, fits_next, fits_none, more_fits, give_together, settle_together, stop_together, then_together}
 use Rattle.aml_laws.proofs.WorldsTogether.{charge_together, lift_together, objects_together, runs}
-use Rattle.aml_laws.proofs.ChangesTogether.{counted_by_together, divided_in_together, integer_in_together, integer_kept_together, new_buffer_together, new_method_together, new_name_together, new_package_together, osi_answered_together, path_found_together, result_of_one_together, result_of_test_together, result_of_two_together, scope_found_together, size_in_together, target_named_together, turned_together, within_together, invocation_found_together}
+use Rattle.aml_laws.proofs.ChangesTogether.{counted_by_together, divided_in_together, integer_in_together, integer_kept_together, new_buffer_together, new_method_together, new_name_together, new_package_together, osi_answered_together, path_found_together, result_of_one_together, result_of_test_together, result_of_two_together, scope_found_together, size_in_together, target_named_together, lnot_together, within_together, invocation_found_together}
 use Rattle.aml_laws.proofs.NestingTogether.{call_allowed_together}
 use Rattle.aml_laws.proofs.StoreTargetsTogether.{acquired_at_together, copied_to_together, dereferenced_together, given_back_at_together, if_initialized_together, reference_if_found_together, reference_of_together, slot_read_together, target_read_together, target_referent_together, tested_together, value_referent_together}
 use Rattle.aml_laws.proofs.FieldsTogether.{elements_laid_together, field_found_together, region_found_together}
@@ -238,9 +238,9 @@ module _ {S T : Type 0} {accesses : Accesses S} {accesses2 : Accesses T} {side :
   unfolding test_rule
   test_rule_together k scope depth t = then_together (two_values_together parts scope depth t) (λ x. then_together (lift_together (result_of_test_together k x.0 x.1)) (λ r. give_together _))
 
-  not_rule_together : (scope : List Seg) (depth : ℕ) (t : Tree) → Together (level side depth) runs (not_rule accesses ev scope depth t) (not_rule accesses2 ev2 scope depth t)
-  unfolding not_rule
-  not_rule_together scope depth t = then_together (value_at_together parts scope depth t 0) (λ v. then_together (lift_together (turned_together v)) (λ r. give_together _))
+  lnot_rule_together : (scope : List Seg) (depth : ℕ) (t : Tree) → Together (level side depth) runs (lnot_rule accesses ev scope depth t) (lnot_rule accesses2 ev2 scope depth t)
+  unfolding lnot_rule
+  lnot_rule_together scope depth t = then_together (value_at_together parts scope depth t 0) (λ v. then_together (lift_together (lnot_together v)) (λ r. give_together _))
 
   count_rule_together : (k : Count) (scope : List Seg) (depth : ℕ) (t : Tree) → Together (level side depth) runs (count_rule accesses ev k scope depth t) (count_rule accesses2 ev2 k scope depth t)
   unfolding count_rule
@@ -325,7 +325,7 @@ module _ {S T : Type 0} {accesses : Accesses S} {accesses2 : Accesses T} {side :
   operator_rule_together operators.Divide scope depth t = divide_rule_together scope depth t
   operator_rule_together (operators.One k) scope depth t = one_rule_together k scope depth t
   operator_rule_together (operators.Test k) scope depth t = test_rule_together k scope depth t
-  operator_rule_together operators.LogicalNot scope depth t = not_rule_together scope depth t
+  operator_rule_together operators.LNot scope depth t = lnot_rule_together scope depth t
   operator_rule_together (operators.Count k) scope depth t = count_rule_together k scope depth t
   operator_rule_together operators.SizeOf scope depth t = size_rule_together scope depth t
   operator_rule_together operators.ObjectType scope depth t = type_rule_together scope depth t

@@ -7,15 +7,15 @@ use Rattle.ar_space.specs.declared.refusal.EvaluationFault.TheVariants.{OutOfSte
 use Rattle.ar_space.specs.Accesses.{Accesses}
 use Rattle.ar_space.specs.Outcome.{Outcome, seen}
 use Rattle.aml_path.specs.declared.segment.Seg.{Seg}
-use Rattle.aml_grammar.specs.declared.arities.Arity.{Arity}
+use Rattle.aml_arities.specs.declared.arities.Arity.{Arity}
 use Rattle.aml_grammar.specs.Grammar.{table_reading_within}
 use Rattle.aml_grammar.specs.Shape.{trees_of}
 use Rattle.aml_grammar.specs.Tree.{Tree, Trees}
 use Rattle.aml_objects.specs.declared.value.Value.{Value}
+use Rattle.aml_world.specs.state.Given.{Given}
+use Rattle.aml_world.specs.state.State.{State}
 use Rattle.aml_meaning.specs.declared.flow.Flow.{Flow}
 use Rattle.aml_meaning.specs.Calling.{table_terms, loaded, called, with_rest, counted, evaluated, answer_exported, answered, ending, with_steps}
-use Rattle.aml_meaning.specs.Given.{Given}
-use Rattle.aml_meaning.specs.State.{State}
 use Rattle.aml_laws.specs.Ends.{at_the_root, TableRunsOut}
 use Rattle.aml_laws.proofs.CleanReading.{table_reading_within_clean}
 use Rattle.aml_laws.proofs.FaultsOfChanges.{Spent, clean_spent}

@@ -8,7 +8,7 @@ use Rattle.aml_grammar.specs.declared.opcode.Opcode.{Opcode}
 use Rattle.aml_grammar.specs.declared.opcode.TermCode.TheVariants as codes
 use Rattle.aml_grammar.specs.Tree.{Tree, Trees, list}
 use Rattle.aml_objects.specs.declared.entry.NamedObject.{NamedObject}
-use Rattle.aml_meaning.specs.State.{State}
+use Rattle.aml_world.specs.state.State.{State}
 use Rattle.aml_meaning.specs.Tasks.{task, in_turn}
 use Rattle.aml_meaning.specs.Meaning.{meaning}
 use Rattle.aml_laws.specs.InnerLists.{DeclaresScope}

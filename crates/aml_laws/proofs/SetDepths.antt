@@ -7,8 +7,8 @@ use Rattle.ar_space.specs.declared.refusal.Refusal.TheVariants as refusals
 use Rattle.ar_space.specs.declared.refusal.EvaluationFault.{EvaluationFault}
 use Rattle.ar_space.specs.declared.refusal.EvaluationFault.TheVariants.{OutOfSteps, CallDepth, DepthSetting}
 use Rattle.ar_space.specs.Outcome.{Outcome, seen}
-use Rattle.aml_meaning.specs.declared.settings.Nesting.{Nesting}
-use Rattle.aml_meaning.specs.Invocations.{call_allowed_within}
+use Rattle.aml_world.specs.declared.state.settings.Nesting.{Nesting}
+use Rattle.aml_world.specs.state.Invocations.{call_allowed_within}
 use Rattle.aml_laws.proofs.CleanOutcomes.{Clean, CleanRefusal, IsUnset}
 
 -- whether fewer calls or levels are allowed than the default, which is as many as there may ever be

@@ -8,9 +8,9 @@ use Rattle.aml_path.specs.declared.segment.Seg.{Seg}
 use Rattle.aml_objects.specs.Objects.{Objects}
 use Rattle.aml_objects.specs.declared.entry.NamedObject.{NamedObject}
 use Rattle.aml_namespace.specs.Namespace.{Namespace}
-use Rattle.aml_meaning.specs.State.{State, on_names, on_objects}
-use Rattle.aml_meaning.specs.Predefined.{fresh, takes, at_root, predefined_scopes, predefined_objects, predefined}
-use Rattle.aml_meaning.specs.declared.profile.Profile.TheVariants.{Core}
+use Rattle.aml_world.specs.state.State.{State, on_names, on_objects}
+use Rattle.aml_world.specs.state.Predefined.{fresh, takes, at_root, predefined_scopes, predefined_objects, predefined}
+use Rattle.aml_world.specs.declared.state.profile.Profile.TheVariants.{Core}
 use Rattle.aml_laws.proofs.Preorders.{Preorder, Respects, then_respects, settle_then_respects}
 
 record SameSettings {S : Type 0} (before after : State S) : Type 0 where

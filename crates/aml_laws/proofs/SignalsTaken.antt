@@ -19,11 +19,11 @@ use Rattle.aml_namespace.specs.Namespace.{Map, numbered, replaced}
 use Rattle.aml_namespace.specs.Numbering.{Numbered}
 use Rattle.aml_namespace.proofs.Paths.{path_total, only_equal, same_path, path_itself}
 use Rattle.aml_namespace.proofs.Finding.{numbered_found}
-use Rattle.aml_meaning.specs.declared.term_kind.EventChange.TheVariants as changes
-use Rattle.aml_meaning.specs.State.{State, on_names}
-use Rattle.aml_meaning.specs.Readings.{integer_in}
-use Rattle.aml_meaning.specs.StoreTargets.{declaration, entry_declared}
-use Rattle.aml_meaning.specs.Events.{signals_under, put_signals, event_changed, signal_taken, waited}
+use Rattle.aml_world.specs.declared.values.operation_kind.EventChange.TheVariants as changes
+use Rattle.aml_world.specs.state.State.{State, on_names}
+use Rattle.aml_world.specs.state.Readings.{integer_in}
+use Rattle.aml_world.specs.values.StoreTargets.{declaration, entry_declared}
+use Rattle.aml_world.specs.state.Events.{signals_under, put_signals, event_changed, signal_taken, waited}
 use Rattle.aml_laws.specs.Events.{event_entry, with_signals}
 use Rattle.aml_laws.proofs.NumbersKept.{numbered_replaced}
 

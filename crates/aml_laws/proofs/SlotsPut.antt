@@ -7,10 +7,10 @@ use Rattle.std.proofs.lemmas.List.Quantifiers.{position-Some}
 use Rattle.aml_objects.specs.declared.value.Slot.{Slot}
 use Rattle.aml_objects.specs.declared.value.Slot.TheVariants.{Local, Argument}
 use Rattle.aml_objects.specs.declared.value.Value.{Value}
-use Rattle.aml_meaning.specs.declared.frame.Frame.{Frame}
-use Rattle.aml_meaning.specs.State.{State}
-use Rattle.aml_meaning.specs.Slots.{slot_in, with_slot, frame_index, slot_found, slot_at, slot_of}
-use Rattle.aml_meaning.specs.Stores.{with_frame, slot_put}
+use Rattle.aml_world.specs.declared.state.frame.Frame.{Frame}
+use Rattle.aml_world.specs.state.State.{State}
+use Rattle.aml_world.specs.state.Slots.{slot_in, with_slot, frame_index, slot_found, slot_at, slot_of}
+use Rattle.aml_world.specs.values.Stores.{with_frame, slot_put}
 use Rattle.aml_laws.specs.Numbers.{numbers_of}
 use Rattle.aml_laws.specs.Unreferenced.{HasSlot}
 use Rattle.aml_laws.proofs.Claims.{other_slot}

@@ -1,6 +1,6 @@
 -- Evaluations reach the register space by accesses alone.
 use Rattle.ar_space.specs.Accesses.{Accesses}
-use Rattle.aml_meaning.specs.State.{State}
+use Rattle.aml_world.specs.state.State.{State}
 use Rattle.aml_laws.specs.Becomes.{Becomes}
 use Rattle.std.specs.Prelude.{◌≡◌, Bool, true, false, refl}
 use Rattle.aml_laws.specs.Reached.{Reached, none, read, written, KeptByAccesses}

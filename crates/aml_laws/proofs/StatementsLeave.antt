@@ -8,10 +8,10 @@ use Rattle.aml_path.specs.declared.segment.Seg.{Seg}
 use Rattle.aml_grammar.specs.Tree.{Tree}
 use Rattle.aml_grammar.specs.declared.opcode.Opcode.TheVariants as opcodes
 use Rattle.aml_objects.specs.declared.value.Value.{Value}
+use Rattle.aml_world.specs.state.State.{State}
 use Rattle.aml_meaning.specs.declared.flow.Flow.TheVariants as flow
 use Rattle.aml_meaning.specs.Evaluation.{rule}
 use Rattle.aml_meaning.specs.Meaning.{meaning}
-use Rattle.aml_meaning.specs.State.{State}
 use Rattle.aml_meaning.specs.StatementTerms.{return_rule}
 use Rattle.aml_meaning.specs.Tasks.{task, operand_value, value_at}
 use Rattle.aml_laws.specs.OperatorTerms.{alone, of_one, GivesValue, IsRefused}

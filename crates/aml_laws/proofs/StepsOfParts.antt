@@ -3,20 +3,21 @@ use Rattle.aml_fields.specs.Units.{units_of}
 use Rattle.aml_fields.specs.declared.field_units.Unit.{Unit as Access}
 use Rattle.aml_fields.specs.declared.region.Region.{Region}
 use Rattle.aml_grammar.specs.Tree.{Tree, Trees, no_trees, tree}
-use Rattle.aml_meaning.specs.FieldCalls.{called_at, asked, method_integer, answer_over, answer_within, field_read, held_value, held_integer, referent_read, completed, stored_to, is_element, back_to, stored_back}
-use Rattle.aml_meaning.specs.Fields.{part_in, inherited, bus_behind, bus_behind_all, pci_address, space_at, located, region_bits, region_written, index_unit, index_unit_written, index_bits, index_written, field_unit_bits, field_unit_written, bits_in, written_in, field_value, field_integer, field_part, field_referent, field_stored, field_given, bank_selected, bank_unit, bank_unit_written, bank_bits, bank_written}
-use Rattle.aml_meaning.specs.Invocations.{invoked, method_value, leaving}
-use Rattle.aml_meaning.specs.Run.{Run, lift}
-use Rattle.aml_meaning.specs.State.{State}
-use Rattle.aml_meaning.specs.Tasks.{Task, operand_value, value_at, two_values, operand_integer, goes_on, in_turn, task, item, passes_over}
-use Rattle.aml_meaning.specs.declared.flow.Flow.{Flow}
-use Rattle.aml_meaning.specs.declared.invocation.Invocation.{Invocation}
-use Rattle.aml_meaning.specs.declared.object_type.Referent.{Referent}
-use Rattle.aml_meaning.specs.declared.regions.RegionField.{RegionField}
-use Rattle.aml_meaning.specs.declared.regions.RegionSpace.{RegionSpace}
-use Rattle.aml_meaning.specs.declared.store_target.Held.{Held}
-use Rattle.aml_meaning.specs.declared.store_target.StoreTarget.{StoreTarget}
-use Rattle.aml_meaning.specs.declared.store_target.Stored.{Stored}
+use Rattle.aml_world.specs.values.StoreTargets.{is_element}
+use Rattle.aml_world.specs.fields.Fields.{part_in, inherited, bus_behind, bus_behind_all, pci_address, space_at, located, region_bits, region_written, index_unit, index_unit_written, index_bits, index_written, field_unit_bits, field_unit_written, bits_in, written_in, field_value, field_integer, field_part, field_referent, field_stored, field_given, bank_selected, bank_unit, bank_unit_written, bank_bits, bank_written}
+use Rattle.aml_world.specs.state.Run.{Run, lift}
+use Rattle.aml_world.specs.state.State.{State}
+use Rattle.aml_world.specs.declared.state.invocation.Invocation.{Invocation}
+use Rattle.aml_world.specs.declared.values.object_type.Referent.{Referent}
+use Rattle.aml_world.specs.declared.fields.regions.RegionField.{RegionField}
+use Rattle.aml_world.specs.declared.fields.regions.RegionSpace.{RegionSpace}
+use Rattle.aml_world.specs.declared.values.store_target.Held.{Held}
+use Rattle.aml_world.specs.declared.values.store_target.StoreTarget.{StoreTarget}
+use Rattle.aml_world.specs.declared.values.store_target.Stored.{Stored}
+use Rattle.aml_world.specs.state.PassedOver.{is_passable}
+use Rattle.aml_world.specs.declared.state.invocation.Invocation.TheVariants as invocations
+use Rattle.aml_world.specs.declared.values.object_type.Referent.TheVariants as referent
+use Rattle.aml_world.specs.declared.fields.regions.RegionSpace.TheVariants as kinds
 use Rattle.aml_objects.specs.declared.entry.Field.{Field}
 use Rattle.aml_objects.specs.declared.entry.FieldSource.{FieldSource}
 use Rattle.aml_objects.specs.declared.entry.FieldUnit.{FieldUnit}
@@ -28,13 +29,13 @@ use Rattle.ar_space.specs.Outcome.{Outcome}
 use Rattle.ar_space.specs.declared.space.Width.{Width}
 use Rattle.std.specs.Prelude.{ℕ, List, [], ◌∷◌, Bool, Option, Some, None, true, false, zero, suc, if◌then◌else◌, Ok, Err}
 use Rattle.aml_laws.proofs.Preorders.{Preorder, Respects, give_respects, stop_respects, settle_respects, then_respects, bits_read_respects, write_units_respects, kept_respects, either_branch}
+use Rattle.aml_world.specs.declared.values.store_target.Held.TheVariants as held
+use Rattle.aml_world.specs.declared.values.store_target.Stored.TheVariants as store
+use Rattle.aml_meaning.specs.FieldCalls.{called_at, asked, method_integer, answer_over, answer_within, field_read, held_value, held_integer, referent_read, completed, stored_to, back_to, stored_back}
+use Rattle.aml_meaning.specs.Calls.{invoked, method_value, leaving}
+use Rattle.aml_meaning.specs.Tasks.{Task, operand_value, value_at, two_values, operand_integer, goes_on, in_turn, task, item, passes_over}
+use Rattle.aml_meaning.specs.declared.flow.Flow.{Flow}
 use Rattle.aml_meaning.specs.Passing.{item_done, passing}
-use Rattle.aml_meaning.specs.PassedOver.{is_passable}
-use Rattle.aml_meaning.specs.declared.invocation.Invocation.TheVariants as invocations
-use Rattle.aml_meaning.specs.declared.object_type.Referent.TheVariants as referent
-use Rattle.aml_meaning.specs.declared.regions.RegionSpace.TheVariants as kinds
-use Rattle.aml_meaning.specs.declared.store_target.Held.TheVariants as held
-use Rattle.aml_meaning.specs.declared.store_target.Stored.TheVariants as store
 use Rattle.aml_objects.specs.declared.entry.Field.TheVariants as field
 use Rattle.aml_objects.specs.declared.entry.FieldSource.TheVariants as sources
 

@@ -10,52 +10,52 @@ use Rattle.aml_objects.specs.declared.value.Value.{Value}
 use Rattle.aml_objects.specs.declared.value.Slot.{Slot}
 use Rattle.aml_objects.specs.declared.object.Element.{Element}
 use Rattle.aml_objects.specs.declared.entry.NamedObject.{NamedObject}
+use Rattle.aml_world.specs.declared.values.operation_kind.OneOperand.{OneOperand}
+use Rattle.aml_world.specs.declared.values.operation_kind.TwoOperands.{TwoOperands}
+use Rattle.aml_world.specs.declared.values.operation_kind.Test.{Test}
+use Rattle.aml_world.specs.declared.values.operation_kind.Count.{Count}
+use Rattle.aml_world.specs.declared.state.invocation.Invocation.{Invocation}
+use Rattle.aml_world.specs.state.Run.{Run}
+use Rattle.aml_world.specs.declared.values.operation_kind.Conversion.{Conversion}
+use Rattle.aml_world.specs.declared.values.operation_kind.EventChange.{EventChange}
+use Rattle.aml_world.specs.declared.values.searches.Search.{Search}
+use Rattle.aml_world.specs.declared.values.store_target.Held.{Held}
+use Rattle.aml_world.specs.declared.state.invocation.Invocation.TheVariants as invocations
 use Rattle.aml_meaning.specs.declared.flow.Flow.{Flow}
+use Rattle.aml_objects.specs.declared.value.Reference.{Reference}
 use Rattle.aml_meaning.specs.declared.term_kind.TermKind.{TermKind}
 use Rattle.aml_meaning.specs.declared.term_kind.DataKind.{DataKind}
 use Rattle.aml_meaning.specs.declared.term_kind.DeclarationKind.{DeclarationKind}
 use Rattle.aml_meaning.specs.declared.term_kind.OperatorKind.{OperatorKind}
-use Rattle.aml_meaning.specs.declared.term_kind.OneOperand.{OneOperand}
-use Rattle.aml_meaning.specs.declared.term_kind.TwoOperands.{TwoOperands}
-use Rattle.aml_meaning.specs.declared.term_kind.Test.{Test}
-use Rattle.aml_meaning.specs.declared.term_kind.Count.{Count}
 use Rattle.aml_meaning.specs.declared.term_kind.StatementKind.{StatementKind}
-use Rattle.aml_meaning.specs.declared.invocation.Invocation.{Invocation}
-use Rattle.aml_meaning.specs.declared.store_target.TargetKind.{TargetKind}
-use Rattle.aml_objects.specs.declared.value.Reference.{Reference}
+use Rattle.aml_meaning.specs.declared.term_kind.TargetKind.{TargetKind}
 use Rattle.aml_meaning.specs.declared.term_kind.RegionKind.{RegionKind}
-use Rattle.aml_meaning.specs.Run.{Run}
 use Rattle.aml_meaning.specs.Terms.{kind_of, list_of}
 use Rattle.aml_meaning.specs.Tasks.{Task}
 use Rattle.aml_meaning.specs.DataTerms.{constant_rule, integer_rule, string_rule, buffer_rule, named_element, valued_element, element_by, elements_in_turn, package_of, package_rule, var_package_rule, data_rule}
 use Rattle.aml_meaning.specs.DeclarationTerms.{declaring, name_rule, alias_rule, method_rule, scope_rule, new_scope, declaration_rule}
 use Rattle.aml_meaning.specs.TargetTerms.{target_at, targeted}
-use Rattle.aml_meaning.specs.OperatorTerms.{slot_rule, store_rule, copy_rule, two_rule, divide_rule, one_rule, test_rule, not_rule, count_rule, referent_of_value, referent_of_target, referent_by_kind, referent_by, size_rule, type_rule, acquire_rule, reference_rule, dereference_rule, sought_name, sought_target, sought, reference_stored, reference_found, conditional_rule, operator_rule}
+use Rattle.aml_meaning.specs.OperatorTerms.{slot_rule, store_rule, copy_rule, two_rule, divide_rule, one_rule, test_rule, lnot_rule, count_rule, referent_of_value, referent_of_target, referent_by_kind, referent_by, size_rule, type_rule, acquire_rule, reference_rule, dereference_rule, sought_name, sought_target, sought, reference_stored, reference_found, conditional_rule, operator_rule}
 use Rattle.aml_meaning.specs.StatementTerms.{otherwise, branch, if_rule, else_rule, turn_of, turn, loop_end, after_turn, turns, loop, while_rule, return_rule, release_rule, notify_rule, pause_rule, fatal_rule, statement_rule}
 use Rattle.aml_meaning.specs.InvocationTerms.{arguments_in_turn, call_rule, osi_rule, field_rule, invocation_rule, name_value}
 use Rattle.aml_meaning.specs.FieldTerms.{fields_laid, region_rule, field_list_rule, index_list_rule, sized_field_rule, bits_field_rule, region_term_rule}
 use Rattle.aml_meaning.specs.Evaluation.{kind_rule, code_rule, rule}
-use Rattle.aml_meaning.specs.declared.term_kind.Conversion.{Conversion}
 use Rattle.aml_meaning.specs.declared.term_kind.WideKind.{WideKind}
 use Rattle.aml_meaning.specs.BankTerms.{banked_laid, bank_list_rule}
 use Rattle.aml_meaning.specs.WideTerms.{in_wide, formed_at, convert_rule, to_string_rule, middle_rule, wide_rule, event_rule, wait_rule}
-use Rattle.aml_meaning.specs.declared.term_kind.EventChange.{EventChange}
-use Rattle.aml_meaning.specs.declared.searches.Search.{Search}
-use Rattle.aml_meaning.specs.declared.store_target.Held.{Held}
-use Rattle.aml_meaning.specs.MatchTerms.{held_meets, if_held, element_meets, found_or, none_matches, searched_last, match_rule}
 use Rattle.std.proofs.Common.{ap, sym, subst}
 use Rattle.aml_laws.proofs.Preorders.{Preorder, give_respects, stop_respects, settle_respects, then_respects, settle_then_respects}
 use Rattle.aml_laws.proofs.StepsOfParts.{Keeps, lift_keeps, operand_value_keeps, operand_integer_keeps, value_at_keeps, two_values_keeps, in_turn_keeps, invoked_keeps, field_read_keeps, held_integer_keeps, referent_read_keeps, completed_keeps, stored_to_keeps, held_value_keeps, stored_back_keeps}
 use Rattle.aml_laws.specs.Declares.{IsItem, first, later}
 use Rattle.aml_laws.specs.StepsTaken.{listed, elements_of}
 use Rattle.aml_grammar.specs.declared.opcode.TermCode.TheVariants as codes
+use Rattle.aml_meaning.specs.MatchTerms.{held_meets, if_held, element_meets, found_or, none_matches, searched_last, match_rule}
 use Rattle.aml_meaning.specs.declared.term_kind.TermKind.TheVariants as kinds
 use Rattle.aml_meaning.specs.declared.term_kind.DataKind.TheVariants as datas
 use Rattle.aml_meaning.specs.declared.term_kind.DeclarationKind.TheVariants as declarations
 use Rattle.aml_meaning.specs.declared.term_kind.OperatorKind.TheVariants as operators
 use Rattle.aml_meaning.specs.declared.term_kind.StatementKind.TheVariants as statements
-use Rattle.aml_meaning.specs.declared.invocation.Invocation.TheVariants as invocations
-use Rattle.aml_meaning.specs.declared.store_target.TargetKind.TheVariants as target
+use Rattle.aml_meaning.specs.declared.term_kind.TargetKind.TheVariants as target
 use Rattle.aml_meaning.specs.declared.term_kind.RegionKind.TheVariants as regions
 use Rattle.aml_meaning.specs.declared.term_kind.WideKind.TheVariants as wides
 
@@ -127,9 +127,9 @@ module _ {S : Type 0} (R : Preorder ℕ) (accesses : Accesses S) (ev : Task → 
   unfolding test_rule
   test_rule_keeps k scope depth t = then_respects _ _ (two_values_keeps R accesses ev parts scope depth t) (λ x. then_respects _ _ (lift_keeps R _) (λ r. give_respects _))
 
-  not_rule_keeps : (scope : List Seg) (depth : ℕ) (t : Tree) → Keeps R (not_rule accesses ev scope depth t)
-  unfolding not_rule
-  not_rule_keeps scope depth t = then_respects _ _ (value_at_keeps R accesses ev parts scope depth t 0) (λ v. then_respects _ _ (lift_keeps R _) (λ r. give_respects _))
+  lnot_rule_keeps : (scope : List Seg) (depth : ℕ) (t : Tree) → Keeps R (lnot_rule accesses ev scope depth t)
+  unfolding lnot_rule
+  lnot_rule_keeps scope depth t = then_respects _ _ (value_at_keeps R accesses ev parts scope depth t 0) (λ v. then_respects _ _ (lift_keeps R _) (λ r. give_respects _))
 
   referent_of_value_keeps : (scope : List Seg) (depth : ℕ) (u : Tree) → Keeps R (referent_of_value accesses ev scope depth u)
   unfolding referent_of_value
@@ -367,7 +367,7 @@ module _ {S : Type 0} (R : Preorder ℕ) (accesses : Accesses S) (ev : Task → 
     operator_rule_keeps operators.Divide = divide_rule_keeps
     operator_rule_keeps (operators.One k) = one_rule_keeps k
     operator_rule_keeps (operators.Test k) = test_rule_keeps k scope depth t
-    operator_rule_keeps operators.LogicalNot = not_rule_keeps scope depth t
+    operator_rule_keeps operators.LNot = lnot_rule_keeps scope depth t
     operator_rule_keeps (operators.Count k) = count_rule_keeps k
     operator_rule_keeps operators.SizeOf = size_rule_keeps
     operator_rule_keeps operators.ObjectType = type_rule_keeps

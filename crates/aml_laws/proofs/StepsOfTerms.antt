@@ -1,14 +1,14 @@
 -- The steps that a rule takes are taken by its parts, its targets and its names of elements.
 use Rattle.std.specs.Prelude.{◌≡◌, ℕ, List, refl}
 use Rattle.ar_space.specs.Accesses.{Accesses}
+use Rattle.aml_world.specs.state.State.{State}
+use Rattle.aml_world.specs.state.Run.{Run}
 use Rattle.aml_meaning.specs.declared.flow.Flow.{Flow}
-use Rattle.aml_meaning.specs.State.{State}
-use Rattle.aml_meaning.specs.Run.{Run}
 use Rattle.aml_path.specs.declared.segment.Seg.{Seg}
 use Rattle.aml_grammar.specs.Tree.{Trees}
 use Rattle.aml_objects.specs.declared.value.Value.{Value}
 use Rattle.aml_meaning.specs.Tasks.{Task, in_turn}
-use Rattle.aml_meaning.specs.Invocations.{invoked}
+use Rattle.aml_meaning.specs.Calls.{invoked}
 use Rattle.aml_meaning.specs.Evaluation.{rule}
 use Rattle.aml_laws.specs.StepsTaken.{TakenBy, none, part, target, element, after, TakenInTerm, TakenByParts}
 use Rattle.aml_laws.proofs.Preorders.{Preorder}

@@ -16,14 +16,14 @@ use Rattle.aml_objects.specs.declared.value.Reference.{Reference}
 use Rattle.aml_objects.specs.declared.value.Slot.TheVariants.{Local}
 use Rattle.aml_objects.specs.declared.value.Value.{Value}
 use Rattle.aml_namespace.specs.Namespace.{Namespace, with_object, replaced, replaced_in}
-use Rattle.aml_meaning.specs.State.{State, on_objects, on_names}
-use Rattle.aml_meaning.specs.StoreTargets.{held_at, last_index, or_ended, latest_frame, slot_held}
-use Rattle.aml_meaning.specs.declared.store_target.Holding.{Holding}
-use Rattle.aml_meaning.specs.declared.store_target.Holding.TheVariants as holding
-use Rattle.aml_meaning.specs.Stores.{slot_put, copy_into_slot, copy_into_name, copy_over, store_in_frame, store_in_slot, stored_through, copy_in_name, stored, copied_to}
-use Rattle.aml_meaning.specs.declared.store_target.StoreTarget.TheVariants as targets
-use Rattle.aml_meaning.specs.declared.store_target.Stored.{Stored}
-use Rattle.aml_meaning.specs.declared.store_target.Stored.TheVariants as store
+use Rattle.aml_world.specs.state.State.{State, on_objects, on_names}
+use Rattle.aml_world.specs.values.StoreTargets.{held_at, last_index, or_ended, latest_frame, slot_held}
+use Rattle.aml_world.specs.declared.values.store_target.Holding.{Holding}
+use Rattle.aml_world.specs.declared.values.store_target.Holding.TheVariants as holding
+use Rattle.aml_world.specs.values.Stores.{slot_put, copy_into_slot, copy_into_name, copy_over, store_in_frame, store_in_slot, stored_through, copy_in_name, stored, copied_to}
+use Rattle.aml_world.specs.declared.values.store_target.StoreTarget.TheVariants as targets
+use Rattle.aml_world.specs.declared.values.store_target.Stored.{Stored}
+use Rattle.aml_world.specs.declared.values.store_target.Stored.TheVariants as store
 use Rattle.aml_laws.specs.Copied.{IsCopy}
 use Rattle.aml_laws.specs.StoredCopies.{NameHoldsCopy, LocalHoldsCopy}
 use Rattle.aml_laws.proofs.CopiesApart.{copy_is_apart, copy_adds}

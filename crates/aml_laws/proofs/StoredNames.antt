@@ -15,12 +15,12 @@ use Rattle.aml_objects.specs.declared.value.Value.{Value}
 use Rattle.aml_objects.specs.declared.value.Value.TheVariants as value
 use Rattle.aml_convert.specs.Conversions.{to_text_of, to_buffer_of}
 use Rattle.aml_namespace.specs.Namespace.{replaced}
-use Rattle.aml_meaning.specs.State.{State, on_objects, on_names}
-use Rattle.aml_meaning.specs.Readings.{integer_in}
-use Rattle.aml_meaning.specs.StoreTargets.{held_at}
-use Rattle.aml_meaning.specs.Stores.{text_in, bytes_in, store_integer, store_text, store_bytes, store_package, store_in_name, stored, copy_in_name, copied_to}
-use Rattle.aml_meaning.specs.declared.store_target.StoreTarget.TheVariants as targets
-use Rattle.aml_meaning.specs.declared.store_target.Stored.TheVariants as store
+use Rattle.aml_world.specs.state.State.{State, on_objects, on_names}
+use Rattle.aml_world.specs.state.Readings.{integer_in}
+use Rattle.aml_world.specs.values.StoreTargets.{held_at}
+use Rattle.aml_world.specs.values.Stores.{text_in, bytes_in, store_integer, store_text, store_bytes, store_package, store_in_name, stored, copy_in_name, copied_to}
+use Rattle.aml_world.specs.declared.values.store_target.StoreTarget.TheVariants as targets
+use Rattle.aml_world.specs.declared.values.store_target.Stored.TheVariants as store
 use Rattle.aml_laws.specs.StoredNames.{data_entry, with_integer, with_object_numbered, cut_or_filled}
 
 module _ {S : Type 0} (w : State S) (path : List Seg) (number : ℕ) (v : Value) where

@@ -13,10 +13,10 @@ use Rattle.aml_objects.specs.declared.object.Object.TheVariants as object
 use Rattle.aml_objects.specs.declared.value.Value.{Value}
 use Rattle.aml_objects.specs.declared.value.Value.TheVariants as value
 use Rattle.aml_convert.specs.Conversions.{to_text_of, to_buffer_of}
-use Rattle.aml_meaning.specs.State.{State, on_objects}
-use Rattle.aml_meaning.specs.StoreTargets.{held_at}
-use Rattle.aml_meaning.specs.Stores.{text_in, bytes_in, store_text, store_bytes, store_in_name, stored}
-use Rattle.aml_meaning.specs.declared.store_target.StoreTarget.TheVariants as targets
+use Rattle.aml_world.specs.state.State.{State, on_objects}
+use Rattle.aml_world.specs.values.StoreTargets.{held_at}
+use Rattle.aml_world.specs.values.Stores.{text_in, bytes_in, store_text, store_bytes, store_in_name, stored}
+use Rattle.aml_world.specs.declared.values.store_target.StoreTarget.TheVariants as targets
 use Rattle.aml_laws.specs.StoredNames.{data_entry, cut_or_filled}
 
 module _ {S : Type 0} (w : State S) (path : List Seg) (number : ℕ) (v : Value) where

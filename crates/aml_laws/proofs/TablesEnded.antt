@@ -11,10 +11,11 @@ use Rattle.ar_space.specs.Change.{give, go_on, ◌>>=◌}
 use Rattle.aml_grammar.specs.Tree.{Trees}
 use Rattle.aml_objects.specs.declared.value.Value.{Value}
 use Rattle.aml_objects.specs.declared.value.Value.TheVariants as value
+use Rattle.aml_world.specs.state.Mutexes.{released}
+use Rattle.aml_world.specs.state.Slots.{opened, closed}
+use Rattle.aml_world.specs.state.State.{State}
 use Rattle.aml_meaning.specs.declared.flow.Flow.{Flow}
-use Rattle.aml_meaning.specs.Calling.{released, ending, with_steps, framed, in_frame, table_terms, table_run, at_root, loaded}
-use Rattle.aml_meaning.specs.Slots.{opened, closed}
-use Rattle.aml_meaning.specs.State.{State}
+use Rattle.aml_meaning.specs.Calling.{ending, with_steps, framed, in_frame, table_terms, table_run, at_root, loaded}
 use Rattle.aml_laws.specs.Ends.{EndsAs, at_the_root, TableEnds}
 use Rattle.aml_laws.specs.FramesOpened.{IsFrameOpened}
 use Rattle.aml_laws.specs.Numbers.{numbers_of}

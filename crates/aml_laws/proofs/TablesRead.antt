@@ -4,13 +4,13 @@ use Rattle.std.proofs.Common.{ap}
 use Rattle.ar_space.specs.Accesses.{Accesses}
 use Rattle.ar_space.specs.Change.{go_on, ◌>>=◌}
 use Rattle.ar_space.specs.declared.refusal.Refusal.{Refusal}
-use Rattle.aml_grammar.specs.declared.arities.Arity.{Arity}
+use Rattle.aml_arities.specs.declared.arities.Arity.{Arity}
 use Rattle.aml_grammar.specs.Grammar.{table_reading_within}
 use Rattle.aml_grammar.specs.Shape.{trees_of}
 use Rattle.aml_grammar.specs.Tree.{Tree}
 use Rattle.aml_namespace.specs.Namespace.{mutexes_released}
+use Rattle.aml_world.specs.state.State.{State}
 use Rattle.aml_meaning.specs.Calling.{terms_kept, table_terms, table_run, ending, loaded}
-use Rattle.aml_meaning.specs.State.{State}
 
 module _ {S : Type 0} (w : State S) (bytes : List ℕ) where
   pub table_read : (ts : List Tree) (told : List Arity) → table_reading_within w.nesting.levels bytes w.arities ≡ Ok (ts, told) → table_terms bytes w ≡ (Ok (trees_of ts), record w { arities = told })

@@ -7,17 +7,17 @@ use Rattle.ar_space.specs.declared.refusal.Refusal.TheVariants as refusal
 use Rattle.ar_space.specs.Accesses.{Accesses}
 use Rattle.ar_space.specs.Change.{Change, give, go_on, ◌>>=◌}
 use Rattle.ar_space.specs.Outcome.{Outcome}
-use Rattle.aml_grammar.specs.declared.arities.Arity.{Arity}
+use Rattle.aml_arities.specs.declared.arities.Arity.{Arity}
 use Rattle.aml_grammar.specs.Grammar.{max_depth, table_reading_within}
 use Rattle.aml_grammar.specs.Tree.{Tree, Trees}
 use Rattle.aml_objects.specs.declared.value.Value.{Value}
 use Rattle.aml_objects.specs.declared.value.Value.TheVariants as value
-use Rattle.aml_meaning.specs.declared.profile.Profile.TheVariants as profiles
+use Rattle.aml_world.specs.declared.state.profile.Profile.TheVariants as profiles
+use Rattle.aml_world.specs.state.PassedOver.{is_passable}
+use Rattle.aml_world.specs.state.Slots.{opened}
+use Rattle.aml_world.specs.state.State.{State}
 use Rattle.aml_meaning.specs.Calling.{ending, with_steps, framed, in_frame, terms_kept, table_terms, at_root, table_run, loaded}
 use Rattle.aml_meaning.specs.Meaning.{meaning}
-use Rattle.aml_meaning.specs.PassedOver.{is_passable}
-use Rattle.aml_meaning.specs.Slots.{opened}
-use Rattle.aml_meaning.specs.State.{State}
 use Rattle.aml_meaning.specs.Tasks.{in_turn}
 use Rattle.aml_laws.proofs.ListsGoOn.{list_ends_for_good}
 use Rattle.aml_laws.proofs.ReadingRefusals.{table_reading_within_reads}

@@ -19,25 +19,25 @@ use Rattle.aml_objects.specs.declared.value.Reference.TheVariants as reference
 use Rattle.aml_objects.specs.declared.value.Value.{Value}
 use Rattle.aml_objects.specs.declared.value.Value.TheVariants as value
 use Rattle.aml_convert.specs.Conversions.{to_buffer_of}
+use Rattle.aml_world.specs.declared.state.profile.Profile.TheVariants as profiles
+use Rattle.aml_world.specs.declared.values.store_target.StoreTarget.{StoreTarget}
+use Rattle.aml_world.specs.declared.values.store_target.Stored.TheVariants as store
+use Rattle.aml_world.specs.declared.values.operation_kind.EventChange.{EventChange}
+use Rattle.aml_world.specs.declared.values.operation_kind.EventChange.TheVariants as changes
+use Rattle.aml_world.specs.state.Events.{name_referred, event_named}
+use Rattle.aml_world.specs.state.Mutexes.{acquired_at, given_back_at}
+use Rattle.aml_world.specs.state.Readings.{path_found}
+use Rattle.aml_world.specs.state.Run.{lift}
+use Rattle.aml_world.specs.state.State.{State}
+use Rattle.aml_world.specs.values.StoreTargets.{declaration, name_tested, reference_of, target_named}
+use Rattle.aml_world.specs.values.Stores.{copied_to}
 use Rattle.aml_meaning.specs.declared.flow.Flow.TheVariants as flow
-use Rattle.aml_meaning.specs.declared.profile.Profile.TheVariants as profiles
-use Rattle.aml_meaning.specs.declared.store_target.StoreTarget.{StoreTarget}
-use Rattle.aml_meaning.specs.declared.store_target.Stored.TheVariants as store
-use Rattle.aml_meaning.specs.declared.term_kind.EventChange.{EventChange}
-use Rattle.aml_meaning.specs.declared.term_kind.EventChange.TheVariants as changes
 use Rattle.aml_meaning.specs.Evaluation.{rule}
-use Rattle.aml_meaning.specs.Events.{name_referred, event_named}
 use Rattle.aml_meaning.specs.FieldCalls.{field_written}
 use Rattle.aml_meaning.specs.Meaning.{meaning}
-use Rattle.aml_meaning.specs.Mutexes.{acquired_at, given_back_at}
 use Rattle.aml_meaning.specs.OperatorTerms.{acquire_rule, reference_rule, copy_rule}
-use Rattle.aml_meaning.specs.Readings.{path_found}
-use Rattle.aml_meaning.specs.Run.{lift}
-use Rattle.aml_meaning.specs.State.{State}
 use Rattle.aml_meaning.specs.StatementTerms.{release_rule, notify_rule}
-use Rattle.aml_meaning.specs.StoreTargets.{declaration, name_tested, reference_of}
-use Rattle.aml_meaning.specs.Stores.{copied_to}
-use Rattle.aml_meaning.specs.TargetTerms.{target_named, name_target, target_of, target_at}
+use Rattle.aml_meaning.specs.TargetTerms.{name_target, target_of, target_at}
 use Rattle.aml_meaning.specs.Tasks.{task, operand_value, value_at}
 use Rattle.aml_meaning.specs.WideTerms.{event_rule, wait_rule}
 use Rattle.aml_laws.specs.FieldNames.{bits_written_at}

@@ -14,7 +14,7 @@ use Rattle.aml_path.specs.Segments.{seg_of, tested}
 use Rattle.aml_path.specs.declared.name.Prefix.TheVariants.{Parents, Root}
 use Rattle.aml_path.specs.declared.name.Prefix.{Prefix}
 use Rattle.aml_path.specs.declared.segment.Seg.{Seg}
-use Rattle.aml_meaning.specs.PassedOver.{is_passable}
+use Rattle.aml_world.specs.state.PassedOver.{is_passable}
 
 abbrev pub TellsOfTerms : Refusal → Type 0
 TellsOfTerms (refusals.Term f n) = Unit {0}

@@ -20,24 +20,24 @@ use Rattle.aml_objects.specs.declared.value.Value.{Value}
 use Rattle.aml_objects.specs.declared.value.Value.TheVariants as value
 use Rattle.aml_convert.specs.Integers.{bits_of, truth}
 use Rattle.aml_convert.specs.Conversions.{to_integer_of, compared}
-use Rattle.aml_convert.specs.Operators.{is_true, logical_result_of, negated, holds}
+use Rattle.aml_convert.specs.Operators.{is_true, logical_result_of, lnot, holds}
 use Rattle.aml_convert.specs.declared.logic.LogicalOperator.{LogicalOperator}
 use Rattle.aml_convert.specs.declared.logic.LogicalOperator.TheVariants as logical
 use Rattle.aml_convert.specs.declared.logic.Comparison.{Comparison}
 use Rattle.aml_convert.specs.declared.logic.Comparison.TheVariants as comparison
+use Rattle.aml_world.specs.declared.values.operation_kind.Test.{Test}
+use Rattle.aml_world.specs.declared.values.operation_kind.Test.TheVariants as test
+use Rattle.aml_world.specs.state.State.{State}
+use Rattle.aml_world.specs.state.Run.{Run, lift}
+use Rattle.aml_world.specs.state.Readings.{integer_in}
+use Rattle.aml_world.specs.values.Operations.{integers_tested, operated_logically, integer_lnot, lnot_in, truth_of, compared_in, result_of_test}
 use Rattle.aml_meaning.specs.declared.flow.Flow.{Flow}
 use Rattle.aml_meaning.specs.declared.flow.Flow.TheVariants as flow
 use Rattle.aml_meaning.specs.declared.term_kind.TermKind.TheVariants as kinds
 use Rattle.aml_meaning.specs.declared.term_kind.OperatorKind.TheVariants as operators
-use Rattle.aml_meaning.specs.declared.term_kind.Test.{Test}
-use Rattle.aml_meaning.specs.declared.term_kind.Test.TheVariants as test
-use Rattle.aml_meaning.specs.State.{State}
-use Rattle.aml_meaning.specs.Run.{Run, lift}
 use Rattle.aml_meaning.specs.Terms.{kind_of}
 use Rattle.aml_meaning.specs.Tasks.{task, operand_value, value_at, two_values}
-use Rattle.aml_meaning.specs.Readings.{integer_in}
-use Rattle.aml_meaning.specs.Operations.{integers_tested, operated_logically, integer_turned, turned, truth_of, compared_in}
-use Rattle.aml_meaning.specs.OperatorTerms.{result_of_test, test_rule, not_rule}
+use Rattle.aml_meaning.specs.OperatorTerms.{test_rule, lnot_rule}
 use Rattle.aml_meaning.specs.Evaluation.{rule}
 use Rattle.aml_meaning.specs.Meaning.{meaning}
 use Rattle.aml_meaning.proofs.Agree.{not_zero}
@@ -109,14 +109,14 @@ any_truth width a b = truth_by width (is_true a || is_true b) ((0 < a) ⊎ (0 < 
     not false false e f is (inl some) = none_by_test a e some
     not false false e f is (inr some) = none_by_test b f some
 
-zero_truth : (width : IntegerWidth) (a : ℕ) → IsTruth width (a ≡ 0) (negated width a)
+zero_truth : (width : IntegerWidth) (a : ℕ) → IsTruth width (a ≡ 0) (lnot width a)
 zero_truth width zero = record { true = λ h. refl; false = λ n. absurd (n refl) }
 zero_truth width (suc a) = record { true = λ h. absurd (omega (arith, h)); false = λ n. rw (not_zero a) refl }
 
 module _ {S : Type 0} (w : State S) (v u : Value) (a b : ℕ) (one : integer_in v w ≡ (Ok a, w)) where
-  turned_is : turned v w ≡ (Ok (value.Integer (negated w.width a)), w)
-  unfolding turned integer_turned go_on ◌>>=◌
-  turned_is = rw one refl
+  lnot_is : lnot_in v w ≡ (Ok (value.Integer (lnot w.width a)), w)
+  unfolding lnot_in integer_lnot go_on ◌>>=◌
+  lnot_is = rw one refl
 
   logical_is : integer_in u w ≡ (Ok b, w) → (k : LogicalOperator) → operated_logically k v u w ≡ (Ok (value.Integer (logical_result_of k w.width a b)), w)
   unfolding operated_logically integers_tested go_on ◌>>=◌
@@ -136,15 +136,15 @@ pub tells_any : {S : Type 0} → TellsOfTwo S opcodes.LOr (λ a b. (0 < a) ⊎ (
 tells_any = tells_two logical.Or opcodes.LOr (λ a b. (0 < a) ⊎ (0 < b)) refl any_truth
 
 module _ {S : Type 0} (accesses : Accesses S) (scope : List Seg) (depth : ℕ) (x : Tree) (w : State S) (steps a : ℕ) (after : State S × ℕ) (h : OneInteger accesses scope depth x (w, steps) a after) where
-  turned_to : rule accesses (meaning accesses) (task scope depth (of_one opcodes.LNot x)) (w, steps) ≡ (Ok (flow.Value (value.Integer (negated after.0.width a))), after)
-  unfolding rule not_rule value_at operand_value settle lift give go_on ◌>>=◌
-  turned_to = rw (h.gives, turned_is after.0 h.v h.v a a h.converts) refl
+  lnot_to : rule accesses (meaning accesses) (task scope depth (of_one opcodes.LNot x)) (w, steps) ≡ (Ok (flow.Value (value.Integer (lnot after.0.width a))), after)
+  unfolding rule lnot_rule value_at operand_value settle lift give go_on ◌>>=◌
+  lnot_to = rw (h.gives, lnot_is after.0 h.v h.v a a h.converts) refl
 
-  turned_gives : Gives accesses scope depth (of_one opcodes.LNot x) (w, suc steps) (negated after.0.width a) after
-  turned_gives = (term_begins accesses (task scope depth (of_one opcodes.LNot x))).paid w steps ∙ turned_to
+  lnot_gives : Gives accesses scope depth (of_one opcodes.LNot x) (w, suc steps) (lnot after.0.width a) after
+  lnot_gives = (term_begins accesses (task scope depth (of_one opcodes.LNot x))).paid w steps ∙ lnot_to
 
 pub tells_zero : {S : Type 0} → TellsOfOne S opcodes.LNot (λ a. a ≡ 0)
-tells_zero accesses scope depth x w steps a after h = (negated after.0.width a, zero_truth after.0.width a, turned_gives accesses scope depth x w steps a after h)
+tells_zero accesses scope depth x w steps a after h = (lnot after.0.width a, zero_truth after.0.width a, lnot_gives accesses scope depth x w steps a after h)
 
 -- ---- comparisons
 

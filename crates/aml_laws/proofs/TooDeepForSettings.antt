@@ -9,7 +9,7 @@ use Rattle.ar_space.specs.declared.refusal.TermFault.{TermFault}
 use Rattle.ar_space.specs.declared.refusal.TermFault.TheVariants as faults
 use Rattle.ar_space.specs.Outcome.{Outcome}
 use Rattle.aml_path.specs.declared.segment.Seg.{Seg}
-use Rattle.aml_grammar.specs.declared.arities.Arity.{Arity}
+use Rattle.aml_arities.specs.declared.arities.Arity.{Arity}
 use Rattle.aml_grammar.specs.State.{State}
 use Rattle.aml_grammar.specs.Tree.{Tree}
 use Rattle.aml_grammar.specs.Grammar.{by_arities, fault_within, max_depth, reading_within, table_reading_within, term_list_within, with_arities, within}

@@ -12,18 +12,17 @@ use Rattle.aml_grammar.specs.Apart.{operand_of, name_of}
 use Rattle.aml_objects.specs.declared.object.Element.TheVariants as element
 use Rattle.aml_objects.specs.declared.value.Slot.{Slot}
 use Rattle.aml_objects.specs.declared.value.Value.{Value}
+use Rattle.aml_world.specs.declared.values.store_target.StoreTarget.{StoreTarget}
+use Rattle.aml_world.specs.declared.values.store_target.StoreTarget.TheVariants as targets
+use Rattle.aml_world.specs.state.State.{State}
+use Rattle.aml_world.specs.state.Run.{Run, lift, charge}
+use Rattle.aml_world.specs.values.StoreTargets.{tested, target_named, reference_in}
 use Rattle.aml_meaning.specs.declared.flow.Flow.{Flow}
-use Rattle.aml_meaning.specs.declared.store_target.TargetKind.{TargetKind}
-use Rattle.aml_meaning.specs.declared.store_target.TargetKind.TheVariants as kinds
-use Rattle.aml_meaning.specs.declared.store_target.StoreTarget.{StoreTarget}
-use Rattle.aml_meaning.specs.declared.store_target.StoreTarget.TheVariants as targets
-use Rattle.aml_meaning.specs.State.{State}
-use Rattle.aml_meaning.specs.Run.{Run, lift, charge}
-use Rattle.aml_meaning.specs.Tasks.{Task, task, operand_value, value_at}
-use Rattle.aml_meaning.specs.Readings.{value_in}
-use Rattle.aml_meaning.specs.StoreTargets.{tested}
+use Rattle.aml_meaning.specs.declared.term_kind.TargetKind.{TargetKind}
+use Rattle.aml_meaning.specs.declared.term_kind.TargetKind.TheVariants as kinds
+use Rattle.aml_meaning.specs.Tasks.{Task, task, operand_value, value_at, value_in}
 use Rattle.aml_meaning.specs.Terms.{target_kind}
-use Rattle.aml_meaning.specs.TargetTerms.{target_named, reference_in, name_target, indexed_target, dereferenced_target, target_by_kind, target_of, first_target, part_target, target_at}
+use Rattle.aml_meaning.specs.TargetTerms.{name_target, indexed_target, dereferenced_target, target_by_kind, target_of, first_target, part_target, target_at}
 use Rattle.aml_meaning.specs.DataTerms.{named_element}
 use Rattle.aml_meaning.specs.Evaluation.{rule}
 use Rattle.aml_meaning.specs.Meaning.{meaning}

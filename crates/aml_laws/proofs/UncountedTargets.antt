@@ -23,21 +23,21 @@ use Rattle.aml_objects.specs.declared.value.Reference.{Reference}
 use Rattle.aml_objects.specs.declared.value.Reference.TheVariants as reference
 use Rattle.aml_objects.specs.declared.value.Slot.{Slot}
 use Rattle.aml_objects.specs.declared.value.Value.TheVariants as value
-use Rattle.aml_meaning.specs.declared.frame.Frame.{Frame}
-use Rattle.aml_meaning.specs.declared.store_target.Held.TheVariants as held
-use Rattle.aml_meaning.specs.declared.store_target.Holding.TheVariants as holding
-use Rattle.aml_meaning.specs.declared.store_target.StoreTarget.{StoreTarget}
-use Rattle.aml_meaning.specs.declared.store_target.StoreTarget.TheVariants as targets
-use Rattle.aml_meaning.specs.declared.term_kind.Count.{Count}
-use Rattle.aml_meaning.specs.declared.term_kind.Count.TheVariants as count
+use Rattle.aml_world.specs.declared.state.frame.Frame.{Frame}
+use Rattle.aml_world.specs.declared.values.store_target.Held.TheVariants as held
+use Rattle.aml_world.specs.declared.values.store_target.Holding.TheVariants as holding
+use Rattle.aml_world.specs.declared.values.store_target.StoreTarget.{StoreTarget}
+use Rattle.aml_world.specs.declared.values.store_target.StoreTarget.TheVariants as targets
+use Rattle.aml_world.specs.declared.values.operation_kind.Count.{Count}
+use Rattle.aml_world.specs.declared.values.operation_kind.Count.TheVariants as count
+use Rattle.aml_world.specs.state.State.{State, on_objects}
+use Rattle.aml_world.specs.state.Run.{lift}
+use Rattle.aml_world.specs.state.Slots.{frame_index, slot_in}
+use Rattle.aml_world.specs.state.Readings.{integer_in}
+use Rattle.aml_world.specs.values.StoreTargets.{holding_of, held_at, latest_frame, frame_found, slot_held, own_slot, slot_read, declaration, once, declared_once, value_once, slot_once, held_once, dereferenced, name_read, held_in_slot, target_read}
 use Rattle.aml_meaning.specs.declared.term_kind.OperatorKind.TheVariants as operators
 use Rattle.aml_meaning.specs.declared.term_kind.TermKind.TheVariants as kinds
-use Rattle.aml_meaning.specs.State.{State, on_objects}
-use Rattle.aml_meaning.specs.Run.{lift}
-use Rattle.aml_meaning.specs.Slots.{frame_index, slot_in}
 use Rattle.aml_meaning.specs.Terms.{kind_of}
-use Rattle.aml_meaning.specs.Readings.{integer_in}
-use Rattle.aml_meaning.specs.StoreTargets.{holding_of, held_at, latest_frame, frame_found, slot_held, own_slot, slot_read, declaration, once, declared_once, value_once, slot_once, held_once, dereferenced, name_read, held_in_slot, target_read}
 use Rattle.aml_meaning.specs.OperatorTerms.{count_rule}
 use Rattle.aml_meaning.specs.Meaning.{meaning}
 use Rattle.aml_laws.specs.OperatorTerms.{counting, SlotIsEmpty, IsRefused}
@@ -126,5 +126,5 @@ module _ {S : Type 0} (accesses : Accesses S) (scope : List Seg) (depth : ℕ) (
 
 pub counts_no_value : {S : Type 0} (accesses : Accesses S) (home : List Seg) (depth : ℕ) (op : Opcode) → IsCount op → (p : Part) (w : State S) (steps : ℕ) (t : StoreTarget) (between : State S × ℕ) → NamesAt accesses home depth (w, steps) p t between → (e : Refusal) → HoldsNoValue between.0 t e
     → IsRefused accesses home depth (counting op p) (w, suc steps) e between
-counts_no_value accesses home depth _ upwards p w steps t between finds e none = counts_none accesses home depth p w steps count.Up opcodes.Increment refl between t finds e none
-counts_no_value accesses home depth _ downwards p w steps t between finds e none = counts_none accesses home depth p w steps count.Down opcodes.Decrement refl between t finds e none
+counts_no_value accesses home depth _ upwards p w steps t between finds e none = counts_none accesses home depth p w steps count.Increment opcodes.Increment refl between t finds e none
+counts_no_value accesses home depth _ downwards p w steps t between finds e none = counts_none accesses home depth p w steps count.Decrement opcodes.Decrement refl between t finds e none

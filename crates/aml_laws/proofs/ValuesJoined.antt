@@ -23,14 +23,14 @@ use Rattle.aml_objects.specs.declared.value.Value.TheVariants as value
 use Rattle.aml_convert.specs.Conversions.{to_integer_of, to_text_of, to_buffer_of, integer_bytes}
 use Rattle.aml_convert.specs.Concatenation.{concatenated, resources_joined}
 use Rattle.aml_convert.specs.Strings.{string_of, part_of, middle_of}
+use Rattle.aml_world.specs.declared.values.operation_kind.TwoOperands.TheVariants as two
+use Rattle.aml_world.specs.state.State.{State, on_objects}
+use Rattle.aml_world.specs.state.Run.{lift}
+use Rattle.aml_world.specs.state.Readings.{integer_in}
+use Rattle.aml_world.specs.values.Operations.{made_of, joined_contents, joined, joined_items, joined_resources}
+use Rattle.aml_world.specs.values.WideOperations.{string_text, string_in, middle_content, middle_in}
 use Rattle.aml_meaning.specs.declared.flow.Flow.TheVariants as flow
-use Rattle.aml_meaning.specs.declared.term_kind.TwoOperands.TheVariants as two
-use Rattle.aml_meaning.specs.State.{State, on_objects}
-use Rattle.aml_meaning.specs.Run.{lift}
-use Rattle.aml_meaning.specs.Readings.{integer_in}
 use Rattle.aml_meaning.specs.Tasks.{task, operand_value, value_at, two_values}
-use Rattle.aml_meaning.specs.Operations.{made_of, joined_contents, joined, joined_items, joined_resources}
-use Rattle.aml_meaning.specs.WideOperations.{string_text, string_in, middle_content, middle_in}
 use Rattle.aml_meaning.specs.WideTerms.{formed_at, to_string_rule, middle_rule}
 use Rattle.aml_meaning.specs.Evaluation.{rule}
 use Rattle.aml_meaning.specs.Meaning.{meaning}

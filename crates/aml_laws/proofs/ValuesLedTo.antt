@@ -9,14 +9,14 @@ use Rattle.aml_grammar.specs.Tree.{Tree, inner}
 use Rattle.aml_objects.specs.declared.value.Reference.{Reference}
 use Rattle.aml_objects.specs.declared.value.Value.{Value}
 use Rattle.aml_objects.specs.declared.value.Value.TheVariants as value
-use Rattle.aml_meaning.specs.declared.object_type.Referent.{Referent}
-use Rattle.aml_meaning.specs.declared.object_type.Referent.TheVariants as referent
+use Rattle.aml_world.specs.declared.values.object_type.Referent.{Referent}
+use Rattle.aml_world.specs.declared.values.object_type.Referent.TheVariants as referent
+use Rattle.aml_world.specs.state.Run.{lift}
+use Rattle.aml_world.specs.state.State.{State}
+use Rattle.aml_world.specs.values.StoreTargets.{value_followed, followed}
 use Rattle.aml_meaning.specs.Evaluation.{rule}
 use Rattle.aml_meaning.specs.Meaning.{meaning}
 use Rattle.aml_meaning.specs.OperatorTerms.{referent_of_value, referent_at, size_rule, type_rule}
-use Rattle.aml_meaning.specs.Run.{lift}
-use Rattle.aml_meaning.specs.State.{State}
-use Rattle.aml_meaning.specs.StoreTargets.{value_followed, followed}
 use Rattle.aml_meaning.specs.Tasks.{task, operand_value}
 use Rattle.aml_laws.specs.OperatorTerms.{IsRefused}
 use Rattle.aml_laws.specs.ReferringTerms.{size_of, object_type}

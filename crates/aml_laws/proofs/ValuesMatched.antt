@@ -35,22 +35,23 @@ use Rattle.aml_convert.specs.Matching.{match_operator, is_met, is_met_by, is_mat
 use Rattle.aml_convert.specs.declared.matching.MatchOperator.{MatchOperator}
 use Rattle.aml_convert.specs.declared.matching.MatchOperator.TheVariants as operators
 use Rattle.aml_namespace.specs.Search.{found}
+use Rattle.aml_world.specs.declared.values.searches.MatchTest.{MatchTest}
+use Rattle.aml_world.specs.declared.values.searches.Search.{Search}
+use Rattle.aml_world.specs.declared.values.store_target.Held.{Held}
+use Rattle.aml_world.specs.declared.values.store_target.Held.TheVariants as held
+use Rattle.aml_world.specs.state.State.{State, on_objects}
+use Rattle.aml_world.specs.state.Run.{Run, lift}
+use Rattle.aml_world.specs.fields.Fields.{field_value}
+use Rattle.aml_world.specs.state.Readings.{integer_in, integer_kept, read_as}
+use Rattle.aml_world.specs.fields.Regions.{value_of_bits}
+use Rattle.aml_world.specs.values.StoreTargets.{named_once}
+use Rattle.aml_world.specs.values.Operations.{size_held}
+use Rattle.aml_world.specs.values.Searches.{test_of, search_begun, unless_uninitialized, where_named, name_held, element_held, meets, value_meets}
 use Rattle.aml_meaning.specs.declared.flow.Flow.{Flow}
 use Rattle.aml_meaning.specs.declared.flow.Flow.TheVariants as flow
-use Rattle.aml_meaning.specs.declared.searches.MatchTest.{MatchTest}
-use Rattle.aml_meaning.specs.declared.searches.Search.{Search}
-use Rattle.aml_meaning.specs.declared.store_target.Held.{Held}
-use Rattle.aml_meaning.specs.declared.store_target.Held.TheVariants as held
-use Rattle.aml_meaning.specs.State.{State, on_objects}
-use Rattle.aml_meaning.specs.Run.{Run, lift}
-use Rattle.aml_meaning.specs.Fields.{field_value}
 use Rattle.aml_meaning.specs.FieldCalls.{field_read, held_value}
-use Rattle.aml_meaning.specs.Readings.{integer_in, integer_kept, read_as}
-use Rattle.aml_meaning.specs.Regions.{value_of_bits}
-use Rattle.aml_meaning.specs.StoreTargets.{named_once}
-use Rattle.aml_meaning.specs.Operations.{size_held}
 use Rattle.aml_meaning.specs.Tasks.{task, operand_value, value_at}
-use Rattle.aml_meaning.specs.MatchTerms.{test_of, search_begun, unless_uninitialized, where_named, name_held, element_held, meets, value_meets, found_or, none_matches, held_meets, element_meets, searched_last, match_rule}
+use Rattle.aml_meaning.specs.MatchTerms.{found_or, none_matches, held_meets, element_meets, searched_last, match_rule}
 use Rattle.aml_meaning.specs.Evaluation.{rule}
 use Rattle.aml_meaning.specs.Meaning.{meaning}
 use Rattle.aml_laws.specs.FieldNames.{IsField, NamesField, of_unit, of_buffer, bits_read_at}

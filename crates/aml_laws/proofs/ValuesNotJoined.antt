@@ -18,9 +18,9 @@ use Rattle.aml_grammar.specs.Tree.{Tree, Part}
 use Rattle.aml_objects.specs.Contents.{Content, content_in}
 use Rattle.aml_objects.specs.declared.value.Value.{Value}
 use Rattle.aml_convert.specs.Concatenation.{concatenated, before_end, buffer_bytes, resources_joined}
-use Rattle.aml_meaning.specs.declared.term_kind.TwoOperands.TheVariants as two
-use Rattle.aml_meaning.specs.State.{State}
-use Rattle.aml_meaning.specs.Operations.{joined_contents, joined, joined_items, joined_resources}
+use Rattle.aml_world.specs.declared.values.operation_kind.TwoOperands.TheVariants as two
+use Rattle.aml_world.specs.state.State.{State}
+use Rattle.aml_world.specs.values.Operations.{joined_contents, joined, joined_items, joined_resources}
 use Rattle.aml_laws.specs.JoinedTerms.{IsUnjoined, no_integer, no_text, no_bytes, HoldsNoBuffer, holds_integer, holds_string, holds_other, HasNoEnd, without_end, AreNoTemplates, first_is_none, second_is_none, first_has_no_end, second_has_no_end}
 use Rattle.aml_laws.specs.OperatorTerms.{two_to, IsRefused}
 use Rattle.aml_laws.specs.ResourceLists.{HasEndTag, here, later}

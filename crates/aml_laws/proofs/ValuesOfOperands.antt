@@ -20,28 +20,30 @@ use Rattle.aml_objects.specs.declared.entry.NamedObject.{NamedObject}
 use Rattle.aml_objects.specs.declared.entry.NamedObject.TheVariants as object
 use Rattle.aml_namespace.specs.Namespace.{without_below}
 use Rattle.aml_namespace.specs.Search.{Found, found}
+use Rattle.aml_world.specs.declared.state.invocation.Invocation.{Invocation}
+use Rattle.aml_world.specs.declared.state.invocation.Invocation.TheVariants as invocations
+use Rattle.aml_world.specs.declared.values.store_target.Held.{Held}
+use Rattle.aml_world.specs.declared.values.store_target.Held.TheVariants as held
+use Rattle.aml_world.specs.declared.values.store_target.Stored.{Stored}
+use Rattle.aml_world.specs.declared.values.store_target.Stored.TheVariants as store
+use Rattle.aml_world.specs.declared.values.store_target.StoreTarget.{StoreTarget}
+use Rattle.aml_world.specs.declared.values.object_type.Referent.{Referent}
+use Rattle.aml_world.specs.declared.values.object_type.Referent.TheVariants as referent
+use Rattle.aml_world.specs.state.State.{State}
+use Rattle.aml_world.specs.state.Run.{Run, lift}
+use Rattle.aml_world.specs.state.Slots.{slot_in, opened}
+use Rattle.aml_world.specs.state.PassedOver.{is_passable}
+use Rattle.aml_world.specs.state.Noting.{with_passed}
+use Rattle.aml_world.specs.state.Invocations.{invocation_of_body, invocation_of_object, invocation_of, named_use, invocation_found, body_terms, call_allowed}
+use Rattle.aml_world.specs.fields.Fields.{field_given}
+use Rattle.aml_world.specs.values.StoreTargets.{is_element}
 use Rattle.aml_meaning.specs.declared.flow.Flow.{Flow}
 use Rattle.aml_meaning.specs.declared.flow.Flow.TheVariants as flow
-use Rattle.aml_meaning.specs.declared.invocation.Invocation.{Invocation}
-use Rattle.aml_meaning.specs.declared.invocation.Invocation.TheVariants as invocations
-use Rattle.aml_meaning.specs.declared.store_target.Held.{Held}
-use Rattle.aml_meaning.specs.declared.store_target.Held.TheVariants as held
-use Rattle.aml_meaning.specs.declared.store_target.Stored.{Stored}
-use Rattle.aml_meaning.specs.declared.store_target.Stored.TheVariants as store
-use Rattle.aml_meaning.specs.declared.store_target.StoreTarget.{StoreTarget}
-use Rattle.aml_meaning.specs.declared.object_type.Referent.{Referent}
-use Rattle.aml_meaning.specs.declared.object_type.Referent.TheVariants as referent
-use Rattle.aml_meaning.specs.State.{State}
-use Rattle.aml_meaning.specs.Run.{Run, lift}
-use Rattle.aml_meaning.specs.Slots.{slot_in, opened}
 use Rattle.aml_meaning.specs.Terms.{inner_of, list_of}
-use Rattle.aml_meaning.specs.Readings.{value_in}
-use Rattle.aml_meaning.specs.PassedOver.{is_passable}
-use Rattle.aml_meaning.specs.Passing.{with_passed, item_done, passing}
-use Rattle.aml_meaning.specs.Tasks.{Task, task, operand_value, value_at, two_values, operand_integer, passes_over, goes_on, item, in_turn}
-use Rattle.aml_meaning.specs.Invocations.{invocation_of_body, invocation_of_object, invocation_of, named_use, invocation_found, body_terms, returned_by, leaving, frame_arguments, value_of_call, invoked, method_value, call_allowed}
-use Rattle.aml_meaning.specs.Fields.{field_given}
-use Rattle.aml_meaning.specs.FieldCalls.{asked, method_integer, answer_over, answer_within, called_at, field_read, held_integer, referent_read, completed, stored_to, stored_back, is_element, back_to, held_value}
+use Rattle.aml_meaning.specs.Tasks.{value_in, Task, task, operand_value, value_at, two_values, operand_integer, passes_over, goes_on, item, in_turn}
+use Rattle.aml_meaning.specs.Passing.{item_done, passing}
+use Rattle.aml_meaning.specs.Calls.{returned_by, leaving, frame_arguments, value_of_call, invoked, method_value}
+use Rattle.aml_meaning.specs.FieldCalls.{asked, method_integer, answer_over, answer_within, called_at, field_read, held_integer, referent_read, completed, stored_to, stored_back, back_to, held_value}
 use Rattle.aml_laws.specs.Plain.{AreBytes, PlainTree, PlainPart, PlainParts, PlainTrees}
 use Rattle.aml_laws.proofs.FoundNamesStand.{FoundStands, found_stands}
 use Rattle.aml_laws.proofs.ReadingStepsGiveBytes.{Any}

@@ -1,7 +1,7 @@
 -- The rule of each term maintains that what a world holds fits a claim, where its parts do; so every evaluation does.
 use Rattle.std.specs.Prelude.{◌≡◌, ◌==◌, ◌≤◌, ℕ, zero, suc, List, [], Bool, true, false, Option, Some, None, Ok}
 use Rattle.ar_space.specs.Change.{Change, give, settle, ◌>>=◌}
-use Rattle.aml_meaning.specs.Run.{Run, lift}
+use Rattle.aml_world.specs.state.Run.{Run, lift}
 use Rattle.ar_space.specs.Accesses.{Accesses}
 use Rattle.aml_path.specs.declared.segment.Seg.{Seg}
 use Rattle.aml_grammar.specs.declared.opcode.Opcode.{Opcode}
@@ -12,6 +12,28 @@ use Rattle.aml_grammar.specs.Apart.{code_of, operand_of}
 use Rattle.aml_objects.specs.declared.value.Value.{Value}
 use Rattle.aml_objects.specs.declared.object.Element.{Element}
 use Rattle.aml_objects.specs.declared.entry.NamedObject.{NamedObject}
+use Rattle.aml_world.specs.declared.values.operation_kind.OneOperand.{OneOperand}
+use Rattle.aml_world.specs.declared.values.operation_kind.TwoOperands.{TwoOperands}
+use Rattle.aml_world.specs.declared.values.operation_kind.Test.{Test}
+use Rattle.aml_world.specs.declared.values.operation_kind.Count.{Count}
+use Rattle.aml_world.specs.declared.state.invocation.Invocation.{Invocation}
+use Rattle.aml_world.specs.declared.state.invocation.Invocation.TheVariants as invocations
+use Rattle.aml_world.specs.declared.values.store_target.StoreTarget.{StoreTarget}
+use Rattle.aml_world.specs.declared.values.operation_kind.BufferFieldSize.{BufferFieldSize}
+use Rattle.aml_world.specs.declared.values.operation_kind.BufferFieldSize.TheVariants as sizes
+use Rattle.aml_world.specs.state.State.{State}
+use Rattle.aml_world.specs.values.StoreTargets.{reference_in, target_named}
+use Rattle.aml_world.specs.fields.BufferFields.{bits_of_size, buffer_of}
+use Rattle.aml_world.specs.declared.values.object_type.ObjectType.{ObjectType}
+use Rattle.aml_world.specs.declared.values.object_type.ObjectType.TheVariants as types
+use Rattle.aml_world.specs.declared.values.operation_kind.OneOperand.TheVariants as one
+use Rattle.aml_world.specs.declared.values.operation_kind.TwoOperands.TheVariants as two
+use Rattle.aml_world.specs.declared.values.operation_kind.Test.TheVariants as test
+use Rattle.aml_objects.specs.declared.value.Reference.{Reference}
+use Rattle.aml_path.specs.Paths.{Name}
+use Rattle.aml_world.specs.declared.values.operation_kind.Count.TheVariants as count
+use Rattle.aml_world.specs.values.Operations.{type_number, type_of_referent, result_of_two, result_of_one, result_of_test, counted_by}
+use Rattle.aml_world.specs.fields.FieldLayouts.{region_found, field_found}
 use Rattle.aml_meaning.specs.declared.flow.Flow.{Flow}
 use Rattle.aml_meaning.specs.declared.term_kind.TermKind.{TermKind}
 use Rattle.aml_meaning.specs.declared.term_kind.TermKind.TheVariants as kinds
@@ -21,58 +43,34 @@ use Rattle.aml_meaning.specs.declared.term_kind.DeclarationKind.{DeclarationKind
 use Rattle.aml_meaning.specs.declared.term_kind.DeclarationKind.TheVariants as declarations
 use Rattle.aml_meaning.specs.declared.term_kind.OperatorKind.{OperatorKind}
 use Rattle.aml_meaning.specs.declared.term_kind.OperatorKind.TheVariants as operators
-use Rattle.aml_meaning.specs.declared.term_kind.OneOperand.{OneOperand}
-use Rattle.aml_meaning.specs.declared.term_kind.TwoOperands.{TwoOperands}
-use Rattle.aml_meaning.specs.declared.term_kind.Test.{Test}
-use Rattle.aml_meaning.specs.declared.term_kind.Count.{Count}
 use Rattle.aml_meaning.specs.declared.term_kind.StatementKind.{StatementKind}
 use Rattle.aml_meaning.specs.declared.term_kind.StatementKind.TheVariants as statements
-use Rattle.aml_meaning.specs.declared.invocation.Invocation.{Invocation}
-use Rattle.aml_meaning.specs.declared.invocation.Invocation.TheVariants as invocations
-use Rattle.aml_objects.specs.declared.value.Reference.{Reference}
-use Rattle.aml_path.specs.Paths.{Name}
-use Rattle.aml_meaning.specs.declared.store_target.StoreTarget.{StoreTarget}
-use Rattle.aml_meaning.specs.declared.store_target.TargetKind.{TargetKind}
-use Rattle.aml_meaning.specs.declared.store_target.TargetKind.TheVariants as target
+use Rattle.aml_meaning.specs.declared.term_kind.TargetKind.{TargetKind}
+use Rattle.aml_meaning.specs.declared.term_kind.TargetKind.TheVariants as target
 use Rattle.aml_meaning.specs.declared.term_kind.RegionKind.{RegionKind}
 use Rattle.aml_meaning.specs.declared.term_kind.RegionKind.TheVariants as regions
-use Rattle.aml_meaning.specs.declared.term_kind.BufferFieldSize.{BufferFieldSize}
-use Rattle.aml_meaning.specs.declared.term_kind.BufferFieldSize.TheVariants as sizes
-use Rattle.aml_meaning.specs.State.{State}
-use Rattle.aml_meaning.specs.Terms.{kind_of, target_kind, count_of}
-use Rattle.aml_meaning.specs.Tasks.{Task, in_turn}
+use Rattle.aml_meaning.specs.Terms.{kind_of, target_kind, count_of, else_of}
+use Rattle.aml_meaning.specs.Tasks.{Task, in_turn, task}
 use Rattle.aml_meaning.specs.DataTerms.{constant_rule, integer_rule, string_rule, buffer_rule, named_element, valued_element, element_by, elements_in_turn, package_of, package_rule, var_package_rule, data_rule}
+use Rattle.std.proofs.Common.{arith}
 use Rattle.aml_meaning.specs.DeclarationTerms.{declaring, name_rule, alias_rule, method_rule, scope_rule, new_scope, declaration_rule}
-use Rattle.aml_meaning.specs.TargetTerms.{reference_in, indexed_target, dereferenced_target, target_by_kind, target_of, first_target, part_target, name_target, target_by, target_at, targeted}
-use Rattle.aml_meaning.specs.OperatorTerms.{slot_rule, store_rule, copy_rule, two_rule, divide_rule, one_rule, test_rule, not_rule, count_rule, referent_of_value, referent_of_target, referent_by_kind, referent_by, size_rule, type_rule, acquire_rule, reference_rule, dereference_rule, sought_name, sought_target, sought, reference_stored, reference_found, conditional_rule, operator_rule}
+use Rattle.aml_meaning.specs.TargetTerms.{indexed_target, dereferenced_target, target_by_kind, target_of, first_target, part_target, name_target, target_by, target_at, targeted}
+use Rattle.aml_meaning.specs.OperatorTerms.{slot_rule, store_rule, copy_rule, two_rule, divide_rule, one_rule, test_rule, lnot_rule, count_rule, referent_of_value, referent_of_target, referent_by_kind, referent_by, size_rule, type_rule, acquire_rule, reference_rule, dereference_rule, sought_name, sought_target, sought, reference_stored, reference_found, conditional_rule, operator_rule}
 use Rattle.aml_meaning.specs.StatementTerms.{otherwise, branch, if_rule, else_rule, turn_of, turn, loop_end, after_turn, turns, loop, while_rule, return_rule, release_rule, notify_rule, pause_rule, fatal_rule, statement_rule}
 use Rattle.aml_meaning.specs.InvocationTerms.{arguments_in_turn, call_rule, osi_rule, field_rule, invocation_rule, name_value}
-use Rattle.aml_meaning.specs.FieldTerms.{fields_laid, region_rule, field_list_rule, index_list_rule, bits_of_size, sized_field_rule, bits_field_rule, region_term_rule}
+use Rattle.aml_meaning.specs.FieldTerms.{fields_laid, region_rule, field_list_rule, index_list_rule, sized_field_rule, bits_field_rule, region_term_rule}
+use Rattle.aml_objects.specs.declared.value.Value.TheVariants as value
 use Rattle.aml_meaning.specs.Evaluation.{kind_rule, code_rule, rule}
 use Rattle.aml_meaning.specs.Meaning.{meaning, evaluated_within}
-use Rattle.std.proofs.Common.{arith}
-use Rattle.aml_meaning.specs.declared.object_type.ObjectType.{ObjectType}
-use Rattle.aml_meaning.specs.declared.object_type.ObjectType.TheVariants as types
-use Rattle.aml_meaning.specs.declared.term_kind.OneOperand.TheVariants as one
-use Rattle.aml_meaning.specs.declared.term_kind.TwoOperands.TheVariants as two
-use Rattle.aml_meaning.specs.declared.term_kind.Test.TheVariants as test
-use Rattle.aml_meaning.specs.declared.term_kind.Count.TheVariants as count
-use Rattle.aml_objects.specs.declared.value.Value.TheVariants as value
-use Rattle.aml_meaning.specs.Operations.{type_number, type_of_referent}
-use Rattle.aml_meaning.specs.OperatorTerms.{result_of_two, result_of_one, result_of_test, counted_by}
 use Rattle.aml_laws.proofs.Invariants.{Maintained, Maintains, ok_fits, err_maintained, give_maintains, stop_maintains, settle_maintains, then_maintains, each_push}
 use Rattle.aml_laws.proofs.ValuesOfObjects.{make_string_maintains}
 use Rattle.aml_laws.proofs.IntegersOfOperators.{small_number_fits}
-use Rattle.aml_laws.proofs.ValuesOfWorlds.{WorldWithin, on_objects_maintains, integer_kept_maintains, integer_in_maintains, entry_found_maintains, path_found_maintains, scope_found_maintains, at_most_maintains, new_buffer_maintains, new_package_maintains, new_name_maintains, new_method_maintains, operated_maintains, divided_in_maintains, operated_on_one_maintains, operated_logically_maintains, turned_maintains, next_integer_maintains, integer_before_maintains, compared_in_maintains, joined_maintains, to_buffer_in_maintains, to_integer_in_maintains, osi_answered_maintains}
+use Rattle.aml_laws.proofs.ValuesOfWorlds.{WorldWithin, on_objects_maintains, integer_kept_maintains, integer_in_maintains, entry_found_maintains, path_found_maintains, scope_found_maintains, at_most_maintains, new_buffer_maintains, new_package_maintains, new_name_maintains, new_method_maintains, operated_maintains, divided_in_maintains, operated_on_one_maintains, operated_logically_maintains, lnot_maintains, incremented_maintains, decremented_maintains, compared_in_maintains, joined_maintains, to_buffer_in_maintains, to_integer_in_maintains, osi_answered_maintains}
 use Rattle.aml_laws.proofs.ValuesOfTargets.{TargetFits, AnyReferenceFits, ReferentFits, slot_read_maintains, tested_maintains, dereferenced_maintains, target_read_maintains, reference_of_maintains, if_initialized_maintains, reference_if_found_maintains, target_referent_maintains, value_referent_maintains, copied_to_maintains}
 use Rattle.aml_laws.proofs.ValuesOfFields.{RunWithin, lift_maintains, charge_maintains, new_buffer_field_maintains}
 use Rattle.aml_laws.proofs.ValuesOfSizes.{field_has_few_bits, joined_resources_maintains, indexed_maintains, size_in_maintains, acquired_at_maintains, given_back_at_maintains, elements_laid_maintains}
 use Rattle.aml_laws.proofs.ValuesOfOperands.{PartsMaintain, OperandFits, operand_of_fits, inner_operand_maintains, list_operand_maintains, bytes_operand_maintains, any_settle_maintains, FlowFits, InvocationFits, operand_value_maintains, value_at_maintains, two_values_maintains, operand_integer_maintains, in_turn_maintains, invoked_maintains, field_read_maintains, held_integer_maintains, referent_read_maintains, completed_maintains, stored_to_maintains, stored_back_maintains, held_value_maintains, invocation_found_maintains, call_allowed_maintains}
-use Rattle.aml_meaning.specs.FieldTerms.{region_found, field_found, buffer_of}
-use Rattle.aml_meaning.specs.TargetTerms.{target_named}
 use Rattle.aml_meaning.specs.declared.flow.Flow.TheVariants as flow
-use Rattle.aml_meaning.specs.Tasks.{task}
-use Rattle.aml_meaning.specs.Terms.{else_of}
 use Rattle.aml_laws.proofs.ValuesOfWideTerms.{connections_asked_maintains, in_wide_maintains}
 use Rattle.aml_laws.specs.AllWithin.{Each}
 use Rattle.aml_laws.specs.Numbers.{numbers_of}
@@ -230,8 +228,8 @@ module _ (S : Type 0) (claim : Claim) (accesses : Accesses S) (ev : Task → Run
   result_of_test_maintains (test.Compare c) v u f g = compared_in_maintains S claim c v u
 
   counted_by_maintains : (k : Count) (n : ℕ) → Maintains (WorldWithin S claim) (ValueFits claim) (counted_by k n)
-  counted_by_maintains count.Up n = next_integer_maintains S claim n
-  counted_by_maintains count.Down n = integer_before_maintains S claim n
+  counted_by_maintains count.Increment n = incremented_maintains S claim n
+  counted_by_maintains count.Decrement n = decremented_maintains S claim n
 
   type_number_fits : (t : ObjectType) → IntegerFits claim (type_number t)
   type_number_fits t m = small_number_fits claim.width (type_number t) (by t)
@@ -299,7 +297,7 @@ module _ (S : Type 0) (claim : Claim) (accesses : Accesses S) (ev : Task → Run
   reference_found_maintains scope depth t (Some r) h f = then_maintains _ _ (targeted_maintains scope depth t 1 (value.Reference r) h f) (λ done u. value_given_maintains _ (integer_kept_maintains S claim _))
 
   operator_rule_maintains : (k : OperatorKind) (scope : List Seg) (depth : ℕ) (t : Tree) → TreeFits claim t → Maintains (RunWithin S claim) (FlowFits claim) (operator_rule accesses ev k scope depth t)
-  unfolding slot_rule store_rule copy_rule two_rule divide_rule one_rule test_rule not_rule count_rule size_rule type_rule acquire_rule reference_rule dereference_rule conditional_rule
+  unfolding slot_rule store_rule copy_rule two_rule divide_rule one_rule test_rule lnot_rule count_rule size_rule type_rule acquire_rule reference_rule dereference_rule conditional_rule
   operator_rule_maintains (operators.Slot slot) scope depth t h = value_given_maintains _ (slot_read_maintains S claim slot)
   operator_rule_maintains operators.Store scope depth t h = then_maintains _ _ (value_at_maintains S claim accesses ev parts scope depth t 0 h) (λ v f. targeted_maintains scope depth t 1 v h f)
   operator_rule_maintains operators.CopyObject scope depth t h = then_maintains _ _ (value_at_maintains S claim accesses ev parts scope depth t 0 h) (λ v f. then_maintains _ _ (target_at_maintains scope depth t 1 h) (λ p u. then_maintains _ _ (lift_maintains S claim _ (copied_to_maintains S claim p v u f)) (λ s g. then_maintains _ _ (completed_maintains S claim accesses ev parts depth s v g f) (λ done x. give_maintains _ f))))
@@ -307,7 +305,7 @@ module _ (S : Type 0) (claim : Claim) (accesses : Accesses S) (ev : Task → Run
   operator_rule_maintains operators.Divide scope depth t h = then_maintains _ _ (two_values_maintains S claim accesses ev parts scope depth t h) (λ x f. then_maintains _ _ (lift_maintains S claim _ (divided_in_maintains S claim x.0 x.1 f.0 f.1)) (λ d g. then_maintains _ _ (targeted_maintains scope depth t 2 (value.Integer d.remainder) h g.1) (λ done u. targeted_maintains scope depth t 3 (value.Integer d.quotient) h g.0)))
   operator_rule_maintains (operators.One k) scope depth t h = then_maintains _ _ (value_at_maintains S claim accesses ev parts scope depth t 0 h) (λ v f. then_maintains _ _ (lift_maintains S claim _ (result_of_one_maintains k v f)) (λ r g. targeted_maintains scope depth t 1 r h g))
   operator_rule_maintains (operators.Test k) scope depth t h = then_maintains _ _ (two_values_maintains S claim accesses ev parts scope depth t h) (λ x f. value_given_maintains _ (result_of_test_maintains k x.0 x.1 f.0 f.1))
-  operator_rule_maintains operators.LogicalNot scope depth t h = then_maintains _ _ (value_at_maintains S claim accesses ev parts scope depth t 0 h) (λ v f. value_given_maintains _ (turned_maintains S claim v f))
+  operator_rule_maintains operators.LNot scope depth t h = then_maintains _ _ (value_at_maintains S claim accesses ev parts scope depth t 0 h) (λ v f. value_given_maintains _ (lnot_maintains S claim v f))
   operator_rule_maintains (operators.Count k) scope depth t h =
       then_maintains _ _ (target_at_maintains scope depth t 0 h) (λ p u. then_maintains _ _ (lift_maintains S claim _ (target_read_maintains S claim p u)) (λ x f. then_maintains _ _ (held_integer_maintains S claim accesses ev parts depth x f) (λ n g. then_maintains _ _ (lift_maintains S claim _ (counted_by_maintains k n)) (λ r k. then_maintains _ _ (stored_back_maintains S claim accesses ev parts depth x p r f u k) (λ done v. give_maintains _ k)))))
   operator_rule_maintains operators.SizeOf scope depth t h = then_maintains _ _ (referent_by_maintains scope depth t (operand_of t 0) h (operand_of_fits claim t 0 h)) (λ r f. then_maintains _ _ (referent_read_maintains S claim accesses ev parts depth r f) (λ s g. value_given_maintains _ (size_in_maintains S claim s g)))

@@ -22,16 +22,17 @@ use Rattle.aml_objects.specs.declared.value.Value.TheVariants as value
 use Rattle.aml_objects.specs.declared.value.Reference.{Reference}
 use Rattle.aml_objects.specs.declared.value.Reference.TheVariants as reference
 use Rattle.aml_convert.specs.Concatenation.{front_of, before_end, buffer_bytes, resources_joined}
-use Rattle.aml_meaning.specs.declared.field_layout.FieldLayout.{FieldLayout}
-use Rattle.aml_meaning.specs.declared.field_layout.FieldGroup.{FieldGroup}
-use Rattle.aml_meaning.specs.declared.object_type.Referent.{Referent}
-use Rattle.aml_meaning.specs.declared.object_type.Referent.TheVariants as referent
-use Rattle.aml_meaning.specs.declared.store_target.StoreTarget.{StoreTarget}
-use Rattle.aml_meaning.specs.declared.store_target.StoreTarget.TheVariants as targets
-use Rattle.aml_meaning.specs.Operations.{joined_items, joined_resources, size_of_object, size_of_value, size_of_referent, size_in, size_held, element_indexed, byte_indexed, indexed}
-use Rattle.aml_meaning.specs.Mutexes.{mutex_count, acquired, given_back, acquired_by_number, given_back_by_number, acquired_at, given_back_at}
+use Rattle.aml_world.specs.declared.fields.field_layout.FieldLayout.{FieldLayout}
+use Rattle.aml_world.specs.declared.fields.field_layout.FieldGroup.{FieldGroup}
+use Rattle.aml_world.specs.declared.values.object_type.Referent.{Referent}
+use Rattle.aml_world.specs.declared.values.object_type.Referent.TheVariants as referent
+use Rattle.aml_world.specs.declared.values.store_target.StoreTarget.{StoreTarget}
+use Rattle.aml_world.specs.declared.values.store_target.StoreTarget.TheVariants as targets
+use Rattle.aml_world.specs.values.Operations.{joined_items, joined_resources, size_of_object, size_of_value, size_of_referent, size_in, size_held, element_indexed, byte_indexed, indexed}
+use Rattle.aml_world.specs.state.Mutexes.{mutex_count, acquired, given_back, acquired_by_number, given_back_by_number, acquired_at, given_back_at}
+use Rattle.aml_world.specs.fields.FieldLayouts.{connection_found, new_field}
 use Rattle.aml_meaning.specs.Terms.{is_named}
-use Rattle.aml_meaning.specs.FieldTerms.{connection_found, named_connection, connection_if, new_field, named_field, reserved_field, access_field, element_laid, elements_laid}
+use Rattle.aml_meaning.specs.FieldTerms.{named_connection, connection_if, named_field, reserved_field, access_field, element_laid, elements_laid}
 use Rattle.aml_laws.specs.Plain.{AreBytes}
 use Rattle.aml_laws.specs.Within.{WithinWidth}
 use Rattle.aml_laws.proofs.ReadingStepsGiveBytes.{Any, take_bytes, no_bytes}

@@ -19,22 +19,22 @@ use Rattle.aml_objects.specs.declared.entry.Entry.{Entry}
 use Rattle.aml_objects.specs.declared.entry.NamedObject.{NamedObject}
 use Rattle.aml_objects.specs.declared.entry.NamedObject.TheVariants as object
 use Rattle.aml_namespace.specs.Namespace.{Map, numbered}
-use Rattle.aml_meaning.specs.declared.frame.Frame.{Frame}
-use Rattle.aml_meaning.specs.declared.store_target.StoreTarget.{StoreTarget}
-use Rattle.aml_meaning.specs.declared.store_target.StoreTarget.TheVariants as targets
-use Rattle.aml_meaning.specs.declared.store_target.Holding.{Holding}
-use Rattle.aml_meaning.specs.declared.store_target.Holding.TheVariants as holding
-use Rattle.aml_meaning.specs.declared.store_target.Held.{Held}
-use Rattle.aml_meaning.specs.declared.store_target.Held.TheVariants as held
-use Rattle.aml_meaning.specs.declared.store_target.Stored.{Stored}
-use Rattle.aml_meaning.specs.declared.store_target.Stored.TheVariants as store
-use Rattle.aml_meaning.specs.declared.object_type.Referent.{Referent}
-use Rattle.aml_meaning.specs.declared.object_type.Referent.TheVariants as referent
-use Rattle.aml_meaning.specs.State.{State, on_objects}
-use Rattle.aml_meaning.specs.Slots.{slot_in, slot_found, with_slot, frame_index}
-use Rattle.aml_meaning.specs.Readings.{read_as}
-use Rattle.aml_meaning.specs.StoreTargets.{or_ended, number_in_frame, unless_empty, unless_empty_element, where_found, holding_of, holding_in, held_at, latest_frame, frame_found, slot_held, own_slot, initialized, slot_read, held_in, name_read, held_in_slot, target_read, referent_of, or_gone, declaration, byte_followed, value_followed, referent_followed, declared_followed, slot_followed, element_named, name_followed, element_followed, held_followed, reference_followed, followed, most_references, slot_referent, referent_in, declared_referent, name_referent, target_referent, name_tested, frame_tested, byte_tested, tested, once, declared_once, value_once, slot_once, named_once, name_once, element_once, held_once, byte_once, dereferenced, frame_number, slot_reference, declared_number, name_reference, reference_of, slot_initialized, element_initialized, if_initialized, reference_if_found}
-use Rattle.aml_meaning.specs.Stores.{with_frame, slot_put, copy_into_slot, copy_into_name, copy_into_element, copy_over, text_in, bytes_in, store_integer, store_text, store_bytes, store_over_value, store_over, first_byte, byte_of, byte_in, store_byte, copy_into_declared, store_over_slot, store_in_declared, store_to, store_in_frame, store_in_frame_numbered, store_at_reference, stored_through, store_in_slot, store_in_name, stored, copy_in_name, copied_to}
+use Rattle.aml_world.specs.declared.state.frame.Frame.{Frame}
+use Rattle.aml_world.specs.declared.values.store_target.StoreTarget.{StoreTarget}
+use Rattle.aml_world.specs.declared.values.store_target.StoreTarget.TheVariants as targets
+use Rattle.aml_world.specs.declared.values.store_target.Holding.{Holding}
+use Rattle.aml_world.specs.declared.values.store_target.Holding.TheVariants as holding
+use Rattle.aml_world.specs.declared.values.store_target.Held.{Held}
+use Rattle.aml_world.specs.declared.values.store_target.Held.TheVariants as held
+use Rattle.aml_world.specs.declared.values.store_target.Stored.{Stored}
+use Rattle.aml_world.specs.declared.values.store_target.Stored.TheVariants as store
+use Rattle.aml_world.specs.declared.values.object_type.Referent.{Referent}
+use Rattle.aml_world.specs.declared.values.object_type.Referent.TheVariants as referent
+use Rattle.aml_world.specs.state.State.{State, on_objects}
+use Rattle.aml_world.specs.state.Slots.{slot_in, slot_found, with_slot, frame_index}
+use Rattle.aml_world.specs.state.Readings.{read_as}
+use Rattle.aml_world.specs.values.StoreTargets.{or_ended, number_in_frame, unless_empty, unless_empty_element, where_found, holding_of, holding_in, held_at, latest_frame, frame_found, slot_held, own_slot, initialized, slot_read, held_in, name_read, held_in_slot, target_read, referent_of, or_gone, declaration, byte_followed, value_followed, referent_followed, declared_followed, slot_followed, element_named, name_followed, element_followed, held_followed, reference_followed, followed, most_references, slot_referent, referent_in, declared_referent, name_referent, target_referent, name_tested, frame_tested, byte_tested, tested, once, declared_once, value_once, slot_once, named_once, name_once, element_once, held_once, byte_once, dereferenced, frame_number, slot_reference, declared_number, name_reference, reference_of, slot_initialized, element_initialized, if_initialized, reference_if_found}
+use Rattle.aml_world.specs.values.Stores.{with_frame, slot_put, copy_into_slot, copy_into_name, copy_into_element, copy_over, text_in, bytes_in, store_integer, store_text, store_bytes, store_over_value, store_over, first_byte, byte_of, byte_in, store_byte, copy_into_declared, store_over_slot, store_in_declared, store_to, store_in_frame, store_in_frame_numbered, store_at_reference, stored_through, store_in_slot, store_in_name, stored, copy_in_name, copied_to}
 use Rattle.aml_laws.specs.Plain.{AreBytes}
 use Rattle.aml_laws.proofs.IntegersOfOperators.{byte_fits_width}
 use Rattle.aml_laws.proofs.DeclarationNumbers.{with_number_stands}

@@ -28,25 +28,26 @@ use Rattle.aml_convert.specs.Conversions.{to_buffer_of, to_integer_of, two_digit
 use Rattle.aml_convert.specs.Decimals.{respelled, is_coded_decimal, decoded_decimal, coded_decimal}
 use Rattle.aml_convert.specs.Integers.{bits_of, bytes_of}
 use Rattle.aml_convert.specs.Strings.{listed, prefixed, decimal_string_of, hexadecimal_string_of, before_zero, string_of, part, part_of, middle_of}
+use Rattle.aml_world.specs.declared.values.store_target.StoreTarget.{StoreTarget}
+use Rattle.aml_world.specs.declared.values.store_target.StoreTarget.TheVariants as targets
+use Rattle.aml_world.specs.declared.values.store_target.Holding.{Holding}
+use Rattle.aml_world.specs.declared.values.store_target.Holding.TheVariants as holding
+use Rattle.aml_world.specs.declared.values.store_target.Stored.{Stored}
+use Rattle.aml_world.specs.declared.values.operation_kind.Conversion.{Conversion}
+use Rattle.aml_world.specs.declared.values.operation_kind.Conversion.TheVariants as conversions
+use Rattle.aml_world.specs.state.State.{State}
+use Rattle.aml_world.specs.state.Run.{Run}
+use Rattle.aml_world.specs.values.WideOperations.{decoded_in, number_coded, coded_in, decimal_text, new_decimal_string, decimal_string_in, hexadecimal_text, new_hexadecimal_string, hexadecimal_string_in, string_text, string_in, middle_content, middle_in, converted}
+use Rattle.aml_world.specs.values.FormedStores.{is_integer, is_string, is_buffer, formed_over_value, formed_over, formed_in_name, formed_in_declared, formed_through, formed_to}
+use Rattle.aml_world.specs.fields.FieldLayouts.{region_found, field_found}
+use Rattle.aml_world.specs.state.Profiles.{asked_for}
 use Rattle.aml_meaning.specs.declared.flow.Flow.{Flow}
-use Rattle.aml_meaning.specs.declared.store_target.StoreTarget.{StoreTarget}
-use Rattle.aml_meaning.specs.declared.store_target.StoreTarget.TheVariants as targets
-use Rattle.aml_meaning.specs.declared.store_target.Holding.{Holding}
-use Rattle.aml_meaning.specs.declared.store_target.Holding.TheVariants as holding
-use Rattle.aml_meaning.specs.declared.store_target.Stored.{Stored}
-use Rattle.aml_meaning.specs.declared.term_kind.Conversion.{Conversion}
-use Rattle.aml_meaning.specs.declared.term_kind.Conversion.TheVariants as conversions
 use Rattle.aml_meaning.specs.declared.term_kind.WideKind.{WideKind}
 use Rattle.aml_meaning.specs.declared.term_kind.WideKind.TheVariants as wides
-use Rattle.aml_meaning.specs.State.{State}
-use Rattle.aml_meaning.specs.Run.{Run}
 use Rattle.aml_meaning.specs.Tasks.{Task}
 use Rattle.aml_meaning.specs.TargetTerms.{target_at, targeted}
-use Rattle.aml_meaning.specs.WideOperations.{decoded_in, number_coded, coded_in, decimal_text, new_decimal_string, decimal_string_in, hexadecimal_text, new_hexadecimal_string, hexadecimal_string_in, string_text, string_in, middle_content, middle_in, converted}
-use Rattle.aml_meaning.specs.FormedStores.{is_integer, is_string, is_buffer, formed_over_value, formed_over, formed_in_name, formed_in_declared, formed_through, formed_to}
 use Rattle.aml_meaning.specs.BankTerms.{banked_laid, bank_list_rule}
-use Rattle.aml_meaning.specs.FieldTerms.{region_found, field_found, fields_laid, has_connection, asked_if, connections_asked}
-use Rattle.aml_meaning.specs.Profiles.{asked_for}
+use Rattle.aml_meaning.specs.FieldTerms.{fields_laid, has_connection, asked_if, connections_asked}
 use Rattle.aml_meaning.specs.WideTerms.{in_wide, formed_at, convert_rule, to_string_rule, middle_rule, wide_rule}
 use Rattle.aml_laws.proofs.ReadingStepsGiveBytes.{Any, drop_bytes, no_bytes, take_bytes}
 use Rattle.aml_laws.proofs.Invariants.{Maintains, byte_before_bytes, joined_bytes, ok_fits, settled_maintained, give_maintains, stop_maintains, settle_maintains, then_maintains}

@@ -29,10 +29,10 @@ use Rattle.ar_space.specs.declared.refusal.NamespaceFault.TheVariants.{Exists, N
 use Rattle.aml_namespace.specs.Namespace.{above, Map, Namespace, declared, replaced, replaced_in}
 use Rattle.aml_namespace.specs.Search.{Found, found}
 use Rattle.aml_namespace.proofs.Paths.{path_total, only_equal}
-use Rattle.aml_meaning.specs.State.{State, on_objects, on_names}
-use Rattle.aml_meaning.specs.Readings.{integer_kept, integer_in, read_as, entry_found, path_found, scope_found, arguments_found}
-use Rattle.aml_meaning.specs.NewObjects.{within as at_most, new_buffer, new_package, sized, filled}
-use Rattle.aml_meaning.specs.Declaring.{not_in_method, new_name, new_method}
+use Rattle.aml_world.specs.state.State.{State, on_objects, on_names}
+use Rattle.aml_world.specs.state.Readings.{integer_kept, integer_in, read_as, entry_found, path_found, scope_found, arguments_found}
+use Rattle.aml_world.specs.state.NewObjects.{within as at_most, new_buffer, new_package, sized, filled}
+use Rattle.aml_world.specs.state.Declaring.{not_in_method, new_name, new_method}
 use Rattle.aml_laws.proofs.FoundNamesStand.{FoundStands, found_stands}
 use Rattle.aml_laws.proofs.ReadingStepsGiveBytes.{Any}
 use Rattle.aml_laws.proofs.Invariants.{Maintained, Maintains, ok_fits, ok_maintained, settled_maintained, give_maintains, stop_maintains, settle_maintains, then_maintains, each_append, each_replicate, joined_bytes, zero_bytes}
@@ -43,9 +43,9 @@ use Rattle.aml_convert.specs.declared.operators.BinaryOperator.{BinaryOperator}
 use Rattle.aml_convert.specs.declared.operators.UnaryOperator.{UnaryOperator}
 use Rattle.aml_convert.specs.declared.logic.LogicalOperator.{LogicalOperator}
 use Rattle.aml_convert.specs.declared.logic.Comparison.{Comparison}
-use Rattle.aml_convert.specs.Operators.{unary_result_of, logical_result_of, negated, holds}
-use Rattle.aml_meaning.specs.Osi.{is_known, osi_answer, osi_answered}
-use Rattle.aml_meaning.specs.Operations.{as_integer, integers_operated, operated, divided_in, integer_operated, operated_on_one, integers_tested, operated_logically, integer_turned, turned, next_integer, integer_before, compared_in, made_of, joined_contents, joined, to_integer_in, buffer_bytes, new_buffer_of, to_buffer_in}
+use Rattle.aml_convert.specs.Operators.{unary_result_of, logical_result_of, lnot, holds}
+use Rattle.aml_world.specs.state.Osi.{is_known, osi_answer, osi_answered}
+use Rattle.aml_world.specs.values.Operations.{as_integer, integers_operated, operated, divided_in, integer_operated, operated_on_one, integers_tested, operated_logically, integer_lnot, lnot_in, incremented, decremented, compared_in, made_of, joined_contents, joined, to_integer_in, buffer_bytes, new_buffer_of, to_buffer_in}
 use Rattle.aml_laws.specs.Within.{WithinWidth, WithinContent}
 use Rattle.aml_laws.specs.AllWithin.{Each}
 use Rattle.aml_laws.proofs.IntegersOfOperators.{truncated_fits, to_integer_fits, binary_result_fits, unary_result_fits, logical_result_fits, explicit_integer_fits, truth_fits, division_by_cases}
@@ -240,17 +240,17 @@ module _ (S : Type 0) (claim : Claim) where
   operated_logically_maintains op a b f g =
       then_maintains _ _ (integer_in_maintains a f) (λ x fx. then_maintains _ _ (integer_in_maintains b g) (λ y fy. record { maintains = λ w i. ok_maintained (value.Integer (logical_result_of op w.width x y)) w i (integer_at_width w _ i (λ m. logical_result_fits op w.width x y)) }))
 
-  pub turned_maintains : (a : Value) → ValueFits claim a → Maintains WorldWithin (ValueFits claim) (turned a)
-  unfolding turned integer_turned
-  turned_maintains a f = then_maintains _ _ (integer_in_maintains a f) (λ x fx. record { maintains = λ w i. ok_maintained (value.Integer (negated w.width x)) w i (integer_at_width w _ i (λ m. truth_fits w.width (x == 0))) })
+  pub lnot_maintains : (a : Value) → ValueFits claim a → Maintains WorldWithin (ValueFits claim) (lnot_in a)
+  unfolding lnot_in integer_lnot
+  lnot_maintains a f = then_maintains _ _ (integer_in_maintains a f) (λ x fx. record { maintains = λ w i. ok_maintained (value.Integer (lnot w.width x)) w i (integer_at_width w _ i (λ m. truth_fits w.width (x == 0))) })
 
-  pub next_integer_maintains : (n : ℕ) → Maintains WorldWithin (ValueFits claim) (next_integer n)
-  unfolding next_integer
-  next_integer_maintains n = record { maintains = λ w i. ok_maintained (value.Integer (truncated w.width (n + 1))) w i (integer_at_width w _ i (λ m. truncated_fits w.width (n + 1))) }
+  pub incremented_maintains : (n : ℕ) → Maintains WorldWithin (ValueFits claim) (incremented n)
+  unfolding incremented
+  incremented_maintains n = record { maintains = λ w i. ok_maintained (value.Integer (truncated w.width (n + 1))) w i (integer_at_width w _ i (λ m. truncated_fits w.width (n + 1))) }
 
-  pub integer_before_maintains : (n : ℕ) → Maintains WorldWithin (ValueFits claim) (integer_before n)
-  unfolding integer_before
-  integer_before_maintains n = record { maintains = λ w i. settled_maintained _ w i (λ v e. ok_fits (ValueFits claim) _ v e (integer_at_width w _ i (λ m. truncated_fits w.width _))) }
+  pub decremented_maintains : (n : ℕ) → Maintains WorldWithin (ValueFits claim) (decremented n)
+  unfolding decremented
+  decremented_maintains n = record { maintains = λ w i. settled_maintained _ w i (λ v e. ok_fits (ValueFits claim) _ v e (integer_at_width w _ i (λ m. truncated_fits w.width _))) }
 
   pub compared_in_maintains : (c : Comparison) (a b : Value) → Maintains WorldWithin (ValueFits claim) (compared_in c a b)
   unfolding compared_in

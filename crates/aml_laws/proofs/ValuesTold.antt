@@ -9,10 +9,10 @@ use Rattle.aml_grammar.specs.Tree.{Part}
 use Rattle.aml_objects.specs.declared.value.Reference.{Reference}
 use Rattle.aml_objects.specs.declared.value.Value.{Value}
 use Rattle.aml_objects.specs.declared.value.Value.TheVariants as value
-use Rattle.aml_meaning.specs.declared.object_type.ObjectType.{ObjectType}
-use Rattle.aml_meaning.specs.declared.object_type.Referent.TheVariants as referent
-use Rattle.aml_meaning.specs.Operations.{size_in, type_number}
-use Rattle.aml_meaning.specs.State.{State}
+use Rattle.aml_world.specs.declared.values.object_type.ObjectType.{ObjectType}
+use Rattle.aml_world.specs.declared.values.object_type.Referent.TheVariants as referent
+use Rattle.aml_world.specs.values.Operations.{size_in, type_number}
+use Rattle.aml_world.specs.state.State.{State}
 use Rattle.aml_laws.specs.FieldsLedTo.{AsksOf, no_value}
 use Rattle.aml_laws.specs.OperatorTerms.{Gives, IsRefused}
 use Rattle.aml_laws.specs.ReferringTerms.{HasParts, elements, bytes_of_string, bytes_of_buffer, size_of, object_type, IsNumbered, an_integer, a_string, a_buffer, a_package}

@@ -3,11 +3,11 @@ use Rattle.std.specs.Prelude.{◌≡◌, ℕ, Ok, refl}
 use Rattle.std.proofs.Common.{ap}
 use Rattle.ar_space.specs.Change.{go_on, ◌>>=◌}
 use Rattle.aml_grammar.specs.declared.opcode.Opcode.{Opcode}
+use Rattle.aml_world.specs.declared.state.profile.Profile.TheVariants as profiles
+use Rattle.aml_world.specs.state.Profiles.{evaluated_in, asked_for}
+use Rattle.aml_world.specs.state.Run.{Run, lift}
+use Rattle.aml_world.specs.state.State.{State}
 use Rattle.aml_meaning.specs.declared.flow.Flow.{Flow}
-use Rattle.aml_meaning.specs.declared.profile.Profile.TheVariants as profiles
-use Rattle.aml_meaning.specs.Profiles.{evaluated_in, asked_for}
-use Rattle.aml_meaning.specs.Run.{Run, lift}
-use Rattle.aml_meaning.specs.State.{State}
 use Rattle.aml_meaning.specs.WideTerms.{in_wide}
 
 module _ {S : Type 0} (op : Opcode) (w : State S) (steps : ℕ) (wide : w.profile ≡ profiles.Wide) where

@@ -21,18 +21,18 @@ use Rattle.aml_objects.specs.declared.value.Value.TheVariants as value
 use Rattle.aml_convert.specs.Decimals.{coded_decimal, decoded_decimal}
 use Rattle.aml_convert.specs.Integers.{bytes_of}
 use Rattle.aml_convert.specs.Strings.{string_of, middle_of}
-use Rattle.aml_meaning.specs.declared.profile.Profile.TheVariants as profiles
-use Rattle.aml_meaning.specs.declared.term_kind.Conversion.{Conversion}
-use Rattle.aml_meaning.specs.declared.term_kind.Conversion.TheVariants as conversions
+use Rattle.aml_world.specs.declared.state.profile.Profile.TheVariants as profiles
+use Rattle.aml_world.specs.declared.values.operation_kind.Conversion.{Conversion}
+use Rattle.aml_world.specs.declared.values.operation_kind.Conversion.TheVariants as conversions
+use Rattle.aml_world.specs.state.Readings.{integer_in}
+use Rattle.aml_world.specs.state.Run.{lift}
+use Rattle.aml_world.specs.state.State.{State}
+use Rattle.aml_world.specs.values.WideOperations.{decoded_in, number_coded, coded_in, decimal_text, new_decimal_string, hexadecimal_text, new_hexadecimal_string, converted}
 use Rattle.aml_meaning.specs.declared.term_kind.TermKind.TheVariants as kinds
 use Rattle.aml_meaning.specs.declared.term_kind.WideKind.TheVariants as wide
 use Rattle.aml_meaning.specs.Meaning.{meaning}
-use Rattle.aml_meaning.specs.Readings.{integer_in}
-use Rattle.aml_meaning.specs.Run.{lift}
-use Rattle.aml_meaning.specs.State.{State}
 use Rattle.aml_meaning.specs.Tasks.{task, operand_value, value_at}
 use Rattle.aml_meaning.specs.Terms.{kind_of}
-use Rattle.aml_meaning.specs.WideOperations.{decoded_in, number_coded, coded_in, decimal_text, new_decimal_string, hexadecimal_text, new_hexadecimal_string, converted}
 use Rattle.aml_meaning.specs.WideTerms.{convert_rule}
 use Rattle.aml_laws.specs.JoinedTerms.{middle}
 use Rattle.aml_laws.specs.OperatorTerms.{one_to, two_to, GivesValue, IsRefused, OneInteger}

@@ -20,7 +20,7 @@ use Rattle.aml_fields.specs.declared.region.AddressSpace.{AddressSpace}
 use Rattle.aml_namespace.specs.Namespace.{Map, Namespace, with_object, without_below, released, entry_released, mutexes_released}
 use Rattle.aml_namespace.proofs.Paths.{path_total, only_equal}
 use Rattle.aml_namespace.proofs.Changes.{released_at}
-use Rattle.aml_meaning.specs.State.{State}
+use Rattle.aml_world.specs.state.State.{State}
 use Rattle.aml_laws.specs.Becomes.{Becomes}
 use Rattle.aml_laws.specs.Kinds.{KeepsKinds}
 use Rattle.aml_laws.specs.Numbers.{numbers_of}

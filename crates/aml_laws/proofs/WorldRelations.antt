@@ -13,7 +13,7 @@ use Rattle.ar_space.specs.Outcome.{Outcome}
 use Rattle.ar_space.specs.Change.{Change, give, stop, settle, go_on, ◌>>=◌}
 use Rattle.std.specs.FinMap.{get, insert, contains_key}
 use Rattle.aml_path.specs.declared.segment.Seg.{Seg}
-use Rattle.aml_grammar.specs.declared.arities.Arity.{Arity}
+use Rattle.aml_arities.specs.declared.arities.Arity.{Arity}
 use Rattle.aml_objects.specs.Objects.{Objects}
 use Rattle.aml_objects.specs.declared.value.Value.{Value}
 use Rattle.aml_objects.specs.declared.entry.NamedObject.{NamedObject}
@@ -25,19 +25,20 @@ use Rattle.aml_objects.specs.declared.entry.OperationRegion.{OperationRegion}
 use Rattle.aml_objects.specs.declared.entry.Entry.{Entry}
 use Rattle.aml_fields.specs.declared.region.AddressSpace.{AddressSpace}
 use Rattle.aml_namespace.specs.Namespace.{Map, Namespace, declared, replaced, replaced_in, with_object, without_below, above}
+use Rattle.aml_world.specs.declared.state.frame.Frame.{Frame}
+use Rattle.aml_world.specs.declared.state.invocation.Invocation.{Invocation}
+use Rattle.aml_world.specs.declared.state.profile.Profile.TheVariants as profiles
+use Rattle.aml_world.specs.declared.state.invocation.Invocation.TheVariants as invocation
+use Rattle.aml_world.specs.state.PassedOver.{is_passable}
+use Rattle.aml_world.specs.state.Noting.{with_passed}
+use Rattle.aml_world.specs.state.State.{State, on_objects, on_names}
+use Rattle.aml_world.specs.state.Run.{Run, lift, charge}
+use Rattle.aml_world.specs.state.Slots.{opened, closed}
+use Rattle.aml_world.specs.state.Mutexes.{released}
 use Rattle.aml_meaning.specs.declared.flow.Flow.{Flow}
-use Rattle.aml_meaning.specs.declared.frame.Frame.{Frame}
-use Rattle.aml_meaning.specs.declared.invocation.Invocation.{Invocation}
-use Rattle.aml_meaning.specs.declared.profile.Profile.TheVariants as profiles
-use Rattle.aml_meaning.specs.declared.invocation.Invocation.TheVariants as invocation
-use Rattle.aml_meaning.specs.PassedOver.{is_passable}
-use Rattle.aml_meaning.specs.Passing.{with_passed}
-use Rattle.aml_meaning.specs.State.{State, on_objects, on_names}
-use Rattle.aml_meaning.specs.Run.{Run, lift, charge}
-use Rattle.aml_meaning.specs.Slots.{opened, closed}
 use Rattle.aml_meaning.specs.Tasks.{Task, module_level}
-use Rattle.aml_meaning.specs.Invocations.{leaving}
-use Rattle.aml_meaning.specs.Calling.{released, ending, with_steps, framed, in_frame, counted}
+use Rattle.aml_meaning.specs.Calls.{leaving}
+use Rattle.aml_meaning.specs.Calling.{ending, with_steps, framed, in_frame, counted}
 use Rattle.aml_laws.specs.Histories.{with_declaration, with_frame, RegionStands, FieldUnitStands, LiesInRegion, TakesPlaceOf}
 use Rattle.aml_laws.specs.Kinds.{KeepsKinds}
 use Rattle.aml_laws.specs.Numbers.{numbers_of}

@@ -9,9 +9,10 @@ use Rattle.aml_objects.specs.declared.entry.NamedObject.{NamedObject}
 use Rattle.aml_objects.specs.declared.entry.NamedObject.TheVariants as object
 use Rattle.aml_namespace.specs.Namespace.{with_object, released, entry_released, mutexes_released}
 use Rattle.aml_namespace.proofs.Changes.{released_at}
-use Rattle.aml_meaning.specs.State.{State}
+use Rattle.aml_world.specs.state.State.{State}
+use Rattle.aml_world.specs.state.Run.{Run}
+use Rattle.aml_world.specs.state.Mutexes as mutexes
 use Rattle.aml_meaning.specs.Calling as calling
-use Rattle.aml_meaning.specs.Run.{Run}
 use Rattle.aml_laws.specs.Ends.{IsReleased, EndsAs}
 use Rattle.aml_laws.specs.Mutexes.{IsNoMutex}
 
@@ -20,7 +21,7 @@ not_released (object.Mutex n) other = absurd (other n refl)
 not_released _ other = refl
 
 module _ {S : Type 0} where
-  pub world_released : (w : State S) → IsReleased w (calling.released w)
+  pub world_released : (w : State S) → IsReleased w (mutexes.released w)
   unfolding mutexes_released
   world_released w = record {
     rest = refl;

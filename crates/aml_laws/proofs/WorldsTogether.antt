@@ -10,12 +10,14 @@ use Rattle.aml_path.specs.declared.segment.Seg.{Seg}
 use Rattle.aml_objects.specs.declared.value.Value.{Value}
 use Rattle.aml_objects.specs.Objects.{Objects}
 use Rattle.aml_namespace.specs.Namespace.{Namespace}
+use Rattle.aml_world.specs.state.State.{State, on_objects, on_names, on_space}
+use Rattle.aml_world.specs.state.Run.{Run, lift, charge}
+use Rattle.aml_world.specs.state.Slots.{opened, closed}
+use Rattle.aml_world.specs.state.Invocations.{left}
+use Rattle.aml_world.specs.state.Mutexes.{released}
 use Rattle.aml_meaning.specs.declared.flow.Flow.{Flow}
-use Rattle.aml_meaning.specs.State.{State, on_objects, on_names, on_space}
-use Rattle.aml_meaning.specs.Run.{Run, lift, charge}
-use Rattle.aml_meaning.specs.Slots.{opened, closed}
-use Rattle.aml_meaning.specs.Invocations.{leaving, left, returned_by}
-use Rattle.aml_meaning.specs.Calling.{released, ending, with_steps, framed, in_frame, with_rest, counted}
+use Rattle.aml_meaning.specs.Calls.{leaving, returned_by}
+use Rattle.aml_meaning.specs.Calling.{ending, with_steps, framed, in_frame, with_rest, counted}
 use Rattle.ar_space.specs.Outcome.{seen}
 use Rattle.std.proofs.Common.{inl, inr, sym, subst, ap, ◌∙◌}
 use Rattle.aml_laws.proofs.Charges.{charge_none, charge_one, charge_space}

@@ -20,8 +20,8 @@ use Rattle.aml_objects.specs.declared.entry.NamedObject.{NamedObject}
 use Rattle.aml_objects.specs.declared.entry.NamedObject.TheVariants as named
 use Rattle.aml_convert.specs.Conversions.{to_integer_of}
 use Rattle.aml_convert.specs.Integers.{bits_of}
-use Rattle.aml_meaning.specs.State.{State}
-use Rattle.aml_meaning.specs.Invocations.{method_value}
+use Rattle.aml_world.specs.state.State.{State}
+use Rattle.aml_meaning.specs.Calls.{method_value}
 use Rattle.aml_meaning.specs.Meaning.{meaning}
 use Rattle.aml_laws.specs.DeclaredObjects.{method_of}
 use Rattle.aml_laws.specs.FieldNames.{IsField, bits_read_at}

@@ -11,7 +11,7 @@ use Rattle.aml_objects.specs.declared.entry.FieldUnit.{FieldUnit}
 use Rattle.aml_objects.specs.declared.entry.NamedObject.{NamedObject}
 use Rattle.aml_objects.specs.declared.entry.NamedObject.TheVariants as object
 use Rattle.aml_namespace.specs.Search.{found}
-use Rattle.aml_meaning.specs.State.{State}
+use Rattle.aml_world.specs.state.State.{State}
 
 -- the term with the names of a region and of a bank field, the term of the bank's value, the flags, and the list of fields
 abbrev pub bank_field : Name → Name → Tree → ℕ → Trees → Tree

@@ -14,8 +14,8 @@ use Rattle.aml_fields.specs.Bits.{bits_from, bytes_within, field_bits, rest_of_u
 use Rattle.aml_fields.specs.Regions.{read_unit, write_field, write_whole}
 use Rattle.aml_fields.specs.UnitByUnit.{kept}
 use Rattle.aml_namespace.specs.Namespace.{numbered}
-use Rattle.aml_meaning.specs.declared.regions.RegionField.{RegionField}
-use Rattle.aml_meaning.specs.State.{State}
+use Rattle.aml_world.specs.declared.fields.regions.RegionField.{RegionField}
+use Rattle.aml_world.specs.state.State.{State}
 
 -- the declaration with a number is this field unit, which lies in the operation region with the number that it says
 pub record IsFieldUnit {S : Type 0} (w : State S) (number : ℕ) (field : RegionField) : Type 0 where

@@ -13,8 +13,8 @@ use Rattle.aml_objects.specs.declared.entry.BufferField.{BufferField}
 use Rattle.aml_objects.specs.declared.object.Object.TheVariants as object
 use Rattle.aml_objects.specs.declared.value.Value.{Value}
 use Rattle.aml_objects.specs.declared.value.Value.TheVariants as value
-use Rattle.aml_meaning.specs.Readings.{integer_in}
-use Rattle.aml_meaning.specs.State.{State}
+use Rattle.aml_world.specs.state.Readings.{integer_in}
+use Rattle.aml_world.specs.state.State.{State}
 use Rattle.aml_laws.specs.OperatorTerms.{of_opcode}
 
 -- the buffer, the index, and the name that is declared

@@ -4,10 +4,10 @@ use Rattle.ar_space.specs.declared.space.Width.TheVariants.{W8}
 use Rattle.ar_space.specs.declared.space.Place.TheVariants as place
 use Rattle.ar_space.specs.Accesses.{Accesses}
 use Rattle.aml_path.specs.declared.segment.Seg.{Seg}
-use Rattle.aml_meaning.specs.State.{State}
-use Rattle.aml_meaning.specs.Run.{Run}
-use Rattle.aml_meaning.specs.declared.pci_functions.Sought.TheVariants.{Parent}
-use Rattle.aml_meaning.specs.PciFunctions.{adr, nearest}
+use Rattle.aml_world.specs.state.State.{State}
+use Rattle.aml_world.specs.state.Run.{Run}
+use Rattle.aml_world.specs.declared.fields.pci_functions.Sought.TheVariants.{Parent}
+use Rattle.aml_world.specs.fields.PciFunctions.{adr, nearest}
 
 -- From a bus on, bridges at these devices and functions lead to a bus, the first of them on the bus itself and each further one on the bus
 -- that the one before it tells. Of each two bytes are read: the header type, whose low seven bits are 1 or 2, and the secondary bus.

@@ -5,9 +5,10 @@ use Rattle.ar_space.specs.Change.{Change, ◌>>=◌}
 use Rattle.aml_path.specs.declared.segment.Seg.{Seg}
 use Rattle.aml_path.specs.Paths.{is_below}
 use Rattle.aml_objects.specs.declared.value.Value.{Value}
-use Rattle.aml_meaning.specs.State.{State}
-use Rattle.aml_meaning.specs.Slots.{opened}
-use Rattle.aml_meaning.specs.Invocations.{call_allowed, body_terms, frame_arguments}
+use Rattle.aml_world.specs.state.State.{State}
+use Rattle.aml_world.specs.state.Slots.{opened}
+use Rattle.aml_world.specs.state.Invocations.{call_allowed, body_terms}
+use Rattle.aml_meaning.specs.Calls.{frame_arguments}
 
 -- the number of the frame in which the body begins: the call isn't too deep, the body is read, and a number is left
 unfoldable pub body_frame : {S : Type 0} → ℕ → List Seg → List ℕ → List Value → Change (State S) ℕ

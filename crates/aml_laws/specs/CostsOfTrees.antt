@@ -8,14 +8,13 @@ use Rattle.aml_grammar.specs.Tree.{Tree}
 use Rattle.aml_grammar.specs.Apart.{operand_of, name_of}
 use Rattle.aml_objects.specs.declared.object.Element.{Element}
 use Rattle.aml_objects.specs.declared.object.Element.TheVariants as element
+use Rattle.aml_world.specs.declared.values.store_target.StoreTarget.{StoreTarget}
+use Rattle.aml_world.specs.declared.values.store_target.StoreTarget.TheVariants as targets
+use Rattle.aml_world.specs.state.State.{State}
+use Rattle.aml_world.specs.state.Run.{Run, lift}
+use Rattle.aml_world.specs.values.StoreTargets.{tested, reference_in}
 use Rattle.aml_meaning.specs.declared.flow.Flow.{Flow}
-use Rattle.aml_meaning.specs.declared.store_target.StoreTarget.{StoreTarget}
-use Rattle.aml_meaning.specs.declared.store_target.StoreTarget.TheVariants as targets
-use Rattle.aml_meaning.specs.State.{State}
-use Rattle.aml_meaning.specs.Run.{Run, lift}
 use Rattle.aml_meaning.specs.Tasks.{Task, value_at}
-use Rattle.aml_meaning.specs.StoreTargets.{tested}
-use Rattle.aml_meaning.specs.TargetTerms.{reference_in}
 
 -- Where no step is left it is refused, and nothing changes; else it takes one, and goes on as this does with the others. It leaves no more
 -- than those.

@@ -12,22 +12,24 @@ use Rattle.aml_objects.specs.declared.object.Element.{Element}
 use Rattle.aml_objects.specs.declared.object.Element.TheVariants as element
 use Rattle.aml_objects.specs.declared.value.Value.{Value}
 use Rattle.aml_objects.specs.declared.value.Value.TheVariants as value
+use Rattle.aml_world.specs.declared.state.invocation.Invocation.{Invocation}
+use Rattle.aml_world.specs.declared.state.invocation.Invocation.TheVariants as invocation
+use Rattle.aml_world.specs.declared.state.name_use.NameUse.{NameUse}
+use Rattle.aml_world.specs.declared.state.name_use.NameUse.TheVariants as uses
+use Rattle.aml_world.specs.state.Given as given
+use Rattle.aml_world.specs.state.State.{State, on_objects}
+use Rattle.aml_world.specs.state.Run.{Run, lift, charge}
+use Rattle.aml_world.specs.state.Readings.{absolute}
+use Rattle.aml_world.specs.state.Invocations.{invocation_found}
+use Rattle.aml_world.specs.state.Osi.{osi_answered}
+use Rattle.aml_world.specs.fields.Fields.{field_given}
+use Rattle.aml_world.specs.state.Importing.{all_imported}
+use Rattle.aml_world.specs.state.NameUses.{name_use}
 use Rattle.aml_meaning.specs.declared.flow.Flow.{Flow}
-use Rattle.aml_meaning.specs.declared.invocation.Invocation.{Invocation}
-use Rattle.aml_meaning.specs.declared.invocation.Invocation.TheVariants as invocation
-use Rattle.aml_meaning.specs.declared.name_use.NameUse.{NameUse}
-use Rattle.aml_meaning.specs.declared.name_use.NameUse.TheVariants as uses
-use Rattle.aml_meaning.specs.Given as given
-use Rattle.aml_meaning.specs.State.{State, on_objects}
-use Rattle.aml_meaning.specs.Run.{Run, lift, charge}
-use Rattle.aml_meaning.specs.Readings.{absolute}
 use Rattle.aml_meaning.specs.Tasks.{Task, in_turn}
-use Rattle.aml_meaning.specs.Invocations.{invocation_found, method_value}
-use Rattle.aml_meaning.specs.Osi.{osi_answered}
-use Rattle.aml_meaning.specs.Fields.{field_given}
+use Rattle.aml_meaning.specs.Calls.{method_value}
 use Rattle.aml_meaning.specs.FieldCalls.{called_at, field_read}
-use Rattle.aml_meaning.specs.Importing.{all_imported}
-use Rattle.aml_meaning.specs.Exporting.{name_use, value_exported}
+use Rattle.aml_meaning.specs.Exporting.{value_exported}
 use Rattle.aml_meaning.specs.Calling.{ending, with_steps, in_frame, table_terms, counted}
 use Rattle.aml_laws.specs.Counted.{beside_counter}
 

@@ -1,8 +1,8 @@
 -- How many arguments paths take while bytes are read, as declared names and Externals tell it (ACPI 6.5, 19.6: External, Method).
 use Rattle.std.specs.Prelude.{◌≡◌, ◌≤◌, ◌<◌, ℕ, List, ◌++◌, length, take, true, false, slice_get, Some, None}
 use Rattle.aml_path.specs.declared.segment.Seg.{Seg}
-use Rattle.aml_grammar.specs.Arities.{arity_at}
-use Rattle.aml_grammar.specs.declared.arities.Arity.{Arity}
+use Rattle.aml_arities.specs.Arities.{arity_at}
+use Rattle.aml_arities.specs.declared.arities.Arity.{Arity}
 
 -- what a declared name tells of its path, and what an External does
 abbrev pub declared_with : List Seg → ℕ → Arity

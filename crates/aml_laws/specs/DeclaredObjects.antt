@@ -15,7 +15,7 @@ use Rattle.aml_objects.specs.declared.entry.MethodBody.TheVariants.{Aml}
 use Rattle.aml_objects.specs.declared.entry.NamedObject.{NamedObject}
 use Rattle.aml_objects.specs.declared.entry.NamedObject.TheVariants as named
 use Rattle.aml_namespace.specs.Namespace.{above}
-use Rattle.aml_meaning.specs.State.{State}
+use Rattle.aml_world.specs.state.State.{State}
 use Rattle.aml_laws.specs.OperatorTerms.{of_opcode}
 
 -- ---- terms

@@ -3,8 +3,8 @@ use Rattle.std.specs.Prelude.{◌≡◌, ◌+◌, ℕ, Err}
 use Rattle.ar_space.specs.declared.refusal.Refusal.TheVariants as refusal
 use Rattle.ar_space.specs.declared.refusal.EvaluationFault.TheVariants.{DepthSetting}
 use Rattle.ar_space.specs.Outcome.{Outcome}
-use Rattle.aml_meaning.specs.declared.settings.Nesting.{Nesting}
-use Rattle.aml_meaning.specs.State.{State}
+use Rattle.aml_world.specs.declared.state.settings.Nesting.{Nesting}
+use Rattle.aml_world.specs.state.State.{State}
 
 -- so many calls and so many levels more
 abbrev pub deeper_by : Nesting → Nesting → Nesting

@@ -16,9 +16,9 @@ use Rattle.aml_objects.specs.declared.value.Value.{Value}
 use Rattle.aml_objects.specs.declared.value.Value.TheVariants as value
 use Rattle.aml_namespace.specs.Namespace.{numbered}
 use Rattle.aml_namespace.specs.Search.{found}
-use Rattle.aml_meaning.specs.declared.frame.Frame.{Frame}
-use Rattle.aml_meaning.specs.State.{State}
-use Rattle.aml_meaning.specs.Slots.{frame_index, slot_in}
+use Rattle.aml_world.specs.declared.state.frame.Frame.{Frame}
+use Rattle.aml_world.specs.state.State.{State}
+use Rattle.aml_world.specs.state.Slots.{frame_index, slot_in}
 use Rattle.aml_laws.specs.NamesInPackages.{HoldsName}
 use Rattle.aml_laws.specs.StoredParts.{HoldsNothing}
 

@@ -10,11 +10,11 @@ use Rattle.aml_path.specs.Paths.{is_below}
 use Rattle.aml_grammar.specs.Tree.{Trees}
 use Rattle.aml_objects.specs.declared.entry.Entry.{Entry}
 use Rattle.aml_objects.specs.declared.value.Value.TheVariants as value
+use Rattle.aml_world.specs.declared.state.frame.Frame.{Frame}
+use Rattle.aml_world.specs.state.State.{State}
 use Rattle.aml_meaning.specs.declared.flow.Flow.{Flow}
-use Rattle.aml_meaning.specs.declared.frame.Frame.{Frame}
 use Rattle.aml_meaning.specs.Calling.{table_terms}
 use Rattle.aml_meaning.specs.Meaning.{meaning}
-use Rattle.aml_meaning.specs.State.{State}
 use Rattle.aml_meaning.specs.Tasks.{in_turn}
 use Rattle.aml_laws.specs.FramesOpened.{IsFrameOpened}
 use Rattle.aml_laws.specs.Mutexes.{mutex_entry, IsNoMutex}

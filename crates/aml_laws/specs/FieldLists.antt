@@ -11,10 +11,10 @@ use Rattle.aml_objects.specs.declared.entry.Entry.{Entry}
 use Rattle.aml_objects.specs.declared.entry.FieldUnit.{FieldUnit}
 use Rattle.aml_objects.specs.declared.entry.NamedObject.TheVariants as object
 use Rattle.aml_namespace.specs.Namespace.{Map}
-use Rattle.aml_meaning.specs.declared.field_layout.FieldLayout.{FieldLayout}
-use Rattle.aml_meaning.specs.declared.field_layout.FieldGroup.{FieldGroup}
+use Rattle.aml_world.specs.declared.fields.field_layout.FieldLayout.{FieldLayout}
+use Rattle.aml_world.specs.declared.fields.field_layout.FieldGroup.{FieldGroup}
+use Rattle.aml_world.specs.fields.FieldLayouts.{access_width}
 use Rattle.aml_meaning.specs.Terms.{number_of}
-use Rattle.aml_meaning.specs.FieldTerms.{access_width}
 
 -- each field begins where the one before it ends or behind that, and has a bit at least: so no two share one
 abbrev pub InOrder : ℕ → List (List Seg × FieldUnit) → Type 0

@@ -10,11 +10,11 @@ use Rattle.aml_objects.specs.declared.entry.FieldUnit.{FieldUnit}
 use Rattle.aml_objects.specs.declared.entry.NamedObject.{NamedObject}
 use Rattle.aml_objects.specs.declared.entry.NamedObject.TheVariants as named
 use Rattle.aml_namespace.specs.Search.{found}
-use Rattle.aml_meaning.specs.State.{State}
-use Rattle.aml_meaning.specs.Fields.{bits_in, written_in}
+use Rattle.aml_world.specs.state.State.{State}
+use Rattle.aml_world.specs.fields.Fields.{bits_in, written_in}
+use Rattle.aml_world.specs.state.Run.{Run}
 use Rattle.aml_meaning.specs.FieldCalls.{called_at}
 use Rattle.aml_meaning.specs.Meaning.{meaning}
-use Rattle.aml_meaning.specs.Run.{Run}
 
 -- a field that a name stands for, and how many bits it has
 pub data IsField : NamedObject → Field → ℕ → Type 0 where

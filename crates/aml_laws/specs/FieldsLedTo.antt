@@ -12,13 +12,13 @@ use Rattle.aml_objects.specs.declared.entry.Entry.{Entry}
 use Rattle.aml_objects.specs.declared.value.Slot.{Slot}
 use Rattle.aml_objects.specs.declared.value.Value.{Value}
 use Rattle.aml_objects.specs.declared.value.Value.TheVariants as value
-use Rattle.aml_meaning.specs.declared.object_type.ObjectType.{ObjectType}
-use Rattle.aml_meaning.specs.declared.object_type.ObjectType.TheVariants as types
-use Rattle.aml_meaning.specs.declared.object_type.Referent.{Referent}
-use Rattle.aml_meaning.specs.declared.object_type.Referent.TheVariants as referent
-use Rattle.aml_meaning.specs.declared.store_target.StoreTarget.{StoreTarget}
-use Rattle.aml_meaning.specs.declared.store_target.StoreTarget.TheVariants as targets
-use Rattle.aml_meaning.specs.State.{State}
+use Rattle.aml_world.specs.declared.values.object_type.ObjectType.{ObjectType}
+use Rattle.aml_world.specs.declared.values.object_type.ObjectType.TheVariants as types
+use Rattle.aml_world.specs.declared.values.object_type.Referent.{Referent}
+use Rattle.aml_world.specs.declared.values.object_type.Referent.TheVariants as referent
+use Rattle.aml_world.specs.declared.values.store_target.StoreTarget.{StoreTarget}
+use Rattle.aml_world.specs.declared.values.store_target.StoreTarget.TheVariants as targets
+use Rattle.aml_world.specs.state.State.{State}
 use Rattle.aml_laws.specs.Limits.{HasType}
 use Rattle.aml_laws.specs.OperatorTerms.{NamesTarget, SlotIsEmpty, TargetHolds, GivesValue}
 use Rattle.aml_laws.specs.TargetsNamed.{IsReferring, EndsAt}

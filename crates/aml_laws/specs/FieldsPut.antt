@@ -20,11 +20,11 @@ use Rattle.aml_objects.specs.declared.entry.NamedObject.TheVariants as object
 use Rattle.aml_objects.specs.declared.entry.OperationRegion.{OperationRegion}
 use Rattle.aml_objects.specs.declared.value.Value.TheVariants as value
 use Rattle.aml_namespace.specs.Search.{found}
-use Rattle.aml_meaning.specs.declared.profile.Profile.TheVariants as profiles
-use Rattle.aml_meaning.specs.declared.field_layout.FieldLayout.{FieldLayout}
-use Rattle.aml_meaning.specs.declared.field_layout.FieldGroup.{FieldGroup}
-use Rattle.aml_meaning.specs.FieldTerms.{access_width, update_rule}
-use Rattle.aml_meaning.specs.State.{State}
+use Rattle.aml_world.specs.declared.state.profile.Profile.TheVariants as profiles
+use Rattle.aml_world.specs.declared.fields.field_layout.FieldLayout.{FieldLayout}
+use Rattle.aml_world.specs.declared.fields.field_layout.FieldGroup.{FieldGroup}
+use Rattle.aml_world.specs.fields.FieldLayouts.{access_width, update_rule}
+use Rattle.aml_world.specs.state.State.{State}
 use Rattle.aml_meaning.specs.Terms.{number_of}
 use Rattle.aml_laws.specs.BankDeclarations.{Finds, FindsField}
 use Rattle.aml_laws.specs.DeclaredObjects.{IsFree, TakesNoName, with_name}

@@ -10,7 +10,7 @@ use Rattle.aml_objects.specs.Contents.{Integer}
 use Rattle.aml_objects.specs.declared.entry.Field.{Field}
 use Rattle.aml_convert.specs.Conversions.{to_buffer_of}
 use Rattle.aml_convert.specs.Integers.{bytes_of}
-use Rattle.aml_meaning.specs.State.{State}
+use Rattle.aml_world.specs.state.State.{State}
 use Rattle.aml_laws.specs.FieldNames.{NamesField, bits_read_at, bits_written_at}
 use Rattle.aml_laws.specs.IntegersOfValues.{lowest_first}
 use Rattle.aml_laws.specs.OperatorTerms.{counting, Gives}

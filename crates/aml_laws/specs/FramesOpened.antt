@@ -3,9 +3,9 @@ use Rattle.std.specs.Prelude.{◌≡◌, ◌<◌, ◌+◌, ◌++◌, ℕ, List, 
 use Rattle.aml_objects.specs.declared.value.Slot.TheVariants.{Local, Argument}
 use Rattle.aml_objects.specs.declared.value.Value.{Value}
 use Rattle.aml_objects.specs.declared.value.Value.TheVariants as value
-use Rattle.aml_meaning.specs.declared.frame.Frame.{Frame}
-use Rattle.aml_meaning.specs.Slots.{slot_in}
-use Rattle.aml_meaning.specs.State.{State}
+use Rattle.aml_world.specs.declared.state.frame.Frame.{Frame}
+use Rattle.aml_world.specs.state.Slots.{slot_in}
+use Rattle.aml_world.specs.state.State.{State}
 
 -- The world with one frame more, which has the next number. Its arguments are those that were handed in, in their order. Those of the seven
 -- that were not, and its eight locals, hold nothing.

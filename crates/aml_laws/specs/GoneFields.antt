@@ -10,9 +10,9 @@ use Rattle.aml_objects.specs.declared.entry.FieldSource.TheVariants as sources
 use Rattle.aml_objects.specs.declared.entry.FieldUnit.{FieldUnit}
 use Rattle.aml_objects.specs.declared.entry.NamedObject.TheVariants as object
 use Rattle.aml_objects.specs.declared.entry.OperationRegion.{OperationRegion}
-use Rattle.aml_meaning.specs.State.{State}
-use Rattle.aml_meaning.specs.Run.{Run}
-use Rattle.aml_meaning.specs.Fields.{bits_in, written_in}
+use Rattle.aml_world.specs.state.State.{State}
+use Rattle.aml_world.specs.state.Run.{Run}
+use Rattle.aml_world.specs.fields.Fields.{bits_in, written_in}
 use Rattle.aml_laws.specs.Histories.{numbered_entry, RegionAt}
 
 -- no operation region that stands has this number

@@ -6,7 +6,7 @@ use Rattle.aml_path.specs.declared.segment.Seg.{Seg}
 use Rattle.aml_objects.specs.declared.entry.Entry.{Entry}
 use Rattle.aml_namespace.specs.Namespace.{Map}
 use Rattle.aml_convert.specs.Integers.{bits_of}
-use Rattle.aml_meaning.specs.Given.{Given, Nothing, Integer, Text, Bytes, Package, Named, Reference, Givens, none, more}
+use Rattle.aml_world.specs.state.Given.{Given, Nothing, Integer, Text, Bytes, Package, Named, Reference, Givens, none, more}
 use Rattle.aml_laws.specs.NamesFound.{alias_path}
 
 -- at the path stands a name that is no alias

@@ -12,7 +12,7 @@ use Rattle.aml_objects.specs.declared.entry.Entry.{Entry}
 use Rattle.aml_namespace.specs.Namespace.{Map}
 use Rattle.aml_namespace.specs.Search.{found}
 use Rattle.aml_convert.specs.Integers.{bits_of}
-use Rattle.aml_meaning.specs.Given.{Given, Nothing, Integer, Text, Bytes, Package, Named, Reference, Givens, none, more, givens}
+use Rattle.aml_world.specs.state.Given.{Given, Nothing, Integer, Text, Bytes, Package, Named, Reference, Givens, none, more, givens}
 use Rattle.aml_laws.specs.NamesFound.{LeadsTo}
 use Rattle.aml_laws.specs.NamesWritten.{from_root}
 

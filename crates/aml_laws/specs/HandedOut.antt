@@ -23,8 +23,8 @@ use Rattle.aml_convert.specs.Integers.{bits_of, bytes_of}
 use Rattle.aml_namespace.specs.Namespace.{numbered}
 use Rattle.aml_namespace.specs.Numbering.{Numbered}
 use Rattle.aml_namespace.specs.Search.{found}
-use Rattle.aml_meaning.specs.Given as given
-use Rattle.aml_meaning.specs.State.{State}
+use Rattle.aml_world.specs.state.Given as given
+use Rattle.aml_world.specs.state.State.{State}
 use Rattle.aml_laws.specs.FieldNames.{NamesField, bits_read_at}
 use Rattle.aml_laws.specs.IntegersOfValues.{lowest_first}
 use Rattle.aml_laws.specs.NamesInPackages.{IsHandedOutAsPath}

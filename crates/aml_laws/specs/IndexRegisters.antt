@@ -14,8 +14,8 @@ use Rattle.aml_fields.specs.declared.field_units.Unit.{Unit as Access}
 use Rattle.aml_fields.specs.Bits.{field_bits, rest_of_unit, merged}
 use Rattle.aml_fields.specs.Regions.{unit_place, read_access, write_access}
 use Rattle.aml_namespace.specs.Namespace.{numbered}
-use Rattle.aml_meaning.specs.declared.regions.RegionField.{RegionField}
-use Rattle.aml_meaning.specs.State.{State}
+use Rattle.aml_world.specs.declared.fields.regions.RegionField.{RegionField}
+use Rattle.aml_world.specs.state.State.{State}
 use Rattle.aml_laws.specs.PlainRegions.{IsPlainRegion}
 
 -- a register: its place, and how wide it is

@@ -11,9 +11,9 @@ use Rattle.aml_grammar.specs.Tree.{Tree, Trees, inner, list}
 use Rattle.aml_grammar.specs.Apart.{code_of, operand_of}
 use Rattle.aml_objects.specs.declared.entry.NamedObject.{NamedObject}
 use Rattle.aml_objects.specs.declared.entry.NamedObject.TheVariants as named
+use Rattle.aml_world.specs.state.State.{State}
 use Rattle.aml_meaning.specs.declared.flow.Flow.{Flow}
 use Rattle.aml_meaning.specs.Meaning.{meaning}
-use Rattle.aml_meaning.specs.State.{State}
 use Rattle.aml_meaning.specs.Tasks.{in_turn}
 use Rattle.aml_laws.specs.OperatorTerms.{OneInteger}
 

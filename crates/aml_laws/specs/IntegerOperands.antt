@@ -5,8 +5,8 @@ use Rattle.aml_grammar.specs.declared.opcode.Opcode.TheVariants as opcodes
 use Rattle.aml_grammar.specs.Tree.{Tree, Trees, inner, list, Parts, part}
 use Rattle.aml_objects.specs.declared.value.Value.{Value}
 use Rattle.aml_objects.specs.declared.value.Value.TheVariants as value
-use Rattle.aml_meaning.specs.declared.profile.Profile.{Profile}
-use Rattle.aml_meaning.specs.declared.profile.Profile.TheVariants as profiles
+use Rattle.aml_world.specs.declared.state.profile.Profile.{Profile}
+use Rattle.aml_world.specs.declared.state.profile.Profile.TheVariants as profiles
 use Rattle.aml_laws.specs.OperandTerms.{AsksCondition}
 use Rattle.aml_laws.specs.OperatorTerms.{of_opcode}
 
@@ -15,7 +15,7 @@ pub data TakesInteger (p : Profile) : Opcode → Type 0 where
   by_not : TakesInteger p opcodes.Not
   by_highest_bit : TakesInteger p opcodes.FindSetLeftBit
   by_lowest_bit : TakesInteger p opcodes.FindSetRightBit
-  by_negation : TakesInteger p opcodes.LNot
+  by_lnot : TakesInteger p opcodes.LNot
   by_size_of_buffer : TakesInteger p opcodes.Buffer
   by_size_of_package : TakesInteger p opcodes.VarPackage
   from_coded_decimal : p ≡ profiles.Wide → TakesInteger p opcodes.FromBcd

@@ -16,9 +16,9 @@ use Rattle.aml_objects.specs.declared.object.Object.TheVariants as object
 use Rattle.aml_objects.specs.declared.value.Value.{Value}
 use Rattle.aml_objects.specs.declared.value.Value.TheVariants as value
 use Rattle.aml_convert.specs.Conversions.{to_integer_of, to_text_of, to_buffer_of}
-use Rattle.aml_meaning.specs.declared.profile.Profile.TheVariants as profiles
-use Rattle.aml_meaning.specs.State.{State}
-use Rattle.aml_meaning.specs.Readings.{integer_in}
+use Rattle.aml_world.specs.declared.state.profile.Profile.TheVariants as profiles
+use Rattle.aml_world.specs.state.State.{State}
+use Rattle.aml_world.specs.state.Readings.{integer_in}
 use Rattle.aml_laws.specs.OperatorTerms.{of_opcode, GivesValue}
 use Rattle.aml_laws.specs.ResourceLists.{HasEndTag}
 use Rattle.aml_laws.specs.TestTerms.{TwoValues}

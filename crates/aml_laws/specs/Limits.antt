@@ -19,15 +19,15 @@ use Rattle.aml_objects.specs.declared.value.Value.TheVariants as value
 use Rattle.aml_objects.specs.declared.value.Reference.{Reference}
 use Rattle.aml_objects.specs.declared.value.Reference.TheVariants as reference
 use Rattle.aml_objects.specs.declared.value.Slot.TheVariants.{Argument}
-use Rattle.aml_meaning.specs.declared.store_target.Held.TheVariants as held
-use Rattle.aml_meaning.specs.declared.object_type.ObjectType.{ObjectType}
-use Rattle.aml_meaning.specs.declared.object_type.ObjectType.TheVariants as types
-use Rattle.aml_meaning.specs.declared.object_type.Referent.{Referent}
-use Rattle.aml_meaning.specs.declared.object_type.Referent.TheVariants as referent
-use Rattle.aml_meaning.specs.Given.{Given, Nothing, Package, none, more}
-use Rattle.aml_meaning.specs.State.{State}
-use Rattle.aml_meaning.specs.Slots.{frame_index, slot_at}
-use Rattle.aml_meaning.specs.StoreTargets.{dereferenced}
+use Rattle.aml_world.specs.declared.values.store_target.Held.TheVariants as held
+use Rattle.aml_world.specs.declared.values.object_type.ObjectType.{ObjectType}
+use Rattle.aml_world.specs.declared.values.object_type.ObjectType.TheVariants as types
+use Rattle.aml_world.specs.declared.values.object_type.Referent.{Referent}
+use Rattle.aml_world.specs.declared.values.object_type.Referent.TheVariants as referent
+use Rattle.aml_world.specs.state.Given.{Given, Nothing, Package, none, more}
+use Rattle.aml_world.specs.state.State.{State}
+use Rattle.aml_world.specs.state.Slots.{frame_index, slot_at}
+use Rattle.aml_world.specs.values.StoreTargets.{dereferenced}
 
 abbrev pub is_reference : Value → Bool
 is_reference (value.Reference r) = true

@@ -11,9 +11,9 @@ use Rattle.aml_fields.specs.declared.field_units.Unit.{Unit as Access}
 use Rattle.aml_fields.specs.Bits.{field_bits, number_of, rest_of_unit, merged}
 use Rattle.aml_fields.specs.Regions.{read_unit, write_whole}
 use Rattle.aml_fields.specs.UnitByUnit.{kept}
-use Rattle.aml_meaning.specs.State.{on_space}
-use Rattle.aml_meaning.specs.Run.{Run, lift}
-use Rattle.aml_meaning.specs.Fields.{bits_in, written_in}
+use Rattle.aml_world.specs.state.State.{on_space}
+use Rattle.aml_world.specs.state.Run.{Run, lift}
+use Rattle.aml_world.specs.fields.Fields.{bits_in, written_in}
 use Rattle.aml_laws.specs.BankFields.{eight_bytes}
 
 module _ {S : Type 0} (accesses : Accesses S) (call : List Seg → Run S ℕ) where

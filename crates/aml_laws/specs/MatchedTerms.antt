@@ -15,9 +15,9 @@ use Rattle.aml_objects.specs.declared.value.Value.TheVariants as value
 use Rattle.aml_namespace.specs.Search.{found}
 use Rattle.aml_convert.specs.declared.matching.MatchOperator.{MatchOperator}
 use Rattle.aml_convert.specs.declared.matching.MatchOperator.TheVariants as operators
-use Rattle.aml_meaning.specs.declared.profile.Profile.TheVariants as profiles
-use Rattle.aml_meaning.specs.State.{State}
-use Rattle.aml_meaning.specs.Readings.{integer_in}
+use Rattle.aml_world.specs.declared.state.profile.Profile.TheVariants as profiles
+use Rattle.aml_world.specs.state.State.{State}
+use Rattle.aml_world.specs.state.Readings.{integer_in}
 use Rattle.aml_laws.specs.OperatorTerms.{of_opcode, GivesValue}
 use Rattle.aml_laws.specs.StoredNames.{data_entry}
 

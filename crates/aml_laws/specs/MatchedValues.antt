@@ -24,8 +24,8 @@ use Rattle.aml_convert.specs.Integers.{bits_of, bytes_of}
 use Rattle.aml_convert.specs.declared.matching.MatchOperator.{MatchOperator}
 use Rattle.aml_convert.specs.declared.matching.MatchOperator.TheVariants as operators
 use Rattle.aml_namespace.specs.Search.{found}
-use Rattle.aml_meaning.specs.State.{State}
-use Rattle.aml_meaning.specs.Readings.{integer_in}
+use Rattle.aml_world.specs.state.State.{State}
+use Rattle.aml_world.specs.state.Readings.{integer_in}
 use Rattle.aml_laws.specs.FieldNames.{NamesField, bits_read_at}
 use Rattle.aml_laws.specs.IntegersOfValues.{lowest_first}
 use Rattle.aml_laws.specs.JoinedTerms.{with_object, Fits}

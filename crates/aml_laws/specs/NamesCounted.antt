@@ -20,9 +20,9 @@ use Rattle.aml_objects.specs.declared.value.Value.{Value}
 use Rattle.aml_objects.specs.declared.value.Value.TheVariants as value
 use Rattle.aml_convert.specs.Integers.{bytes_of}
 use Rattle.aml_namespace.specs.Search.{found}
-use Rattle.aml_meaning.specs.declared.store_target.StoreTarget.TheVariants as targets
-use Rattle.aml_meaning.specs.State.{State}
-use Rattle.aml_meaning.specs.Readings.{integer_in}
+use Rattle.aml_world.specs.declared.values.store_target.StoreTarget.TheVariants as targets
+use Rattle.aml_world.specs.state.State.{State}
+use Rattle.aml_world.specs.state.Readings.{integer_in}
 use Rattle.aml_laws.specs.FieldNames.{NamesField, bits_read_at}
 use Rattle.aml_laws.specs.IntegersOfValues.{lowest_first}
 use Rattle.aml_laws.specs.NamesInPackages.{HoldsName}

@@ -12,8 +12,8 @@ use Rattle.aml_objects.specs.declared.object.Object.TheVariants as object
 use Rattle.aml_objects.specs.declared.value.Reference.{Reference}
 use Rattle.aml_objects.specs.declared.value.Value.TheVariants as value
 use Rattle.aml_namespace.specs.Search.{found}
-use Rattle.aml_meaning.specs.Given.{Given, Nothing, Integer, Text, Bytes, Named}
-use Rattle.aml_meaning.specs.State.{State}
+use Rattle.aml_world.specs.state.Given.{Given, Nothing, Integer, Text, Bytes, Named}
+use Rattle.aml_world.specs.state.State.{State}
 use Rattle.aml_laws.specs.StoredParts.{HoldsNothing}
 
 -- the element of a package at an index is a name, with the scope where the package was made

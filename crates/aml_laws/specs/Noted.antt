@@ -8,7 +8,7 @@ use Rattle.ar_space.specs.Accesses.{Accesses}
 use Rattle.ar_space.specs.Outcome.{Outcome}
 use Rattle.recorded_space.specs.declared.exchange.Exchange.{Exchange}
 use Rattle.recorded_space.specs.declared.exchange.Exchange.TheVariants.{Read, Write}
-use Rattle.aml_meaning.specs.State.{State}
+use Rattle.aml_world.specs.state.State.{State}
 
 -- a space, and the accesses that were made to it, the first of them first
 abbrev pub WithNotes : Type 0 → Type 0

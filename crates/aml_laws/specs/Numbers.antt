@@ -1,6 +1,6 @@
 -- The numbers of frames.
 use Rattle.std.specs.Prelude.{ℕ, ◌<◌, List, [], ◌∷◌, map}
-use Rattle.aml_meaning.specs.declared.frame.Frame.{Frame}
+use Rattle.aml_world.specs.declared.state.frame.Frame.{Frame}
 
 -- the numbers of frames, in their order
 abbrev pub numbers_of : List Frame → List ℕ

@@ -8,9 +8,9 @@ use Rattle.aml_grammar.specs.declared.opcode.Opcode.{Opcode}
 use Rattle.aml_grammar.specs.declared.opcode.Opcode.TheVariants as opcodes
 use Rattle.aml_grammar.specs.Tree.{Tree, Trees, name, number, inner, list, Parts, no_parts, part}
 use Rattle.aml_objects.specs.declared.value.Value.{Value}
-use Rattle.aml_meaning.specs.declared.profile.Profile.{Profile}
-use Rattle.aml_meaning.specs.declared.profile.Profile.TheVariants as profiles
-use Rattle.aml_meaning.specs.State.{State}
+use Rattle.aml_world.specs.declared.state.profile.Profile.{Profile}
+use Rattle.aml_world.specs.declared.state.profile.Profile.TheVariants as profiles
+use Rattle.aml_world.specs.state.State.{State}
 use Rattle.aml_laws.specs.OperatorTerms.{of_opcode, GivesValue}
 use Rattle.aml_laws.specs.IntegersOfValues.{TakesIntegers}
 use Rattle.aml_laws.specs.BufferFieldTerms.{HasSize}
@@ -26,7 +26,7 @@ pub data TakesFirst (p : Profile) : Opcode → Type 0 where
   by_lowest_bit : TakesFirst p opcodes.FindSetRightBit
   by_to_buffer : TakesFirst p opcodes.ToBuffer
   by_to_integer : TakesFirst p opcodes.ToInteger
-  by_negation : TakesFirst p opcodes.LNot
+  by_lnot : TakesFirst p opcodes.LNot
   by_store : TakesFirst p opcodes.Store
   by_copy : TakesFirst p opcodes.CopyObject
   by_dereference : TakesFirst p opcodes.DerefOf

@@ -17,16 +17,16 @@ use Rattle.aml_objects.specs.declared.value.Value.{Value}
 use Rattle.aml_objects.specs.declared.value.Value.TheVariants as value
 use Rattle.aml_objects.specs.declared.entry.Entry.{Entry}
 use Rattle.aml_namespace.specs.Search.{found}
+use Rattle.aml_world.specs.declared.state.frame.Frame.{Frame}
+use Rattle.aml_world.specs.declared.values.store_target.StoreTarget.{StoreTarget}
+use Rattle.aml_world.specs.declared.values.store_target.StoreTarget.TheVariants as targets
+use Rattle.aml_world.specs.declared.values.store_target.Stored.TheVariants as store
+use Rattle.aml_world.specs.state.State.{State}
+use Rattle.aml_world.specs.state.Slots.{slot_in}
+use Rattle.aml_world.specs.values.Stores.{stored}
+use Rattle.aml_world.specs.state.Readings.{integer_in}
 use Rattle.aml_meaning.specs.declared.flow.Flow.TheVariants as flow
-use Rattle.aml_meaning.specs.declared.frame.Frame.{Frame}
-use Rattle.aml_meaning.specs.declared.store_target.StoreTarget.{StoreTarget}
-use Rattle.aml_meaning.specs.declared.store_target.StoreTarget.TheVariants as targets
-use Rattle.aml_meaning.specs.declared.store_target.Stored.TheVariants as store
-use Rattle.aml_meaning.specs.State.{State}
-use Rattle.aml_meaning.specs.Slots.{slot_in}
-use Rattle.aml_meaning.specs.Stores.{stored}
 use Rattle.aml_meaning.specs.Tasks.{task}
-use Rattle.aml_meaning.specs.Readings.{integer_in}
 use Rattle.aml_meaning.specs.Meaning.{meaning}
 use Rattle.aml_laws.specs.StoredNames.{data_entry}
 

@@ -8,7 +8,7 @@ use Rattle.aml_objects.specs.declared.entry.Entry.{Entry}
 use Rattle.aml_objects.specs.declared.entry.NamedObject.{NamedObject}
 use Rattle.aml_objects.specs.declared.entry.NamedObject.TheVariants as object
 use Rattle.aml_namespace.specs.Namespace.{Map}
-use Rattle.aml_meaning.specs.State.{State}
+use Rattle.aml_world.specs.state.State.{State}
 
 abbrev pub is_method : NamedObject → Bool
 is_method (object.Method m) = true

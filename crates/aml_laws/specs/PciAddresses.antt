@@ -13,10 +13,10 @@ use Rattle.ar_space.specs.Outcome.{Outcome}
 use Rattle.aml_path.specs.declared.segment.Seg.{Seg}
 use Rattle.aml_fields.specs.declared.region.AddressSpace.{AddressSpace}
 use Rattle.aml_fields.specs.declared.region.AddressSpace.TheVariants as spaces
-use Rattle.aml_meaning.specs.State.{State}
-use Rattle.aml_meaning.specs.Run.{Run}
-use Rattle.aml_meaning.specs.Bridges.{bridges_to}
-use Rattle.aml_meaning.specs.PciFunctions.{adr, segment_group, base_bus}
+use Rattle.aml_world.specs.state.State.{State}
+use Rattle.aml_world.specs.state.Run.{Run}
+use Rattle.aml_world.specs.fields.Bridges.{bridges_to}
+use Rattle.aml_world.specs.fields.PciFunctions.{adr, segment_group, base_bus}
 use Rattle.aml_laws.specs.PciScopes.{StandsIn, IsFunctionAt, IsNearestSuch, NoneSuch}
 
 -- ---- the numbers of a function

@@ -7,7 +7,7 @@ use Rattle.aml_objects.specs.declared.entry.OperationRegion.{OperationRegion}
 use Rattle.aml_fields.specs.declared.region.AddressSpace.{AddressSpace}
 use Rattle.aml_fields.specs.declared.region.Region.{Region}
 use Rattle.aml_namespace.specs.Namespace.{numbered}
-use Rattle.aml_meaning.specs.State.{State}
+use Rattle.aml_world.specs.state.State.{State}
 
 -- under the number of a declaration an operation region stands, in a scope
 pub record RegionStandsIn {S : Type 0} (w : State S) (n : ℕ) (scope : List Seg) (region : OperationRegion) : Type 0 where

@@ -5,7 +5,7 @@ use Rattle.aml_path.specs.declared.segment.Seg.{Seg}
 use Rattle.aml_objects.specs.declared.entry.Entry.{Entry}
 use Rattle.aml_objects.specs.declared.entry.NamedObject.TheVariants as object
 use Rattle.aml_namespace.specs.Namespace.{Map}
-use Rattle.aml_meaning.specs.PciFunctions.{adr, hid, base_bus}
+use Rattle.aml_world.specs.fields.PciFunctions.{adr, hid, base_bus}
 
 -- an object with this name stands in a scope
 pub record StandsIn (names : Map) (name : Seg) (scope : List Seg) : Type 0 where

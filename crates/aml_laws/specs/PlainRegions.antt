@@ -7,7 +7,7 @@ use Rattle.aml_objects.specs.declared.entry.OperationRegion.{OperationRegion}
 use Rattle.aml_fields.specs.declared.region.AddressSpace.TheVariants as spaces
 use Rattle.aml_fields.specs.declared.region.Region.{Region}
 use Rattle.aml_namespace.specs.Namespace.{numbered}
-use Rattle.aml_meaning.specs.State.{State}
+use Rattle.aml_world.specs.state.State.{State}
 use Rattle.aml_laws.specs.PciRegions.{located_at}
 
 -- under a number an operation region of the address space 0, SystemMemory, or 1, SystemIO, was declared, which is this region: at the offset

@@ -4,7 +4,7 @@ use Rattle.ar_space.specs.declared.refusal.Refusal.TheVariants as refusal
 use Rattle.ar_space.specs.declared.refusal.EvaluationFault.TheVariants.{OutOfSteps}
 use Rattle.ar_space.specs.Outcome.{Outcome, seen}
 use Rattle.aml_objects.specs.declared.value.Value.{Value}
-use Rattle.aml_meaning.specs.State.{State}
+use Rattle.aml_world.specs.state.State.{State}
 
 -- a refusal for want of steps
 abbrev pub IsOutOfSteps : {A : Type 0} → Outcome A → Type 0

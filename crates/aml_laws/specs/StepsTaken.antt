@@ -4,9 +4,9 @@ use Rattle.ar_space.specs.Outcome.{Outcome}
 use Rattle.aml_grammar.specs.declared.opcode.TermCode.TheVariants.{Name}
 use Rattle.aml_grammar.specs.Tree.{Tree, Trees, no_trees}
 use Rattle.aml_grammar.specs.Apart.{code_of, operand_of}
+use Rattle.aml_world.specs.state.State.{State}
+use Rattle.aml_world.specs.state.Run.{Run}
 use Rattle.aml_meaning.specs.declared.flow.Flow.{Flow}
-use Rattle.aml_meaning.specs.State.{State}
-use Rattle.aml_meaning.specs.Run.{Run}
 use Rattle.aml_meaning.specs.Tasks.{Task}
 use Rattle.aml_meaning.specs.Terms.{list_of}
 use Rattle.aml_meaning.specs.TargetTerms.{target_at}

@@ -4,11 +4,11 @@ use Rattle.aml_path.specs.declared.segment.Seg.{Seg}
 use Rattle.aml_grammar.specs.Tree.{Part}
 use Rattle.aml_objects.specs.declared.value.Value.{Value}
 use Rattle.aml_objects.specs.declared.value.Value.TheVariants as value
-use Rattle.aml_meaning.specs.declared.store_target.StoreTarget.{StoreTarget}
-use Rattle.aml_meaning.specs.declared.store_target.Stored.TheVariants as store
-use Rattle.aml_meaning.specs.State.{State}
-use Rattle.aml_meaning.specs.Stores.{copied_to}
-use Rattle.aml_meaning.specs.FormedStores.{formed_to}
+use Rattle.aml_world.specs.declared.values.store_target.StoreTarget.{StoreTarget}
+use Rattle.aml_world.specs.declared.values.store_target.Stored.TheVariants as store
+use Rattle.aml_world.specs.state.State.{State}
+use Rattle.aml_world.specs.values.Stores.{copied_to}
+use Rattle.aml_world.specs.values.FormedStores.{formed_to}
 use Rattle.aml_laws.specs.OperatorTerms.{NamesTarget}
 
 -- a copy of a value is put into the target that an operand names, which leaves another world

@@ -7,8 +7,8 @@ use Rattle.aml_objects.specs.declared.entry.Entry.{Entry}
 use Rattle.aml_objects.specs.declared.entry.NamedObject.TheVariants as object
 use Rattle.aml_objects.specs.declared.value.Slot.TheVariants.{Local}
 use Rattle.aml_objects.specs.declared.value.Value.{Value}
-use Rattle.aml_meaning.specs.State.{State}
-use Rattle.aml_meaning.specs.Stores.{slot_put}
+use Rattle.aml_world.specs.state.State.{State}
+use Rattle.aml_world.specs.values.Stores.{slot_put}
 use Rattle.aml_laws.specs.Copied.{IsCopy}
 
 -- The value at a path is a copy that shares no object with anything that was there before, under the number of the declaration that stood

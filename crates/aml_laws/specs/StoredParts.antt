@@ -20,12 +20,12 @@ use Rattle.aml_objects.specs.declared.value.Slot.{Slot}
 use Rattle.aml_objects.specs.declared.value.Slot.TheVariants.{Local, Argument}
 use Rattle.aml_objects.specs.declared.value.Value.{Value}
 use Rattle.aml_objects.specs.declared.value.Value.TheVariants as value
-use Rattle.aml_meaning.specs.declared.frame.Frame.{Frame}
-use Rattle.aml_meaning.specs.declared.store_target.Held.{Held}
-use Rattle.aml_meaning.specs.declared.store_target.Held.TheVariants as held
-use Rattle.aml_meaning.specs.State.{State}
-use Rattle.aml_meaning.specs.Slots.{slot_in}
-use Rattle.aml_meaning.specs.Stores.{slot_put}
+use Rattle.aml_world.specs.declared.state.frame.Frame.{Frame}
+use Rattle.aml_world.specs.declared.values.store_target.Held.{Held}
+use Rattle.aml_world.specs.declared.values.store_target.Held.TheVariants as held
+use Rattle.aml_world.specs.state.State.{State}
+use Rattle.aml_world.specs.state.Slots.{slot_in}
+use Rattle.aml_world.specs.values.Stores.{slot_put}
 use Rattle.aml_laws.specs.Copied.{IsCopy}
 use Rattle.aml_laws.specs.StoredNames.{data_entry}
 

@@ -14,8 +14,8 @@ use Rattle.aml_objects.specs.declared.value.Value.{Value}
 use Rattle.aml_objects.specs.declared.value.Value.TheVariants as value
 use Rattle.aml_convert.specs.Integers.{bits_of}
 use Rattle.aml_convert.specs.Conversions.{compared}
-use Rattle.aml_meaning.specs.State.{State}
-use Rattle.aml_meaning.specs.Readings.{integer_in}
+use Rattle.aml_world.specs.state.State.{State}
+use Rattle.aml_world.specs.state.Readings.{integer_in}
 use Rattle.aml_laws.specs.OperatorTerms.{of_one, of_two, GivesValue, Gives, IsRefused, OneInteger, TwoIntegers}
 
 -- True, which has all bits of the width, where something holds, and else False, which is 0

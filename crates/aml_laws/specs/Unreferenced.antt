@@ -13,11 +13,11 @@ use Rattle.aml_objects.specs.declared.object.Element.TheVariants as elements
 use Rattle.aml_objects.specs.declared.object.Object.TheVariants as object
 use Rattle.aml_objects.specs.declared.entry.BufferField.{BufferField}
 use Rattle.aml_objects.specs.declared.entry.NamedObject.TheVariants as named
+use Rattle.aml_world.specs.declared.state.frame.Frame.{Frame}
+use Rattle.aml_world.specs.state.State.{State}
+use Rattle.aml_world.specs.state.Slots.{slot_in, slot_of}
 use Rattle.aml_meaning.specs.declared.flow.Flow.{Flow}
 use Rattle.aml_meaning.specs.declared.flow.Flow.TheVariants as flow
-use Rattle.aml_meaning.specs.declared.frame.Frame.{Frame}
-use Rattle.aml_meaning.specs.State.{State}
-use Rattle.aml_meaning.specs.Slots.{slot_in, slot_of}
 use Rattle.aml_laws.specs.Histories.{numbered_entry}
 
 -- a frame with this number stands, and there is another above it

@@ -4,9 +4,9 @@ use Rattle.ar_space.specs.declared.refusal.Refusal.{Refusal}
 use Rattle.ar_space.specs.declared.refusal.Refusal.TheVariants as refusal
 use Rattle.ar_space.specs.declared.refusal.EvaluationFault.TheVariants.{Unsupported, DeepPci}
 use Rattle.ar_space.specs.Outcome.{Outcome}
-use Rattle.aml_meaning.specs.declared.profile.Profile.TheVariants as profile
-use Rattle.aml_meaning.specs.PassedOver.{is_passable}
-use Rattle.aml_meaning.specs.State.{State}
+use Rattle.aml_world.specs.declared.state.profile.Profile.TheVariants as profile
+use Rattle.aml_world.specs.state.PassedOver.{is_passable}
+use Rattle.aml_world.specs.state.State.{State}
 use Rattle.aml_meaning.specs.Tasks.{module_level}
 
 -- the same world in the wide profile

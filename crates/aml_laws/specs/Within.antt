@@ -6,7 +6,7 @@ use Rattle.aml_objects.specs.Contents.{Content, Integer, String, Buffer, Other, 
 use Rattle.aml_objects.specs.declared.value.Value.{Value}
 use Rattle.aml_objects.specs.declared.value.Value.TheVariants as value
 use Rattle.aml_convert.specs.Integers.{bits_of}
-use Rattle.aml_meaning.specs.State.{State}
+use Rattle.aml_world.specs.state.State.{State}
 
 abbrev pub Below : {S : Type 0} → State S → ℕ → Type 0
 Below w n = n < 2 ^ bits_of w.width

@@ -16,14 +16,14 @@ ghost use Rattle.aml_objects.specs.declared.entry.NamedObject.TheVariants as obj
 ghost use Rattle.aml_objects.specs.declared.entry.OperationRegion.{OperationRegion};
 ghost use Rattle.aml_objects.specs.declared.value.Value.{Value};
 ghost use Rattle.aml_namespace.specs.Search.{found};
+ghost use Rattle.aml_world.specs.state.Readings.{integer_in};
+ghost use Rattle.aml_world.specs.state.State.{State};
+ghost use Rattle.aml_world.specs.declared.state.profile.Profile.TheVariants.{Wide};
 ghost use Rattle.aml_meaning.specs.Evaluation.{rule};
 ghost use Rattle.aml_meaning.specs.FieldTerms.{fields_laid};
 ghost use Rattle.aml_meaning.specs.Meaning.{meaning};
-ghost use Rattle.aml_meaning.specs.Readings.{integer_in};
-ghost use Rattle.aml_meaning.specs.State.{State};
 ghost use Rattle.aml_meaning.specs.Tasks.{task};
 ghost use Rattle.aml_meaning.specs.declared.flow.Flow.TheVariants as flow;
-ghost use Rattle.aml_meaning.specs.declared.profile.Profile.TheVariants.{Wide};
 ghost use Rattle.aml_laws.specs.BankDeclarations.{bank_field, Finds, FindsField};
 
 /// A BankField term in the wide profile finds its region first, then its bank field, and then evaluates the value,

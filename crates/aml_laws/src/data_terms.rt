@@ -7,7 +7,7 @@ ghost use Rattle.aml_grammar.specs.Tree.{Tree, Trees};
 ghost use Rattle.aml_objects.specs.declared.object.Element.{Element};
 ghost use Rattle.aml_objects.specs.declared.object.Object.TheVariants as object;
 ghost use Rattle.aml_objects.specs.declared.value.Value.TheVariants as value;
-ghost use Rattle.aml_meaning.specs.State.{State};
+ghost use Rattle.aml_world.specs.state.State.{State};
 ghost use Rattle.aml_laws.specs.OperatorTerms.{GivesValue, IsRefused, OneInteger};
 ghost use Rattle.aml_laws.specs.JoinedTerms.{with_object, Fits};
 ghost use Rattle.aml_laws.specs.DataTerms.{string_term, buffer_term, package_term, var_package_term, filled_with_zeros, filled_with_none, GivesElements, GivesNoElements};

@@ -4,8 +4,8 @@ ghost use Rattle.ar_space.specs.declared.refusal.Refusal.{Refusal};
 ghost use Rattle.aml_path.specs.declared.segment.Seg.{Seg};
 ghost use Rattle.aml_objects.specs.declared.entry.MethodFlags.{MethodFlags};
 ghost use Rattle.aml_objects.specs.declared.entry.NamedObject.{NamedObject};
-ghost use Rattle.aml_meaning.specs.State.{State};
-ghost use Rattle.aml_meaning.specs.Declaring.{new_name, new_method};
+ghost use Rattle.aml_world.specs.state.State.{State};
+ghost use Rattle.aml_world.specs.state.Declaring.{new_name, new_method};
 
 /// A name that can't be declared, where another stands, for want of a parent, or in a control method, leaves the
 /// world as it is: it has neither the name, nor the body of the control method that it was to be.

@@ -15,9 +15,9 @@ ghost use Rattle.aml_objects.specs.declared.entry.NamedObject.TheVariants as nam
 ghost use Rattle.aml_objects.specs.declared.value.Value.{Value};
 ghost use Rattle.aml_objects.specs.declared.value.Value.TheVariants as value;
 ghost use Rattle.aml_namespace.specs.Search.{found};
+ghost use Rattle.aml_world.specs.state.Readings.{integer_in};
+ghost use Rattle.aml_world.specs.state.State.{State};
 ghost use Rattle.aml_meaning.specs.Meaning.{meaning};
-ghost use Rattle.aml_meaning.specs.Readings.{integer_in};
-ghost use Rattle.aml_meaning.specs.State.{State};
 ghost use Rattle.aml_meaning.specs.Tasks.{task, in_turn};
 ghost use Rattle.aml_laws.specs.BufferFieldTerms.{create, create_field, HasSize, HasBits};
 ghost use Rattle.aml_laws.specs.FieldsPut.{IsSized};

@@ -5,18 +5,18 @@ ghost use Rattle.ar_space.specs.declared.refusal.Refusal.TheVariants.{Term};
 ghost use Rattle.ar_space.specs.declared.refusal.TermFault.TheVariants.{TooDeep};
 ghost use Rattle.ar_space.specs.Accesses.{Accesses};
 ghost use Rattle.aml_path.specs.declared.segment.Seg.{Seg};
-ghost use Rattle.aml_grammar.specs.declared.arities.Arity.{Arity};
+ghost use Rattle.aml_arities.specs.declared.arities.Arity.{Arity};
 ghost use Rattle.aml_grammar.specs.Grammar.{by_arities, reading_within, table_reading_within, term_list_within};
 ghost use Rattle.aml_objects.specs.declared.value.Value.{Value};
-ghost use Rattle.aml_meaning.specs.State.{State};
-ghost use Rattle.aml_meaning.specs.Given.{Given};
+ghost use Rattle.aml_world.specs.state.State.{State};
+ghost use Rattle.aml_world.specs.state.Given.{Given};
+ghost use Rattle.aml_world.specs.state.Predefined.{fresh, fresh_as, predefined};
+ghost use Rattle.aml_world.specs.state.Settings.{deepest, settings_of};
+ghost use Rattle.aml_world.specs.declared.state.profile.Profile.{Profile};
+ghost use Rattle.aml_world.specs.declared.state.profile.Profile.TheVariants.{Core};
 ghost use Rattle.aml_meaning.specs.Tasks.{Task};
 ghost use Rattle.aml_meaning.specs.Meaning.{meaning};
 ghost use Rattle.aml_meaning.specs.Calling.{loaded, evaluated, answered};
-ghost use Rattle.aml_meaning.specs.Predefined.{fresh, fresh_as, predefined};
-ghost use Rattle.aml_meaning.specs.Settings.{deepest, settings_of};
-ghost use Rattle.aml_meaning.specs.declared.profile.Profile.{Profile};
-ghost use Rattle.aml_meaning.specs.declared.profile.Profile.TheVariants.{Core};
 ghost use Rattle.aml_laws.specs.Deepened.{IsDepthSetting};
 
 /// The default settings of either profile allow 32 nested calls and 64 nested levels of terms. A world that is made

@@ -3,9 +3,9 @@ ghost use Rattle.std.specs.Prelude.{◌≡◌, ℕ, List, Ok};
 ghost use Rattle.aml_path.specs.declared.segment.Seg.{Seg};
 ghost use Rattle.aml_grammar.specs.Tree.{Trees};
 ghost use Rattle.aml_objects.specs.declared.entry.FieldUnit.{FieldUnit};
-ghost use Rattle.aml_meaning.specs.declared.field_layout.FieldLayout.{FieldLayout};
-ghost use Rattle.aml_meaning.specs.declared.field_layout.FieldGroup.{FieldGroup};
-ghost use Rattle.aml_meaning.specs.State.{State};
+ghost use Rattle.aml_world.specs.declared.fields.field_layout.FieldLayout.{FieldLayout};
+ghost use Rattle.aml_world.specs.declared.fields.field_layout.FieldGroup.{FieldGroup};
+ghost use Rattle.aml_world.specs.state.State.{State};
 ghost use Rattle.aml_meaning.specs.FieldTerms.{elements_laid};
 ghost use Rattle.aml_laws.specs.FieldLists.{AreNamed, InOrder, AllStand, AreLaidOut};
 

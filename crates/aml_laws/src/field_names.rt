@@ -14,7 +14,7 @@ ghost use Rattle.aml_objects.specs.declared.value.Value.TheVariants as value;
 ghost use Rattle.aml_convert.specs.Conversions.{to_buffer_of};
 ghost use Rattle.aml_convert.specs.Integers.{bits_of, bytes_of};
 ghost use Rattle.aml_namespace.specs.Numbering.{Numbered};
-ghost use Rattle.aml_meaning.specs.State.{State};
+ghost use Rattle.aml_world.specs.state.State.{State};
 ghost use Rattle.aml_laws.specs.ObjectTerms.{on_target};
 ghost use Rattle.aml_laws.specs.FieldsReached.{CountsField};
 ghost use Rattle.aml_laws.specs.OperatorTerms.{of_one, one_to, GivesValue, Gives, IsRefused};

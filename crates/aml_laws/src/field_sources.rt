@@ -11,11 +11,12 @@ ghost use Rattle.aml_objects.specs.declared.entry.FieldUnit.{FieldUnit};
 ghost use Rattle.aml_fields.specs.declared.region.Region.{Region};
 ghost use Rattle.aml_fields.specs.BufferFields.{read_buffer_field, write_buffer_field};
 ghost use Rattle.aml_fields.specs.Regions.{read_field, write_field};
-ghost use Rattle.aml_meaning.specs.Regions.{field_declared};
-ghost use Rattle.aml_meaning.specs.State.{State, on_objects, on_space};
-ghost use Rattle.aml_meaning.specs.Run.{Run, lift};
-ghost use Rattle.aml_meaning.specs.Fields.{bits_in, written_in, located, region_bits, region_written, index_bits, index_written};
-ghost use Rattle.aml_meaning.specs.Fields.{bank_bits, bank_written};
+ghost use Rattle.aml_world.specs.fields.Regions.{field_declared};
+ghost use Rattle.aml_world.specs.state.State.{State, on_objects, on_space};
+ghost use Rattle.aml_world.specs.state.Run.{Run, lift};
+ghost use Rattle.aml_world.specs.fields.Fields.{bits_in, written_in, located, region_bits, region_written, index_bits};
+ghost use Rattle.aml_world.specs.fields.Fields.{index_written};
+ghost use Rattle.aml_world.specs.fields.Fields.{bank_bits, bank_written};
 ghost use Rattle.aml_laws.specs.PlainRegions.{IsPlainRegion};
 
 /// A field of an operation region is read and written there, one of an IndexField by its index and data fields, one of a

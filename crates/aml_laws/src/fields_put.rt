@@ -12,11 +12,11 @@ ghost use Rattle.aml_objects.specs.declared.entry.NamedObject.TheVariants as obj
 ghost use Rattle.aml_objects.specs.declared.entry.OperationRegion.{OperationRegion};
 ghost use Rattle.aml_objects.specs.declared.value.Value.{Value};
 ghost use Rattle.aml_objects.specs.declared.value.Value.TheVariants as value;
+ghost use Rattle.aml_world.specs.declared.state.profile.Profile.TheVariants as profiles;
+ghost use Rattle.aml_world.specs.state.Readings.{integer_in};
+ghost use Rattle.aml_world.specs.state.State.{State};
 ghost use Rattle.aml_meaning.specs.declared.flow.Flow.TheVariants as flow;
-ghost use Rattle.aml_meaning.specs.declared.profile.Profile.TheVariants as profiles;
 ghost use Rattle.aml_meaning.specs.Meaning.{meaning};
-ghost use Rattle.aml_meaning.specs.Readings.{integer_in};
-ghost use Rattle.aml_meaning.specs.State.{State};
 ghost use Rattle.aml_meaning.specs.Tasks.{task};
 ghost use Rattle.aml_laws.specs.BankDeclarations.{bank_field, Finds, FindsField};
 ghost use Rattle.aml_laws.specs.BufferFieldTerms.{create, create_field, HasSize, HasBits};

@@ -7,9 +7,9 @@ ghost use Rattle.aml_path.specs.declared.segment.Seg.{Seg};
 ghost use Rattle.aml_objects.specs.declared.entry.Bank.{Bank};
 ghost use Rattle.aml_objects.specs.declared.entry.FieldSource.TheVariants as sources;
 ghost use Rattle.aml_objects.specs.declared.entry.FieldUnit.{FieldUnit};
-ghost use Rattle.aml_meaning.specs.State.{State};
-ghost use Rattle.aml_meaning.specs.Run.{Run};
-ghost use Rattle.aml_meaning.specs.Fields.{located};
+ghost use Rattle.aml_world.specs.state.State.{State};
+ghost use Rattle.aml_world.specs.state.Run.{Run};
+ghost use Rattle.aml_world.specs.fields.Fields.{located};
 ghost use Rattle.aml_laws.specs.GoneFields.{RegionGone, FieldGone, IsDead};
 
 /// A field whose operation region stands no longer is refused as `DeadReference`, read or written, and so is one whose

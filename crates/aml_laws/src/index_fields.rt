@@ -6,9 +6,9 @@ ghost use Rattle.aml_objects.specs.declared.entry.FieldUnit.{FieldUnit};
 ghost use Rattle.aml_objects.specs.declared.entry.UpdateRule.TheVariants.{Preserve};
 ghost use Rattle.aml_fields.specs.UnitByUnit.{bits_read, write_units};
 ghost use Rattle.aml_fields.specs.Units.{units_of};
-ghost use Rattle.aml_meaning.specs.State.{State, on_space};
-ghost use Rattle.aml_meaning.specs.Run.{Run, lift};
-ghost use Rattle.aml_meaning.specs.Fields.{index_bits, index_written};
+ghost use Rattle.aml_world.specs.state.State.{State, on_space};
+ghost use Rattle.aml_world.specs.state.Run.{Run, lift};
+ghost use Rattle.aml_world.specs.fields.Fields.{index_bits, index_written};
 ghost use Rattle.aml_laws.specs.IndexRegisters.{Register, IsRegister};
 ghost use Rattle.aml_laws.specs.IndexRegisters.{chosen_and_read, chosen_and_written, kept_and_written};
 

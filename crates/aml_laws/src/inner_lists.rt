@@ -15,10 +15,10 @@ ghost use Rattle.aml_objects.specs.declared.entry.Entry.{Entry};
 ghost use Rattle.aml_objects.specs.declared.entry.NamedObject.{NamedObject};
 ghost use Rattle.aml_objects.specs.declared.value.Value.{Value};
 ghost use Rattle.aml_namespace.specs.Search.{found};
+ghost use Rattle.aml_world.specs.state.Declaring.{new_name};
+ghost use Rattle.aml_world.specs.state.State.{State};
 ghost use Rattle.aml_meaning.specs.declared.flow.Flow.TheVariants as flow;
-ghost use Rattle.aml_meaning.specs.Declaring.{new_name};
 ghost use Rattle.aml_meaning.specs.Meaning.{meaning};
-ghost use Rattle.aml_meaning.specs.State.{State};
 ghost use Rattle.aml_meaning.specs.Tasks.{task, module_level, in_turn};
 ghost use Rattle.aml_laws.specs.InnerLists.{OpensScope, DeclaresScope, Tests, Turns};
 

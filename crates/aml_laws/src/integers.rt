@@ -5,23 +5,23 @@ ghost use Rattle.ar_space.specs.declared.integer_width.IntegerWidth.{IntegerWidt
 ghost use Rattle.aml_path.specs.declared.segment.Seg.{Seg};
 ghost use Rattle.aml_grammar.specs.Tree.{Trees};
 ghost use Rattle.aml_objects.specs.declared.value.Value.{Value};
+ghost use Rattle.aml_world.specs.state.Given.{Given};
+ghost use Rattle.aml_world.specs.state.Predefined.{fresh_as, predefined};
+ghost use Rattle.aml_world.specs.declared.values.operation_kind.OneOperand.{OneOperand};
+ghost use Rattle.aml_world.specs.declared.values.operation_kind.TwoOperands.{TwoOperands};
+ghost use Rattle.aml_world.specs.declared.values.operation_kind.Test.{Test};
+ghost use Rattle.aml_world.specs.declared.values.operation_kind.Count.{Count};
+ghost use Rattle.aml_convert.specs.declared.operators.Division.{Division};
+ghost use Rattle.aml_world.specs.declared.state.settings.EvaluationSettings.{EvaluationSettings};
+ghost use Rattle.aml_world.specs.state.State.{State};
+ghost use Rattle.aml_world.specs.state.Readings.{integer_kept, integer_in};
+ghost use Rattle.aml_world.specs.fields.Regions.{value_of_bits};
+ghost use Rattle.aml_world.specs.values.Operations.{divided_in, lnot_in};
+ghost use Rattle.aml_world.specs.values.Operations.{result_of_two, result_of_one, result_of_test, counted_by};
 ghost use Rattle.aml_meaning.specs.declared.flow.Flow.TheVariants as flow;
 ghost use Rattle.aml_meaning.specs.Tasks.{Task, in_turn};
 ghost use Rattle.aml_meaning.specs.Meaning.{meaning};
 ghost use Rattle.aml_meaning.specs.Calling.{loaded, evaluated, answered};
-ghost use Rattle.aml_meaning.specs.Given.{Given};
-ghost use Rattle.aml_meaning.specs.Predefined.{fresh_as, predefined};
-ghost use Rattle.aml_convert.specs.declared.operators.Division.{Division};
-ghost use Rattle.aml_meaning.specs.declared.term_kind.OneOperand.{OneOperand};
-ghost use Rattle.aml_meaning.specs.declared.term_kind.TwoOperands.{TwoOperands};
-ghost use Rattle.aml_meaning.specs.declared.term_kind.Test.{Test};
-ghost use Rattle.aml_meaning.specs.declared.term_kind.Count.{Count};
-ghost use Rattle.aml_meaning.specs.declared.settings.EvaluationSettings.{EvaluationSettings};
-ghost use Rattle.aml_meaning.specs.State.{State};
-ghost use Rattle.aml_meaning.specs.Readings.{integer_kept, integer_in};
-ghost use Rattle.aml_meaning.specs.Regions.{value_of_bits};
-ghost use Rattle.aml_meaning.specs.Operations.{divided_in, turned};
-ghost use Rattle.aml_meaning.specs.OperatorTerms.{result_of_two, result_of_one, result_of_test, counted_by};
 ghost use Rattle.aml_laws.specs.AllWithin.{Each, AllWithin};
 ghost use Rattle.aml_laws.specs.Handed.{PlainGiven, GivenWithin};
 ghost use Rattle.aml_laws.specs.Plain.{AreBytes, PlainTree, PlainTrees};
@@ -39,7 +39,7 @@ pub fn operators_form_integers_of_the_width<S>()
     ensures divided { (w : State S) (v u : Value) (d : Division) → Within w v → (divided_in v u w).0 ≡ Ok d →
         Below w d.quotient × Below w d.remainder }
     ensures tests { (w : State S) (k : Test) (v u : Value) → FormsWithin w (result_of_test k v u) }
-    ensures negated { (w : State S) (v : Value) → FormsWithin w (turned v) }
+    ensures lnot { (w : State S) (v : Value) → FormsWithin w (lnot_in v) }
     ensures counted { (w : State S) (k : Count) (n : ℕ) → FormsWithin w (counted_by k n) }
     ensures fields { (w : State S) (count : ℕ) (bytes : List ℕ) → ((i : ℕ) → slice_index bytes i < 256) →
         FormsWithin w (value_of_bits count bytes) }

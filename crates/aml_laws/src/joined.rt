@@ -13,7 +13,7 @@ ghost use Rattle.aml_objects.specs.declared.object.Object.TheVariants as object;
 ghost use Rattle.aml_objects.specs.declared.value.Value.{Value};
 ghost use Rattle.aml_objects.specs.declared.value.Value.TheVariants as value;
 ghost use Rattle.aml_convert.specs.Concatenation.{resources_joined};
-ghost use Rattle.aml_meaning.specs.State.{State};
+ghost use Rattle.aml_world.specs.state.State.{State};
 ghost use Rattle.aml_laws.specs.OperatorTerms.{two_to, StoresTo, GivesValue, IsRefused};
 ghost use Rattle.aml_laws.specs.MatchedValues.{Exceeds};
 ghost use Rattle.aml_laws.specs.StoreTerms.{FormsTo};

@@ -11,11 +11,11 @@ ghost use Rattle.aml_objects.specs.declared.value.Reference.{Reference};
 ghost use Rattle.aml_objects.specs.declared.value.Reference.TheVariants as reference;
 ghost use Rattle.aml_objects.specs.declared.value.Slot.{Slot};
 ghost use Rattle.aml_namespace.specs.Numbering.{Numbered};
-ghost use Rattle.aml_meaning.specs.declared.store_target.StoreTarget.TheVariants as targets;
-ghost use Rattle.aml_meaning.specs.Given.{Given};
-ghost use Rattle.aml_meaning.specs.State.{State};
+ghost use Rattle.aml_world.specs.declared.values.store_target.StoreTarget.TheVariants as targets;
+ghost use Rattle.aml_world.specs.state.Given.{Given};
+ghost use Rattle.aml_world.specs.state.State.{State};
+ghost use Rattle.aml_world.specs.state.Mutexes.{acquired, given_back, acquired_at, given_back_at};
 ghost use Rattle.aml_meaning.specs.Calling.{loaded, answered};
-ghost use Rattle.aml_meaning.specs.Mutexes.{acquired, given_back, acquired_at, given_back_at};
 ghost use Rattle.aml_laws.specs.Mutexes.{mutex_entry, with_acquisitions, AllFree, IsNoMutex};
 
 /// No mutex is held after a table or an answer, however it ended.

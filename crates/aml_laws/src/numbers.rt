@@ -5,10 +5,10 @@ ghost use Rattle.ar_space.specs.declared.integer_width.IntegerWidth.{IntegerWidt
 ghost use Rattle.aml_objects.specs.declared.value.Value.{Value};
 ghost use Rattle.aml_namespace.specs.Namespace.{numbered};
 ghost use Rattle.aml_namespace.specs.Numbering.{Numbered};
-ghost use Rattle.aml_meaning.specs.declared.settings.EvaluationSettings.{EvaluationSettings};
-ghost use Rattle.aml_meaning.specs.State.{State};
-ghost use Rattle.aml_meaning.specs.Slots.{opened};
-ghost use Rattle.aml_meaning.specs.Predefined.{fresh_as, predefined};
+ghost use Rattle.aml_world.specs.declared.state.settings.EvaluationSettings.{EvaluationSettings};
+ghost use Rattle.aml_world.specs.state.State.{State};
+ghost use Rattle.aml_world.specs.state.Slots.{opened};
+ghost use Rattle.aml_world.specs.state.Predefined.{fresh_as, predefined};
 ghost use Rattle.aml_laws.specs.Becomes.{Becomes};
 
 /// The numbers of the next declaration and the next frame never fall.

@@ -1,7 +1,7 @@
 //! Objects: strings, buffers and packages.
 ghost use Rattle.std.specs.Prelude.{◌≡◌, ℕ};
 ghost use Rattle.ar_space.specs.Accesses.{Accesses};
-ghost use Rattle.aml_meaning.specs.State.{State};
+ghost use Rattle.aml_world.specs.state.State.{State};
 ghost use Rattle.aml_laws.specs.Becomes.{Becomes};
 ghost use Rattle.aml_laws.specs.Kinds.{KeepsKinds};
 

@@ -9,7 +9,7 @@ ghost use Rattle.aml_grammar.specs.Tree.{Tree, Part};
 ghost use Rattle.aml_grammar.specs.declared.opcode.Opcode.TheVariants as opcodes;
 ghost use Rattle.aml_objects.specs.declared.value.Value.TheVariants as value;
 ghost use Rattle.aml_convert.specs.Integers.{bits_of};
-ghost use Rattle.aml_meaning.specs.State.{State};
+ghost use Rattle.aml_world.specs.state.State.{State};
 ghost use Rattle.aml_laws.specs.OperatorTerms.{two_to, StoresTo, Gives, IsRefused, TwoIntegers, ComputesOfOne, ComputesOfTwo, divide, IsDivision, Counts, IsHighest, IsLowest};
 
 /// Add, Subtract and Multiply give sum, difference and product modulo two to the width: what Subtract gives and the

@@ -3,13 +3,13 @@ ghost use Rattle.std.specs.Prelude.{◌≡◌, ◌⊎◌, ◌∷◌, [], ℕ, Li
 ghost use Rattle.std.specs.FinMap.{get};
 ghost use Rattle.ar_space.specs.declared.integer_width.IntegerWidth.{IntegerWidth};
 ghost use Rattle.aml_path.specs.declared.segment.Seg.{Seg};
-ghost use Rattle.aml_grammar.specs.Arities.{arity_at};
+ghost use Rattle.aml_arities.specs.Arities.{arity_at};
 ghost use Rattle.aml_objects.specs.declared.entry.Entry.{Entry};
 ghost use Rattle.aml_objects.specs.declared.entry.NamedObject.{NamedObject};
 ghost use Rattle.aml_objects.specs.declared.object.Object.TheVariants as object;
-ghost use Rattle.aml_meaning.specs.State.{State};
-ghost use Rattle.aml_meaning.specs.Predefined.{fresh_as, predefined};
-ghost use Rattle.aml_meaning.specs.declared.settings.EvaluationSettings.{EvaluationSettings};
+ghost use Rattle.aml_world.specs.state.State.{State};
+ghost use Rattle.aml_world.specs.state.Predefined.{fresh_as, predefined};
+ghost use Rattle.aml_world.specs.declared.state.settings.EvaluationSettings.{EvaluationSettings};
 ghost use Rattle.aml_laws.specs.PredefinedNames.{IsPredefined, StandsAtRoot, IsRoot, IsPathOfPredefined};
 
 /// Before any table is loaded the scopes \_GPE, \_PR_, \_SB_, \_SI_ and \_TZ_ stand at the root, the mutex \_GL_, which

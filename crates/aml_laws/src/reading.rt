@@ -1,7 +1,7 @@
 //! Terms that are read.
 ghost use Rattle.std.specs.Prelude.{◌≡◌, ℕ, List, Bool, Ok};
 ghost use Rattle.aml_path.specs.declared.segment.Seg.{Seg};
-ghost use Rattle.aml_grammar.specs.declared.arities.Arity.{Arity};
+ghost use Rattle.aml_arities.specs.declared.arities.Arity.{Arity};
 ghost use Rattle.aml_grammar.specs.Tree.{Tree};
 ghost use Rattle.aml_grammar.specs.Shape.{trees_of};
 ghost use Rattle.aml_grammar.specs.Grammar.{Reads, reading_within};

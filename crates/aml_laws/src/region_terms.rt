@@ -10,13 +10,14 @@ ghost use Rattle.aml_objects.specs.declared.entry.NamedObject.TheVariants as obj
 ghost use Rattle.aml_objects.specs.declared.entry.OperationRegion.{OperationRegion};
 ghost use Rattle.aml_objects.specs.declared.entry.UpdateRule.TheVariants.{Preserve, WriteAsOnes, WriteAsZeros};
 ghost use Rattle.aml_objects.specs.declared.value.Value.{Value};
+ghost use Rattle.aml_world.specs.fields.FieldLayouts.{access_width, update_rule};
+ghost use Rattle.aml_world.specs.state.Readings.{integer_in};
+ghost use Rattle.aml_world.specs.state.State.{State};
 ghost use Rattle.aml_meaning.specs.declared.flow.Flow.{Flow};
 ghost use Rattle.aml_meaning.specs.declared.flow.Flow.TheVariants as flow;
 ghost use Rattle.aml_meaning.specs.Evaluation.{rule};
-ghost use Rattle.aml_meaning.specs.FieldTerms.{access_width, update_rule, fields_laid};
+ghost use Rattle.aml_meaning.specs.FieldTerms.{fields_laid};
 ghost use Rattle.aml_meaning.specs.Meaning.{meaning};
-ghost use Rattle.aml_meaning.specs.Readings.{integer_in};
-ghost use Rattle.aml_meaning.specs.State.{State};
 ghost use Rattle.aml_meaning.specs.Tasks.{task};
 ghost use Rattle.aml_laws.specs.BankDeclarations.{Finds, FindsField};
 ghost use Rattle.aml_laws.specs.FieldsPut.{TakesList};

@@ -2,7 +2,7 @@
 ghost use Rattle.std.specs.Prelude.{◌≡◌, []};
 ghost use Rattle.ar_space.specs.Accesses.{Accesses};
 ghost use Rattle.aml_namespace.specs.Numbering.{Numbered};
-ghost use Rattle.aml_meaning.specs.State.{State};
+ghost use Rattle.aml_world.specs.state.State.{State};
 ghost use Rattle.aml_laws.specs.Becomes.{Becomes};
 ghost use Rattle.aml_laws.specs.Noted.{WithNotes, noted};
 ghost use Rattle.aml_laws.specs.Histories.{History, NotesExplained, NoneRemoved};

@@ -6,9 +6,9 @@ ghost use Rattle.aml_path.specs.declared.segment.Seg.{Seg};
 ghost use Rattle.aml_grammar.specs.Tree.{Tree, Trees, no_trees, tree};
 ghost use Rattle.aml_grammar.specs.declared.opcode.Opcode.TheVariants as opcodes;
 ghost use Rattle.aml_objects.specs.declared.value.Value.{Value};
+ghost use Rattle.aml_world.specs.state.State.{State};
 ghost use Rattle.aml_meaning.specs.declared.flow.Flow.TheVariants as flow;
 ghost use Rattle.aml_meaning.specs.Meaning.{meaning};
-ghost use Rattle.aml_meaning.specs.State.{State};
 ghost use Rattle.aml_meaning.specs.Tasks.{task, in_turn};
 ghost use Rattle.aml_laws.specs.OperatorTerms.{alone, of_one, GivesValue, IsRefused};
 

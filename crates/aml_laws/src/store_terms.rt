@@ -5,7 +5,7 @@ ghost use Rattle.aml_path.specs.declared.segment.Seg.{Seg};
 ghost use Rattle.aml_grammar.specs.Tree.{Tree, Part};
 ghost use Rattle.aml_grammar.specs.declared.opcode.Opcode.TheVariants as opcodes;
 ghost use Rattle.aml_objects.specs.declared.value.Value.{Value};
-ghost use Rattle.aml_meaning.specs.State.{State};
+ghost use Rattle.aml_world.specs.state.State.{State};
 ghost use Rattle.aml_laws.specs.OperatorTerms.{one_to, StoresTo, GivesValue};
 ghost use Rattle.aml_laws.specs.StoreTerms.{CopiesTo};
 

@@ -10,11 +10,11 @@ ghost use Rattle.aml_objects.specs.declared.object.Object.TheVariants as object;
 ghost use Rattle.aml_objects.specs.declared.value.Value.{Value};
 ghost use Rattle.aml_objects.specs.declared.value.Value.TheVariants as value;
 ghost use Rattle.aml_convert.specs.Conversions.{to_text_of, to_buffer_of};
-ghost use Rattle.aml_meaning.specs.State.{State};
-ghost use Rattle.aml_meaning.specs.Readings.{integer_in};
-ghost use Rattle.aml_meaning.specs.Stores.{stored, copied_to};
-ghost use Rattle.aml_meaning.specs.declared.store_target.StoreTarget.TheVariants as targets;
-ghost use Rattle.aml_meaning.specs.declared.store_target.Stored.TheVariants as store;
+ghost use Rattle.aml_world.specs.state.State.{State};
+ghost use Rattle.aml_world.specs.state.Readings.{integer_in};
+ghost use Rattle.aml_world.specs.values.Stores.{stored, copied_to};
+ghost use Rattle.aml_world.specs.declared.values.store_target.StoreTarget.TheVariants as targets;
+ghost use Rattle.aml_world.specs.declared.values.store_target.Stored.TheVariants as store;
 ghost use Rattle.aml_laws.specs.StoredNames.{data_entry, with_integer, with_object_numbered, cut_or_filled};
 
 /// A Store to a name converts to what the name holds (ACPI 6.5, 19.3.5.8). A name that holds an integer then holds

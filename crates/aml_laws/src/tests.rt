@@ -18,7 +18,7 @@ ghost use Rattle.aml_convert.specs.Conversions.{compared};
 ghost use Rattle.aml_convert.specs.Integers.{bits_of};
 ghost use Rattle.aml_convert.specs.Matching.{is_match};
 ghost use Rattle.aml_convert.specs.declared.matching.MatchOperator.{MatchOperator};
-ghost use Rattle.aml_meaning.specs.State.{State};
+ghost use Rattle.aml_world.specs.state.State.{State};
 ghost use Rattle.aml_laws.specs.OperatorTerms.{Gives, IsRefused};
 ghost use Rattle.aml_laws.specs.TestTerms.{TellsOfOne, TellsOfTwo, ComparesIntegers, Asks, ComparesValues};
 ghost use Rattle.aml_laws.specs.MatchedTerms.{match, IsNumberOf, GivesOperands, Matches, MeetsBoth, IsNoPackage};

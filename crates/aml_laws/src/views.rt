@@ -2,8 +2,9 @@
 ghost use Rattle.std.specs.Prelude.{◌≡◌, ℕ, List, Vec, map};
 ghost use Rattle.std.specs.declared.alloc.Global.{Global};
 ghost use Rattle.aml_path.specs.declared.segment.Seg.{Seg};
-ghost use Rattle.aml_meaning.specs.declared.datum.Datum as datum;
-ghost use Rattle.aml_meaning.specs.Given.{Givens, Nothing, Integer, Text, Bytes, Package, Named, Reference, given_of};
+ghost use Rattle.aml_world.specs.declared.state.datum.Datum as datum;
+ghost use Rattle.aml_world.specs.state.Given.{Givens, Nothing, Integer, Text, Bytes, Package, Named, Reference};
+ghost use Rattle.aml_world.specs.state.Given.{given_of};
 ghost use Rattle.aml_laws.specs.DataSeen.{in_order};
 
 /// What callers hand in and are given is what laws and contracts speak of: no value, an integer with its number, a text

@@ -1,2 +1,16 @@
+pub mod Calls
+pub mod Follows
+pub mod Halves
+pub mod Inners
+pub mod Law
+pub mod LeafNames
+pub mod Leaves
+pub mod MarksOfLists
+pub mod Moves
+pub mod Onward
+pub mod Operands
+pub mod Parting
+pub mod Walking
+pub mod FewerLevels
 pub mod Scans
 pub mod Within

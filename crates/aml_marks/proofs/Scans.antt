@@ -4,13 +4,13 @@ use Rattle.std.proofs.Common.{◌∙◌, sym, ap, subst}
 use Rattle.ar_space.specs.declared.refusal.Refusal.{Refusal}
 use Rattle.ar_space.specs.Outcome.{Outcome, Answers, seen}
 use Rattle.aml_path.specs.declared.segment.Seg.{Seg}
-use Rattle.aml_grammar.specs.declared.arities.Arity.{Arity}
+use Rattle.aml_arities.specs.declared.arities.Arity.{Arity}
 use Rattle.aml_grammar.specs.declared.marks.Mark.{Mark}
 use Rattle.aml_grammar.specs.State.{State}
 use Rattle.aml_grammar.specs.Tree.{Tree}
 use Rattle.aml_grammar.specs.Grammar.{term_list, by_arities, reading, with_arities, table_reading}
-use Rattle.aml_marked.specs.Marked.{Ascending, trees_by}
-use Rattle.aml_marked.proofs.Law.{one_list, marks_ascend}
+use Rattle.aml_marks.specs.Marked.{Ascending, trees_by}
+use Rattle.aml_marks.proofs.Law.{one_list, marks_ascend}
 use Rattle.aml_scan.specs.Scanned.{noted, marked}
 
 -- the value of an outcome, or another where there is none

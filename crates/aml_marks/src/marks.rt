@@ -1,10 +1,10 @@
 //! The marks of a list that was scanned.
 ghost use Rattle.std.specs.Prelude.{◌≡◌, Ok};
 ghost use Rattle.ar_space.specs.Outcome.{Answers};
-ghost use Rattle.aml_marked.specs.Marked.{Ascending, count_at};
+ghost use Rattle.aml_marks.specs.Marked.{Ascending, count_at};
 
+use crate::search::marked_count;
 use aml_grammar::Mark;
-use aml_marked::marked_count;
 use ar_space::Result;
 use std::alloc::Global;
 use std::marker::Model;
@@ -23,7 +23,7 @@ impl Model for Marks {
     ghost use Rattle.std.specs.Prelude.{List, []};
     ghost use Rattle.std.specs.Option.{option_map_or};
     ghost use Rattle.aml_grammar.specs.declared.marks.Mark.{Mark};
-    ghost use Rattle.aml_marked.specs.Marked.{Ascending};
+    ghost use Rattle.aml_marks.specs.Marked.{Ascending};
 
     ghost Value = { List Mark };
 

@@ -3,11 +3,11 @@ ghost use Rattle.std.specs.Prelude.{◌≡◌, ◌++◌, [], false, OnErr};
 ghost use Rattle.ar_space.specs.Outcome.{Answers, seen};
 ghost use Rattle.aml_grammar.specs.Grammar.{term_list, by_arities, reading, table_reading};
 ghost use Rattle.aml_grammar.specs.Grammar.{term_list_within, within, reading_within, table_reading_within};
-ghost use Rattle.aml_marked.specs.Marked.{trees_by};
+ghost use Rattle.aml_marks.specs.Marked.{trees_by};
 ghost use Rattle.aml_scan.specs.Scanned.{marked, noted};
 
 use crate::marks::Marks;
-use aml_grammar::{ArgumentCounts, Arities};
+use aml_arities::{ArgumentCounts, Arities};
 use aml_path::Path;
 use aml_scan::{scan, scan_within};
 use ar_space::Result;

@@ -4,8 +4,8 @@ use Rattle.std.proofs.Common.{arith, ap, ◌∙◌}
 use Rattle.ar_space.specs.declared.refusal.Refusal.{Refusal}
 use Rattle.ar_space.specs.Outcome.{Outcome}
 use Rattle.ar_space.specs.Change.{Change, give, stop, settle, go_on, ◌>>=◌}
-use Rattle.aml_meaning.specs.State.{State}
-use Rattle.aml_meaning.specs.Run.{Run, lift, charge}
+use Rattle.aml_world.specs.state.State.{State}
+use Rattle.aml_world.specs.state.Run.{Run, lift, charge}
 
 pub record Agree {S A : Type 0} (n : ℕ) (m k : Run S A) : Type 0 where
   pub same : (s : State S × ℕ) → s.1 ≤ n → m s ≡ k s

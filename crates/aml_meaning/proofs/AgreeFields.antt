@@ -16,12 +16,12 @@ use Rattle.aml_fields.specs.declared.region.Region.{Region}
 use Rattle.aml_fields.specs.declared.field_units.Unit.{Unit as Access}
 use Rattle.aml_fields.specs.Units.{units_of}
 use Rattle.aml_fields.specs.UnitByUnit.{read_units, bits_read, write_units, kept_by, kept}
-use Rattle.aml_meaning.specs.declared.regions.RegionSpace.{RegionSpace}
-use Rattle.aml_meaning.specs.declared.regions.RegionSpace.TheVariants as kinds
-use Rattle.aml_meaning.specs.declared.regions.RegionField.{RegionField}
-use Rattle.aml_meaning.specs.Run.{Run}
+use Rattle.aml_world.specs.declared.fields.regions.RegionSpace.{RegionSpace}
+use Rattle.aml_world.specs.declared.fields.regions.RegionSpace.TheVariants as kinds
+use Rattle.aml_world.specs.declared.fields.regions.RegionField.{RegionField}
+use Rattle.aml_world.specs.state.Run.{Run}
+use Rattle.aml_world.specs.fields.Fields.{part_in, inherited, bus_behind, bus_behind_all, pci_address, space_at, located, region_bits, region_written, index_unit, index_unit_written, index_bits, index_written, bank_selected, bank_unit, bank_unit_written, bank_bits, bank_written, field_unit_bits, field_unit_written, bits_in, written_in, field_value, field_integer, field_part, field_referent, field_stored}
 use Rattle.aml_meaning.proofs.Agree.{Agree, agree_give, agree_stop, agree_settle, agree_lift, agree_bind}
-use Rattle.aml_meaning.specs.Fields.{part_in, inherited, bus_behind, bus_behind_all, pci_address, space_at, located, region_bits, region_written, index_unit, index_unit_written, index_bits, index_written, bank_selected, bank_unit, bank_unit_written, bank_bits, bank_written, field_unit_bits, field_unit_written, bits_in, written_in, field_value, field_integer, field_part, field_referent, field_stored}
 
 -- ---- unit by unit
 

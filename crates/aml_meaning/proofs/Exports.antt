@@ -8,9 +8,9 @@ use Rattle.ar_space.specs.Accesses.{Accesses}
 use Rattle.ar_space.specs.Outcome.{Outcome}
 use Rattle.ar_space.specs.Change.{Does, Same, stop, give, ◌>>=◌}
 use Rattle.aml_objects.specs.declared.object.Element.{Element}
-use Rattle.aml_meaning.specs.State.{State}
-use Rattle.aml_meaning.specs.Given.{Given}
-use Rattle.aml_meaning.specs.Run.{Run}
+use Rattle.aml_world.specs.state.State.{State}
+use Rattle.aml_world.specs.state.Given.{Given}
+use Rattle.aml_world.specs.state.Run.{Run}
 use Rattle.aml_meaning.proofs.Runs.{running}
 use Rattle.aml_meaning.specs.Exporting.{each_exported, element_exported, elements_exported, package_exported}
 

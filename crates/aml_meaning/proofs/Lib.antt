@@ -2,27 +2,8 @@ pub mod Agree
 pub mod AgreeFields
 mod AgreeItems
 pub mod AgreeTerms
-pub mod BodyCounts
-pub mod BodyDepths
-pub mod BodyMarks
-pub mod Declared
 pub mod Exports
-pub mod Filling
-pub mod Following
-pub mod GivenRows
-pub mod Imports
-pub mod IntegerOperations
-pub mod KnownNames
-pub mod Lifted
 pub mod Loops
 pub mod Meanings
-pub mod NearestFunctions
-pub mod NodeObjects
-pub mod PassedBridges
 pub mod Runs
-pub mod SameCounts
-pub mod Signals
-pub mod SlotIntegers
 pub mod TargetKinds
-pub mod UnitIntegers
-pub mod Uses

@@ -4,9 +4,9 @@ use Rattle.std.proofs.Common.{arith, sym, ◌∙◌, sub-one}
 use Rattle.ar_space.specs.Accesses.{Accesses}
 use Rattle.ar_space.specs.Outcome.{Outcome}
 use Rattle.ar_space.specs.Change.{Does, go_on, ◌>>=◌, ◌>>◌}
+use Rattle.aml_world.specs.state.State.{State}
+use Rattle.aml_world.specs.state.Run.{charge}
 use Rattle.aml_meaning.specs.declared.flow.Flow.{Flow}
-use Rattle.aml_meaning.specs.State.{State}
-use Rattle.aml_meaning.specs.Run.{charge}
 use Rattle.aml_meaning.specs.Tasks.{Task}
 use Rattle.aml_meaning.specs.Evaluation.{rule}
 use Rattle.aml_meaning.specs.Meaning.{evaluated_within, meaning, step_and_rule}

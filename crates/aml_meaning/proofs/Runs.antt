@@ -6,10 +6,11 @@ use Rattle.ar_space.specs.Outcome.{Outcome, NotMemory, seen}
 use Rattle.ar_space.specs.Change.{Change, Does, ◌>>=◌}
 use Rattle.ar_space.proofs.Changes.{does_ok, does_err, does_seen_err, changing}
 use Rattle.aml_objects.specs.declared.value.Value.{Value}
-use Rattle.aml_meaning.specs.State.{State}
-use Rattle.aml_meaning.specs.Run.{Run, lift}
-use Rattle.aml_meaning.specs.Slots.{closed}
-use Rattle.aml_meaning.specs.Calling.{released, ending, framed, with_steps, with_rest, counted}
+use Rattle.aml_world.specs.state.State.{State}
+use Rattle.aml_world.specs.state.Run.{Run, lift}
+use Rattle.aml_world.specs.state.Slots.{closed}
+use Rattle.aml_world.specs.state.Mutexes.{released}
+use Rattle.aml_meaning.specs.Calling.{ending, framed, with_steps, with_rest, counted}
 
 pub does_lift : {S A : Type 0} {r : Outcome A} {w w1 : State S} (b : ℕ) (m : Change (State S) A) → Does r w1 m w → Does r (w1, b) (lift m) (w, b)
 unfolding lift

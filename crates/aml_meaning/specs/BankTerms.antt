@@ -6,12 +6,13 @@ use Rattle.aml_grammar.specs.Tree.{Tree, Trees}
 use Rattle.aml_grammar.specs.Apart.{operand_of, name_of}
 use Rattle.aml_objects.specs.declared.entry.FieldSource.TheVariants as sources
 use Rattle.aml_objects.specs.declared.value.Value.{Value}
+use Rattle.aml_world.specs.state.Run.{Run, lift}
+use Rattle.aml_world.specs.state.Readings.{integer_in}
+use Rattle.aml_world.specs.fields.FieldLayouts.{region_found, field_found}
 use Rattle.aml_meaning.specs.declared.flow.Flow.{Flow}
-use Rattle.aml_meaning.specs.Run.{Run, lift}
 use Rattle.aml_meaning.specs.Terms.{number_of, list_of}
-use Rattle.aml_meaning.specs.Readings.{integer_in}
 use Rattle.aml_meaning.specs.Tasks.{Task, value_at}
-use Rattle.aml_meaning.specs.FieldTerms.{region_found, field_found, fields_laid}
+use Rattle.aml_meaning.specs.FieldTerms.{fields_laid}
 
 -- the fields of a list, in the bank of a region that this value of a bank field selects
 unfoldable pub banked_laid : {S : Type 0} → List Seg → ℕ → ℕ → ℕ → Value → ℕ → Trees → Run S Flow

@@ -4,31 +4,28 @@ use Rattle.ar_space.specs.Accesses.{Accesses}
 use Rattle.ar_space.specs.Outcome.{Outcome, seen}
 use Rattle.ar_space.specs.Change.{Change, give, ◌>>=◌}
 use Rattle.aml_path.specs.declared.segment.Seg.{Seg}
-use Rattle.aml_grammar.specs.declared.arities.Arity.{Arity}
+use Rattle.aml_arities.specs.declared.arities.Arity.{Arity}
 use Rattle.aml_grammar.specs.Tree.{Tree, Trees}
 use Rattle.aml_grammar.specs.Shape.{trees_of}
 use Rattle.aml_grammar.specs.Grammar.{table_reading_within}
 use Rattle.aml_objects.specs.declared.value.Value.{Value}
 use Rattle.aml_objects.specs.declared.value.Value.TheVariants as value
-use Rattle.aml_namespace.specs.Namespace.{mutexes_released}
-use Rattle.aml_meaning.specs.declared.invocation.Invocation.{Invocation}
-use Rattle.aml_meaning.specs.declared.invocation.Invocation.TheVariants as invocation
-use Rattle.aml_meaning.specs.Given.{Given}
-use Rattle.aml_meaning.specs.State.{State}
-use Rattle.aml_meaning.specs.Run.{Run, lift}
-use Rattle.aml_meaning.specs.Slots.{opened, closed}
-use Rattle.aml_meaning.specs.Readings.{absolute}
+use Rattle.aml_world.specs.declared.state.invocation.Invocation.{Invocation}
+use Rattle.aml_world.specs.declared.state.invocation.Invocation.TheVariants as invocation
+use Rattle.aml_world.specs.state.Given.{Given}
+use Rattle.aml_world.specs.state.State.{State}
+use Rattle.aml_world.specs.state.Run.{Run, lift}
+use Rattle.aml_world.specs.state.Slots.{opened, closed}
+use Rattle.aml_world.specs.state.Readings.{absolute}
+use Rattle.aml_world.specs.state.Invocations.{invocation_found}
+use Rattle.aml_world.specs.state.Osi.{osi_answered}
+use Rattle.aml_world.specs.state.Importing.{all_imported}
+use Rattle.aml_world.specs.state.Mutexes.{released}
 use Rattle.aml_meaning.specs.Tasks.{in_turn}
-use Rattle.aml_meaning.specs.Invocations.{invocation_found, method_value}
-use Rattle.aml_meaning.specs.Osi.{osi_answered}
+use Rattle.aml_meaning.specs.Calls.{method_value}
 use Rattle.aml_meaning.specs.FieldCalls.{field_read}
-use Rattle.aml_meaning.specs.Importing.{all_imported}
 use Rattle.aml_meaning.specs.Meaning.{meaning}
 use Rattle.aml_meaning.specs.Exporting.{exported, field_exported}
-
--- however an evaluation ended, all mutexes are free after it
-abbrev pub released : {S : Type 0} → State S → State S
-released w = record w { names = mutexes_released w.names }
 
 unfoldable pub ending : {S A : Type 0} → Change (State S) A → Change (State S) A
 ending m w = ((m w).0, released (m w).1)

@@ -9,15 +9,15 @@ use Rattle.aml_grammar.specs.Apart.{code_of, operand_of, name_of, bytes_of}
 use Rattle.aml_objects.specs.declared.object.Element.{Element}
 use Rattle.aml_objects.specs.declared.object.Element.TheVariants as element
 use Rattle.aml_objects.specs.Objects.{make_string}
+use Rattle.aml_world.specs.state.State.{on_objects}
+use Rattle.aml_world.specs.state.Run.{Run, lift, charge}
+use Rattle.aml_world.specs.state.Readings.{integer_kept}
+use Rattle.aml_world.specs.state.NewObjects.{within, new_buffer, new_package}
 use Rattle.aml_meaning.specs.declared.flow.Flow.{Flow}
 use Rattle.aml_meaning.specs.declared.flow.Flow.TheVariants as flow
 use Rattle.aml_meaning.specs.declared.term_kind.DataKind.{DataKind}
 use Rattle.aml_meaning.specs.declared.term_kind.DataKind.TheVariants as kinds
-use Rattle.aml_meaning.specs.State.{on_objects}
-use Rattle.aml_meaning.specs.Run.{Run, lift, charge}
 use Rattle.aml_meaning.specs.Terms.{number_of, inner_of, list_of}
-use Rattle.aml_meaning.specs.Readings.{integer_kept}
-use Rattle.aml_meaning.specs.NewObjects.{within, new_buffer, new_package}
 use Rattle.aml_meaning.specs.Tasks.{Task, operand_value, operand_integer}
 
 module _ {S : Type 0} (ev : Task → Run S Flow) where

@@ -7,14 +7,14 @@ use Rattle.aml_grammar.specs.Tree.{Tree}
 use Rattle.aml_grammar.specs.Apart.{operand_of, name_of, bytes_of}
 use Rattle.aml_objects.specs.declared.entry.NamedObject.{NamedObject}
 use Rattle.aml_objects.specs.declared.entry.NamedObject.TheVariants as object
+use Rattle.aml_world.specs.state.Run.{Run, lift}
+use Rattle.aml_world.specs.state.Readings.{path_found, scope_found}
+use Rattle.aml_world.specs.state.Declaring.{new_name, new_method}
 use Rattle.aml_meaning.specs.declared.flow.Flow.{Flow}
 use Rattle.aml_meaning.specs.declared.flow.Flow.TheVariants as flow
 use Rattle.aml_meaning.specs.declared.term_kind.DeclarationKind.{DeclarationKind}
 use Rattle.aml_meaning.specs.declared.term_kind.DeclarationKind.TheVariants as kinds
-use Rattle.aml_meaning.specs.Run.{Run, lift}
 use Rattle.aml_meaning.specs.Terms.{number_of, inner_of, list_of}
-use Rattle.aml_meaning.specs.Readings.{path_found, scope_found}
-use Rattle.aml_meaning.specs.Declaring.{new_name, new_method}
 use Rattle.aml_meaning.specs.Tasks.{Task, module_level, operand_value, in_turn}
 
 module _ {S : Type 0} (ev : Task → Run S Flow) where

@@ -13,10 +13,10 @@ use Rattle.aml_grammar.specs.declared.opcode.TermCode.TheVariants as codes
 use Rattle.aml_grammar.specs.Opcodes as opcodes
 use Rattle.aml_grammar.specs.Tree.{Tree}
 use Rattle.aml_grammar.specs.Apart.{code_of}
+use Rattle.aml_world.specs.state.Run.{Run}
 use Rattle.aml_meaning.specs.declared.flow.Flow.{Flow}
 use Rattle.aml_meaning.specs.declared.term_kind.TermKind.{TermKind}
 use Rattle.aml_meaning.specs.declared.term_kind.TermKind.TheVariants as kinds
-use Rattle.aml_meaning.specs.Run.{Run}
 use Rattle.aml_meaning.specs.Terms.{kind_of}
 use Rattle.aml_meaning.specs.Tasks.{Task}
 use Rattle.aml_meaning.specs.DataTerms.{data_rule}

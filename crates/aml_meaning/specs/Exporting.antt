@@ -1,32 +1,26 @@
 -- How an answer is handed out: each element of a package costs a step.
-use Rattle.std.specs.Prelude.{ℕ, zero, suc, List, [], ◌∷◌, ◌++◌, Option, Some, None, Ok, Err}
+use Rattle.std.specs.Prelude.{ℕ, zero, suc, List, [], ◌∷◌, ◌++◌}
 use Rattle.ar_space.specs.declared.refusal.Refusal.TheVariants as refusal
 use Rattle.ar_space.specs.declared.refusal.EvaluationFault.TheVariants.{ObjectLimit}
-use Rattle.ar_space.specs.Outcome.{Outcome, seen}
 use Rattle.ar_space.specs.Accesses.{Accesses}
-use Rattle.ar_space.specs.Change.{Change, give, stop, ◌>>=◌}
+use Rattle.ar_space.specs.Change.{give, stop, ◌>>=◌}
 use Rattle.aml_path.specs.declared.segment.Seg.{Seg}
-use Rattle.aml_path.specs.Paths.{Name, resolved}
+use Rattle.aml_path.specs.Paths.{Name}
 use Rattle.aml_objects.specs.declared.value.Value.{Value}
 use Rattle.aml_objects.specs.declared.value.Value.TheVariants as value
 use Rattle.aml_objects.specs.declared.value.Reference.{Reference}
 use Rattle.aml_objects.specs.declared.value.Reference.TheVariants as reference
 use Rattle.aml_objects.specs.declared.object.Element.{Element}
 use Rattle.aml_objects.specs.declared.object.Element.TheVariants as element
-use Rattle.aml_objects.specs.declared.entry.Entry.{Entry}
 use Rattle.aml_objects.specs.declared.entry.Field.{Field}
-use Rattle.aml_objects.specs.declared.entry.Field.TheVariants as field
-use Rattle.aml_objects.specs.declared.entry.NamedObject.{NamedObject}
-use Rattle.aml_objects.specs.declared.entry.NamedObject.TheVariants as object
 use Rattle.aml_objects.specs.Objects.{string_at, buffer_at, elements_at}
-use Rattle.aml_namespace.specs.Namespace.{numbered}
-use Rattle.aml_namespace.specs.Search.{found}
-use Rattle.aml_meaning.specs.declared.name_use.NameUse.{NameUse}
-use Rattle.aml_meaning.specs.declared.name_use.NameUse.TheVariants as uses
-use Rattle.aml_meaning.specs.State.{State, on_objects}
-use Rattle.aml_meaning.specs.Run.{Run, lift, charge}
-use Rattle.aml_meaning.specs.Given as given
-use Rattle.aml_meaning.specs.Fields.{field_given}
+use Rattle.aml_world.specs.declared.state.name_use.NameUse.{NameUse}
+use Rattle.aml_world.specs.declared.state.name_use.NameUse.TheVariants as uses
+use Rattle.aml_world.specs.state.State.{on_objects}
+use Rattle.aml_world.specs.state.Run.{Run, lift, charge}
+use Rattle.aml_world.specs.state.Given as given
+use Rattle.aml_world.specs.fields.Fields.{field_given}
+use Rattle.aml_world.specs.state.NameUses.{path_of, name_use}
 use Rattle.aml_meaning.specs.FieldCalls.{called_at}
 use Rattle.aml_meaning.specs.Meaning.{meaning}
 
@@ -40,42 +34,11 @@ bytes_exported o = do
   bytes ← lift (on_objects (buffer_at o))
   give (given.Bytes bytes)
 
--- a reference to a name that stands is given as its path
-abbrev pub standing : Option (List Seg × Entry) → given.Given
-standing None = given.Reference
-standing (Some e) = given.Named e.0
-
-unfoldable pub path_of : {S : Type 0} → ℕ → Change (State S) given.Given
-path_of n w = (Ok (standing (numbered n w.names.map)), w)
-
 unfoldable pub reference_exported : {S : Type 0} → Reference → Run S given.Given
 reference_exported (reference.Name n) = lift (path_of n)
 reference_exported (reference.Slot slot n) = give given.Reference
 reference_exported (reference.Element o i) = give given.Reference
 reference_exported (reference.Byte o i) = give given.Reference
-
--- what an element stands for that is a name: the value that it holds, or else its path; where nothing is found, the path that it would
--- have
-abbrev pub value_or_path : Value → Outcome (List Seg) → Outcome NameUse
-value_or_path value.Uninitialized p = Ok (uses.Value value.Uninitialized)
-value_or_path (value.Integer n) p = Ok (uses.Value (value.Integer n))
-value_or_path (value.String o) p = Ok (uses.Value (value.String o))
-value_or_path (value.Buffer o) p = Ok (uses.Value (value.Buffer o))
-value_or_path (value.Package o) p = Ok (uses.Value (value.Package o))
-value_or_path (value.Reference r) p = seen uses.Path p
-
-abbrev pub held_or_path : NamedObject → Outcome (List Seg) → Outcome NameUse
-held_or_path (object.Data v) p = value_or_path v p
-held_or_path (object.FieldUnit u) p = Ok (uses.Field (field.Unit u))
-held_or_path (object.BufferField b) p = Ok (uses.Field (field.Buffer b))
-held_or_path _ p = seen uses.Path p
-
-abbrev pub use_of : Outcome Entry → Outcome (List Seg) → Outcome (List Seg) → Outcome NameUse
-use_of (Ok e) found_at would_be = held_or_path e.object found_at
-use_of (Err x) found_at would_be = seen uses.Path would_be
-
-unfoldable pub name_use : {S : Type 0} → Name → List Seg → Change (State S) NameUse
-name_use n scope w = (use_of (seen (λ f. f.1) (found w.names.map scope n)) (seen (λ f. f.0) (found w.names.map scope n)) (resolved n scope), w)
 
 -- a field is read as in a call of its own; its bits are handed out as they are, so no object is made of them
 abbrev pub field_exported : {S : Type 0} → Accesses S → Field → Run S given.Given

@@ -8,41 +8,31 @@ use Rattle.ar_space.specs.Change.{give, stop, settle, ◌>>=◌}
 use Rattle.aml_path.specs.declared.segment.Seg.{Seg}
 use Rattle.aml_objects.specs.declared.value.Value.{Value}
 use Rattle.aml_objects.specs.declared.entry.Field.{Field}
+use Rattle.aml_world.specs.declared.state.invocation.Invocation.{Invocation}
+use Rattle.aml_world.specs.declared.state.invocation.Invocation.TheVariants as invocation
+use Rattle.aml_world.specs.declared.values.object_type.Referent.{Referent}
+use Rattle.aml_world.specs.declared.values.object_type.Referent.TheVariants as referent
+use Rattle.aml_world.specs.declared.values.store_target.StoreTarget.{StoreTarget}
+use Rattle.aml_world.specs.declared.values.store_target.Held.{Held}
+use Rattle.aml_world.specs.declared.values.store_target.Held.TheVariants as held
+use Rattle.aml_world.specs.declared.values.store_target.Stored.{Stored}
+use Rattle.aml_world.specs.declared.values.store_target.Stored.TheVariants as store
+use Rattle.aml_world.specs.state.Run.{Run, lift}
+use Rattle.aml_world.specs.state.Readings.{absolute, integer_in}
+use Rattle.aml_world.specs.values.Stores.{stored}
+use Rattle.aml_world.specs.fields.Regions.{integer_only}
+use Rattle.aml_world.specs.state.Invocations.{invocation_found, call_allowed}
+use Rattle.aml_world.specs.fields.Fields.{field_value, field_integer, field_part, field_referent, field_stored}
+use Rattle.aml_world.specs.values.StoreTargets.{is_element}
 use Rattle.aml_meaning.specs.declared.flow.Flow.{Flow}
-use Rattle.aml_meaning.specs.declared.invocation.Invocation.{Invocation}
-use Rattle.aml_meaning.specs.declared.invocation.Invocation.TheVariants as invocation
-use Rattle.aml_meaning.specs.declared.object_type.Referent.{Referent}
-use Rattle.aml_meaning.specs.declared.object_type.Referent.TheVariants as referent
-use Rattle.aml_objects.specs.declared.value.Reference.TheVariants as reference
-use Rattle.aml_meaning.specs.declared.store_target.StoreTarget.{StoreTarget}
-use Rattle.aml_meaning.specs.declared.store_target.StoreTarget.TheVariants as targets
-use Rattle.aml_meaning.specs.declared.store_target.Held.{Held}
-use Rattle.aml_meaning.specs.declared.store_target.Held.TheVariants as held
-use Rattle.aml_meaning.specs.declared.store_target.Stored.{Stored}
-use Rattle.aml_meaning.specs.declared.store_target.Stored.TheVariants as store
-use Rattle.aml_meaning.specs.Run.{Run, lift}
-use Rattle.aml_meaning.specs.Readings.{absolute, integer_in}
-use Rattle.aml_meaning.specs.Stores.{stored}
-use Rattle.aml_meaning.specs.Regions.{integer_only}
 use Rattle.aml_meaning.specs.Tasks.{Task}
-use Rattle.aml_meaning.specs.Invocations.{invocation_found, call_allowed, method_value}
-use Rattle.aml_meaning.specs.Fields.{field_value, field_integer, field_part, field_referent, field_stored}
+use Rattle.aml_meaning.specs.Calls.{method_value}
 
 -- the integer that the object at a path answers, without arguments; answer: what it is, answered
 unfoldable pub asked : {S : Type 0} → (Invocation → Run S ℕ) → List Seg → Run S ℕ
 asked answer p = do
   i ← lift (invocation_found [] (absolute p) 0)
   answer i
-
--- whether a target is an element of a package
-abbrev pub is_element : StoreTarget → Bool
-is_element (targets.Refers (reference.Element o i)) = true
-is_element (targets.Refers (reference.Name n)) = false
-is_element (targets.Refers (reference.Slot slot n)) = false
-is_element (targets.Refers (reference.Byte o i)) = false
-is_element targets.Nowhere = false
-is_element (targets.Slot slot) = false
-is_element (targets.Name p) = false
 
 module _ {S : Type 0} (accesses : Accesses S) (ev : Task → Run S Flow) where
   unfoldable pub method_integer : ℕ → List Seg → List ℕ → Run S ℕ

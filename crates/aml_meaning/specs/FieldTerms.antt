@@ -1,13 +1,8 @@
 -- Declarations of operation regions and of fields (ACPI 6.5, 19.6: OperationRegion, Field, IndexField, CreateField and its like; 20.2.5.2:
 -- FieldList).
-use Rattle.std.specs.Prelude.{ℕ, ◌+◌, ◌*◌, ◌^◌, ◌/◌, ◌%◌, ◌==◌, ◌||◌, nat_lt, List, Bool, true, false, Ok, Err, if◌then◌else◌}
-use Rattle.ar_space.specs.declared.space.Width.{Width}
-use Rattle.ar_space.specs.declared.space.Width.TheVariants.{W8, W16, W32, W64}
+use Rattle.std.specs.Prelude.{ℕ, ◌*◌, ◌%◌, ◌||◌, List, Bool, true, false}
 use Rattle.ar_space.specs.declared.refusal.Refusal.TheVariants as refusal
-use Rattle.ar_space.specs.declared.refusal.FieldFault.TheVariants.{FieldLimit}
 use Rattle.ar_space.specs.declared.refusal.NameFault.TheVariants.{BadName}
-use Rattle.ar_space.specs.declared.refusal.ValueFault.TheVariants.{WrongType}
-use Rattle.ar_space.specs.Outcome.{Outcome}
 use Rattle.ar_space.specs.Change.{Change, give, stop, settle, ◌>>=◌}
 use Rattle.aml_path.specs.declared.segment.Seg.{Seg}
 use Rattle.aml_path.specs.Paths.{Name, resolved}
@@ -17,83 +12,28 @@ use Rattle.aml_grammar.specs.declared.opcode.TermCode.{TermCode}
 use Rattle.aml_grammar.specs.declared.opcode.TermCode.TheVariants as codes
 use Rattle.aml_grammar.specs.Tree.{Tree, Trees, no_trees, tree}
 use Rattle.aml_grammar.specs.Apart.{code_of, operand_of, name_of}
-use Rattle.aml_objects.specs.declared.value.Value.{Value}
-use Rattle.aml_objects.specs.declared.value.Value.TheVariants as value
-use Rattle.aml_objects.specs.declared.entry.NamedObject.{NamedObject}
 use Rattle.aml_objects.specs.declared.entry.NamedObject.TheVariants as object
 use Rattle.aml_objects.specs.declared.entry.FieldSource.{FieldSource}
 use Rattle.aml_objects.specs.declared.entry.FieldSource.TheVariants as sources
-use Rattle.aml_objects.specs.declared.entry.UpdateRule.{UpdateRule}
-use Rattle.aml_objects.specs.declared.entry.UpdateRule.TheVariants.{Preserve, WriteAsOnes, WriteAsZeros}
 use Rattle.aml_fields.specs.BufferFields.{new_buffer_field}
-use Rattle.aml_meaning.specs.declared.field_layout.FieldLayout.{FieldLayout}
-use Rattle.aml_meaning.specs.declared.field_layout.FieldGroup.{FieldGroup}
+use Rattle.aml_world.specs.declared.fields.field_layout.FieldLayout.{FieldLayout}
+use Rattle.aml_world.specs.declared.fields.field_layout.FieldGroup.{FieldGroup}
+use Rattle.aml_world.specs.declared.values.operation_kind.BufferFieldSize.{BufferFieldSize}
+use Rattle.aml_world.specs.state.State.{State, on_objects}
+use Rattle.aml_world.specs.state.Run.{Run, lift}
+use Rattle.aml_world.specs.state.Profiles.{asked_for}
+use Rattle.aml_world.specs.state.Readings.{integer_in}
+use Rattle.aml_world.specs.fields.BufferFields.{buffer_of, bits_of_step, bits_of_size}
+use Rattle.aml_world.specs.fields.FieldLayouts.{access_width, update_rule, sized, further, new_field, connection_found, region_found, field_found}
 use Rattle.aml_meaning.specs.declared.flow.Flow.{Flow}
 use Rattle.aml_meaning.specs.declared.flow.Flow.TheVariants as flow
 use Rattle.aml_meaning.specs.declared.term_kind.RegionKind.{RegionKind}
 use Rattle.aml_meaning.specs.declared.term_kind.RegionKind.TheVariants as kinds
-use Rattle.aml_meaning.specs.declared.term_kind.BufferFieldSize.{BufferFieldSize}
-use Rattle.aml_meaning.specs.declared.term_kind.BufferFieldSize.TheVariants as sizes
-use Rattle.aml_meaning.specs.State.{State, on_objects}
-use Rattle.aml_meaning.specs.Run.{Run, lift}
-use Rattle.aml_meaning.specs.Profiles.{asked_for}
 use Rattle.aml_meaning.specs.Terms.{number_of, list_of, is_named}
-use Rattle.aml_meaning.specs.Readings.{integer_in, entry_found}
-use Rattle.aml_meaning.specs.Declaring.{new_name}
 use Rattle.aml_meaning.specs.Tasks.{Task, module_level, value_at, two_values}
 use Rattle.aml_meaning.specs.DeclarationTerms.{declaring}
 
--- ---- field flags
-
--- how wide accesses are: the lowest four bits; any other number stands for byte accesses
-abbrev pub width_numbered : ℕ → Width
-width_numbered n = if n == 2 then W16 else (if n == 3 then W32 else (if n == 4 then W64 else W8))
-
-abbrev pub access_width : ℕ → Width
-access_width flags = width_numbered (flags % 16)
-
--- what a write does with the other bits of a unit: bits 5 and 6
-abbrev pub rule_numbered : ℕ → UpdateRule
-rule_numbered n = if n == 1 then WriteAsOnes else (if n == 2 then WriteAsZeros else Preserve)
-
-abbrev pub update_rule : ℕ → UpdateRule
-update_rule flags = rule_numbered (flags / 32 % 4)
-
 -- ---- elements of a list of fields
-
--- a named field has 1 to 8,388,608 bits
-abbrev pub sized : ℕ → Outcome ℕ
-sized count = if count == 0 || nat_lt 8388608 count then Err (refusal.Field FieldLimit) else Ok count
-
--- so many bits further on; offsets are below 2^64, which no list of a table reaches
-abbrev pub further : FieldLayout → ℕ → Outcome FieldLayout
-further at count = if nat_lt (at.bit_offset + count) (2 ^ 64) then Ok (record at { bit_offset = at.bit_offset + count }) else Err (refusal.Field FieldLimit)
-
--- a new field unit
-unfoldable pub new_field : {S : Type 0} → FieldGroup → Bool → List Seg → FieldLayout → ℕ → Change (State S) FieldLayout
-new_field group module_level p at count = do
-  bits ← settle (sized count)
-  number ← new_name module_level p (object.FieldUnit (record { source = group.source; bit_offset = at.bit_offset; bits = bits; access = at.access; update = group.update }))
-  settle (further at count)
-
--- the object of a value that is a buffer
-abbrev pub buffer_of : Value → Outcome ℕ
-buffer_of (value.Buffer o) = Ok o
-buffer_of value.Uninitialized = Err (refusal.Value WrongType)
-buffer_of (value.Integer n) = Err (refusal.Value WrongType)
-buffer_of (value.String o) = Err (refusal.Value WrongType)
-buffer_of (value.Package o) = Err (refusal.Value WrongType)
-buffer_of (value.Reference r) = Err (refusal.Value WrongType)
-
--- the buffer that a Connection names
-abbrev pub connection_buffer : NamedObject → Outcome ℕ
-connection_buffer (object.Data v) = buffer_of v
-connection_buffer _ = Err (refusal.Value WrongType)
-
-unfoldable pub connection_found : {S : Type 0} → List Seg → Name → Change (State S) ℕ
-connection_found scope n = do
-  e ← entry_found scope n
-  settle (connection_buffer e.object)
 
 module _ {S : Type 0} (group : FieldGroup) (scope : List Seg) (depth : ℕ) where
   unfoldable pub named_field : FieldLayout → Tree → Change (State S) FieldLayout
@@ -160,31 +100,6 @@ asked_if false op = give tt
 abbrev pub connections_asked : {S : Type 0} → Opcode → Trees → Change (State S) (Unit {0})
 connections_asked op ts = asked_if (has_connection ts) op
 
--- ---- what lists of fields lie in
-
-abbrev pub region_number : ℕ → NamedObject → Outcome ℕ
-region_number n (object.OperationRegion r) = Ok n
-region_number n _ = Err (refusal.Value WrongType)
-
-unfoldable pub region_found : {S : Type 0} → List Seg → Name → Change (State S) ℕ
-region_found scope n = do
-  e ← entry_found scope n
-  settle (region_number e.number e.object)
-
-abbrev pub in_region : ℕ → FieldSource → Outcome ℕ
-in_region n (sources.Region r) = Ok n
-in_region n (sources.Index i d) = Err (refusal.Value WrongType)
-in_region n (sources.Bank r b) = Err (refusal.Value WrongType)
-
-abbrev pub field_number : ℕ → NamedObject → Outcome ℕ
-field_number n (object.FieldUnit u) = in_region n u.source
-field_number n _ = Err (refusal.Value WrongType)
-
-unfoldable pub field_found : {S : Type 0} → List Seg → Name → Change (State S) ℕ
-field_found scope n = do
-  e ← entry_found scope n
-  settle (field_number e.number e.object)
-
 -- the fields of a list, with these flags
 unfoldable pub fields_laid : {S : Type 0} → List Seg → ℕ → FieldSource → ℕ → Trees → Run S Flow
 fields_laid scope depth source flags ts = do
@@ -192,21 +107,6 @@ fields_laid scope depth source flags ts = do
   give flow.Next
 
 -- ---- buffer fields
-
--- CreateBitField counts bits, the others of its kind bytes; and how many bits a field of a kind has
-abbrev pub bits_of_step : BufferFieldSize → ℕ
-bits_of_step sizes.Bit = 1
-bits_of_step sizes.Byte = 8
-bits_of_step sizes.Word = 8
-bits_of_step sizes.DWord = 8
-bits_of_step sizes.QWord = 8
-
-abbrev pub bits_of_size : BufferFieldSize → ℕ
-bits_of_size sizes.Bit = 1
-bits_of_size sizes.Byte = 8
-bits_of_size sizes.Word = 16
-bits_of_size sizes.DWord = 32
-bits_of_size sizes.QWord = 64
 
 module _ {S : Type 0} (ev : Task → Run S Flow) where
   -- the offset and the length are evaluated here

@@ -2,61 +2,35 @@
 -- value is formed, and then it is stored to the targets.
 use Rattle.std.specs.Prelude.{ℕ, List, Option, Some, None}
 use Rattle.ar_space.specs.Accesses.{Accesses}
-use Rattle.ar_space.specs.Change.{Change, give, settle, ◌>>=◌}
+use Rattle.ar_space.specs.Change.{give, settle, ◌>>=◌}
 use Rattle.aml_path.specs.declared.segment.Seg.{Seg}
 use Rattle.aml_grammar.specs.Tree.{Tree, Part, null, name, number, bytes, inner, list}
 use Rattle.aml_grammar.specs.Apart.{code_of, operand_of, name_of}
 use Rattle.aml_objects.specs.declared.value.Value.{Value}
 use Rattle.aml_objects.specs.declared.value.Value.TheVariants as value
-use Rattle.aml_meaning.specs.declared.flow.Flow.{Flow}
-use Rattle.aml_meaning.specs.declared.flow.Flow.TheVariants as flow
-use Rattle.aml_meaning.specs.declared.store_target.TargetKind.{TargetKind}
-use Rattle.aml_meaning.specs.declared.store_target.TargetKind.TheVariants as targets
-use Rattle.aml_meaning.specs.declared.object_type.Referent.{Referent}
+use Rattle.aml_world.specs.declared.values.object_type.Referent.{Referent}
+use Rattle.aml_world.specs.declared.values.operation_kind.OneOperand.{OneOperand}
+use Rattle.aml_world.specs.declared.values.operation_kind.TwoOperands.{TwoOperands}
+use Rattle.aml_world.specs.declared.values.operation_kind.Test.{Test}
+use Rattle.aml_world.specs.declared.values.operation_kind.Count.{Count}
 use Rattle.aml_objects.specs.declared.value.Reference.{Reference}
 use Rattle.aml_objects.specs.declared.value.Slot.{Slot}
+use Rattle.aml_world.specs.state.Run.{Run, lift}
+use Rattle.aml_world.specs.state.Readings.{integer_kept}
+use Rattle.aml_world.specs.values.StoreTargets.{slot_read, dereferenced, target_read, reference_of, if_initialized, reference_if_found, value_followed, followed, most_references, target_referent, reference_in}
+use Rattle.aml_world.specs.values.Stores.{copied_to}
+use Rattle.aml_world.specs.state.Mutexes.{acquired_at}
+use Rattle.aml_world.specs.values.Operations.{divided_in, lnot_in, size_in, type_of_referent, type_number, result_of_two, result_of_one, result_of_test, counted_by}
+use Rattle.aml_meaning.specs.declared.flow.Flow.{Flow}
+use Rattle.aml_meaning.specs.declared.flow.Flow.TheVariants as flow
+use Rattle.aml_meaning.specs.declared.term_kind.TargetKind.{TargetKind}
+use Rattle.aml_meaning.specs.declared.term_kind.TargetKind.TheVariants as targets
 use Rattle.aml_meaning.specs.declared.term_kind.OperatorKind.{OperatorKind}
 use Rattle.aml_meaning.specs.declared.term_kind.OperatorKind.TheVariants as kinds
-use Rattle.aml_meaning.specs.declared.term_kind.OneOperand.{OneOperand}
-use Rattle.aml_meaning.specs.declared.term_kind.OneOperand.TheVariants as one
-use Rattle.aml_meaning.specs.declared.term_kind.TwoOperands.{TwoOperands}
-use Rattle.aml_meaning.specs.declared.term_kind.TwoOperands.TheVariants as two
-use Rattle.aml_meaning.specs.declared.term_kind.Test.{Test}
-use Rattle.aml_meaning.specs.declared.term_kind.Test.TheVariants as test
-use Rattle.aml_meaning.specs.declared.term_kind.Count.{Count}
-use Rattle.aml_meaning.specs.declared.term_kind.Count.TheVariants as count
-use Rattle.aml_meaning.specs.State.{State}
-use Rattle.aml_meaning.specs.Run.{Run, lift}
 use Rattle.aml_meaning.specs.Terms.{target_kind}
-use Rattle.aml_meaning.specs.Readings.{integer_kept}
-use Rattle.aml_meaning.specs.StoreTargets.{slot_read, dereferenced, target_read, reference_of, if_initialized, reference_if_found, value_followed, followed, most_references, target_referent}
-use Rattle.aml_meaning.specs.Stores.{copied_to}
-use Rattle.aml_meaning.specs.Mutexes.{acquired_at}
-use Rattle.aml_meaning.specs.Operations.{operated, divided_in, operated_on_one, operated_logically, turned, next_integer, integer_before, compared_in, joined, joined_resources, indexed, to_integer_in, to_buffer_in, size_in, type_of_referent, type_number}
 use Rattle.aml_meaning.specs.Tasks.{Task, operand_value, value_at, two_values}
-use Rattle.aml_meaning.specs.TargetTerms.{reference_in, target_at, targeted}
+use Rattle.aml_meaning.specs.TargetTerms.{target_at, targeted}
 use Rattle.aml_meaning.specs.FieldCalls.{completed, held_value, held_integer, referent_read, stored_back}
-
--- ---- what operators give of values
-
-abbrev pub result_of_two : {S : Type 0} → TwoOperands → Value → Value → Change (State S) Value
-result_of_two (two.Integers op) v u = operated op v u
-result_of_two two.Concatenate v u = joined v u
-result_of_two two.ConcatenateResources v u = joined_resources v u
-result_of_two two.Index v u = indexed v u
-
-abbrev pub result_of_one : {S : Type 0} → OneOperand → Value → Change (State S) Value
-result_of_one (one.Integer op) v = operated_on_one op v
-result_of_one one.ToBuffer v = to_buffer_in v
-result_of_one one.ToInteger v = to_integer_in v
-
-abbrev pub result_of_test : {S : Type 0} → Test → Value → Value → Change (State S) Value
-result_of_test (test.Logical op) v u = operated_logically op v u
-result_of_test (test.Compare c) v u = compared_in c v u
-
-abbrev pub counted_by : {S : Type 0} → Count → ℕ → Change (State S) Value
-counted_by count.Up n = next_integer n
-counted_by count.Down n = integer_before n
 
 -- accesses: what the register space makes of them; ev: what a part evaluates to
 module _ {S : Type 0} (accesses : Accesses S) (ev : Task → Run S Flow) where
@@ -104,10 +78,10 @@ module _ {S : Type 0} (accesses : Accesses S) (ev : Task → Run S Flow) where
     r ← lift (result_of_test k x.0 x.1)
     give (flow.Value r)
 
-  unfoldable pub not_rule : List Seg → ℕ → Tree → Run S Flow
-  not_rule scope depth t = do
+  unfoldable pub lnot_rule : List Seg → ℕ → Tree → Run S Flow
+  lnot_rule scope depth t = do
     v ← value_at ev scope depth t 0
-    r ← lift (turned v)
+    r ← lift (lnot_in v)
     give (flow.Value r)
 
   -- the target is found once, read and stored to
@@ -232,7 +206,7 @@ module _ {S : Type 0} (accesses : Accesses S) (ev : Task → Run S Flow) where
   operator_rule kinds.Divide scope depth t = divide_rule scope depth t
   operator_rule (kinds.One k) scope depth t = one_rule k scope depth t
   operator_rule (kinds.Test k) scope depth t = test_rule k scope depth t
-  operator_rule kinds.LogicalNot scope depth t = not_rule scope depth t
+  operator_rule kinds.LNot scope depth t = lnot_rule scope depth t
   operator_rule (kinds.Count k) scope depth t = count_rule k scope depth t
   operator_rule kinds.SizeOf scope depth t = size_rule scope depth t
   operator_rule kinds.ObjectType scope depth t = type_rule scope depth t

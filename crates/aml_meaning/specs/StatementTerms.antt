@@ -7,13 +7,13 @@ use Rattle.aml_path.specs.declared.segment.Seg.{Seg}
 use Rattle.aml_grammar.specs.Tree.{Tree, Trees}
 use Rattle.aml_grammar.specs.Apart.{operand_of}
 use Rattle.aml_convert.specs.Operators.{is_true}
+use Rattle.aml_world.specs.state.Run.{Run, lift}
+use Rattle.aml_world.specs.state.Mutexes.{given_back_at}
 use Rattle.aml_meaning.specs.declared.flow.Flow.{Flow}
 use Rattle.aml_meaning.specs.declared.flow.Flow.TheVariants as flow
 use Rattle.aml_meaning.specs.declared.term_kind.StatementKind.{StatementKind}
 use Rattle.aml_meaning.specs.declared.term_kind.StatementKind.TheVariants as kinds
-use Rattle.aml_meaning.specs.Run.{Run, lift}
 use Rattle.aml_meaning.specs.Terms.{inner_of, list_of, else_of}
-use Rattle.aml_meaning.specs.Mutexes.{given_back_at}
 use Rattle.aml_meaning.specs.Tasks.{Task, task, operand_integer, value_at, in_turn}
 use Rattle.aml_meaning.specs.TargetTerms.{target_at}
 

@@ -1,47 +1,26 @@
 -- Operands that name a target, which is read or stored to (ACPI 6.5, 20.2.2: SuperName, SimpleName, Target). A name, a local, an
 -- argument or Debug costs no step there, nor does the null target; RefOf, DerefOf and Index do.
-use Rattle.std.specs.Prelude.{ℕ, List, Option, Some, None, Ok, Err}
+use Rattle.std.specs.Prelude.{ℕ, List, Option, Some, None}
 use Rattle.ar_space.specs.declared.refusal.Refusal.TheVariants as refusal
 use Rattle.ar_space.specs.declared.refusal.NameFault.TheVariants.{BadName}
-use Rattle.ar_space.specs.declared.refusal.ValueFault.TheVariants.{WrongType}
 use Rattle.ar_space.specs.Accesses.{Accesses}
-use Rattle.ar_space.specs.Outcome.{Outcome}
-use Rattle.ar_space.specs.Change.{Change, give, stop, settle, ◌>>=◌, ◌>>◌}
+use Rattle.ar_space.specs.Change.{give, stop, settle, ◌>>=◌, ◌>>◌}
 use Rattle.aml_path.specs.declared.segment.Seg.{Seg}
 use Rattle.aml_path.specs.Paths.{Name}
 use Rattle.aml_grammar.specs.Tree.{Tree, term, Part, null, name, number, bytes, inner, list, Parts, no_parts, part}
 use Rattle.aml_grammar.specs.Apart.{operand_of, name_of}
 use Rattle.aml_objects.specs.declared.value.Value.{Value}
-use Rattle.aml_objects.specs.declared.value.Value.TheVariants as value
-use Rattle.aml_objects.specs.declared.value.Reference.{Reference}
+use Rattle.aml_world.specs.declared.values.store_target.StoreTarget.{StoreTarget}
+use Rattle.aml_world.specs.declared.values.store_target.StoreTarget.TheVariants as targets
+use Rattle.aml_world.specs.state.Run.{Run, lift, charge}
+use Rattle.aml_world.specs.values.StoreTargets.{tested, target_named, reference_in}
 use Rattle.aml_meaning.specs.declared.flow.Flow.{Flow}
 use Rattle.aml_meaning.specs.declared.flow.Flow.TheVariants as flow
-use Rattle.aml_meaning.specs.declared.store_target.StoreTarget.{StoreTarget}
-use Rattle.aml_meaning.specs.declared.store_target.StoreTarget.TheVariants as targets
-use Rattle.aml_meaning.specs.declared.store_target.TargetKind.{TargetKind}
-use Rattle.aml_meaning.specs.declared.store_target.TargetKind.TheVariants as kinds
-use Rattle.aml_meaning.specs.State.{State}
-use Rattle.aml_meaning.specs.Run.{Run, lift, charge}
+use Rattle.aml_meaning.specs.declared.term_kind.TargetKind.{TargetKind}
+use Rattle.aml_meaning.specs.declared.term_kind.TargetKind.TheVariants as kinds
 use Rattle.aml_meaning.specs.Terms.{target_kind}
-use Rattle.aml_meaning.specs.Readings.{path_found}
 use Rattle.aml_meaning.specs.Tasks.{Task, operand_value, value_at}
-use Rattle.aml_meaning.specs.StoreTargets.{tested}
 use Rattle.aml_meaning.specs.FieldCalls.{stored_to}
-
--- the target that a name stands for
-unfoldable pub target_named : {S : Type 0} → List Seg → Name → Change (State S) StoreTarget
-target_named scope n = do
-  p ← path_found scope n
-  give (targets.Name p)
-
--- the reference that a value is
-abbrev pub reference_in : Value → Outcome Reference
-reference_in (value.Reference r) = Ok r
-reference_in value.Uninitialized = Err (refusal.Value WrongType)
-reference_in (value.Integer n) = Err (refusal.Value WrongType)
-reference_in (value.String o) = Err (refusal.Value WrongType)
-reference_in (value.Buffer o) = Err (refusal.Value WrongType)
-reference_in (value.Package o) = Err (refusal.Value WrongType)
 
 module _ {S : Type 0} (ev : Task → Run S Flow) where
   unfoldable pub name_target : List Seg → Tree → ℕ → Run S StoreTarget

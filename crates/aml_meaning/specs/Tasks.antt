@@ -1,17 +1,21 @@
 -- Terms to evaluate, one after another (ACPI 6.5, 5.5 and 19.6). Operands are evaluated from left to right.
-use Rattle.std.specs.Prelude.{ℕ, ◌==◌, ◌&&◌, List, Bool, true, false, if◌then◌else◌}
+use Rattle.std.specs.Prelude.{ℕ, ◌==◌, ◌&&◌, List, Bool, true, false, Ok, Err, if◌then◌else◌}
 use Rattle.ar_space.specs.Change.{give, settle, ◌>>=◌}
+use Rattle.ar_space.specs.declared.refusal.Refusal.TheVariants as refusal
+use Rattle.ar_space.specs.declared.refusal.EvaluationFault.TheVariants.{NoValue}
+use Rattle.ar_space.specs.Outcome.{Outcome}
 use Rattle.aml_path.specs.declared.segment.Seg.{Seg}
 use Rattle.aml_grammar.specs.Tree.{Tree, Trees, no_trees, tree}
 use Rattle.aml_grammar.specs.Apart.{operand_of}
 use Rattle.aml_objects.specs.declared.value.Value.{Value}
+use Rattle.aml_world.specs.declared.state.profile.Profile.{Profile}
+use Rattle.aml_world.specs.state.Run.{Run, lift}
+use Rattle.aml_world.specs.state.Profiles.{is_wide}
+use Rattle.aml_world.specs.state.Readings.{integer_in}
 use Rattle.aml_meaning.specs.declared.flow.Flow.{Flow}
 use Rattle.aml_meaning.specs.declared.flow.Flow.TheVariants as flow
-use Rattle.aml_meaning.specs.declared.profile.Profile.{Profile}
-use Rattle.aml_meaning.specs.Run.{Run, lift}
-use Rattle.aml_meaning.specs.Passing.{is_wide, passing}
+use Rattle.aml_meaning.specs.Passing.{passing}
 use Rattle.aml_meaning.specs.Terms.{inner_of}
-use Rattle.aml_meaning.specs.Readings.{integer_in, value_in}
 
 -- a term to evaluate: the scope that its names stand in, how many control methods are being called, and its tree
 pub record Task : Type 0 where
@@ -38,6 +42,14 @@ goes_on flow.Next = true
 goes_on flow.Break = false
 goes_on flow.Continue = false
 goes_on (flow.Return v) = false
+
+-- the value of a term, where one is wanted
+abbrev pub value_in : Flow → Outcome Value
+value_in (flow.Value v) = Ok v
+value_in flow.Next = Err (refusal.Evaluation NoValue)
+value_in flow.Break = Err (refusal.Evaluation NoValue)
+value_in flow.Continue = Err (refusal.Evaluation NoValue)
+value_in (flow.Return v) = Err (refusal.Evaluation NoValue)
 
 -- ev: what a part evaluates to
 module _ {S : Type 0} (ev : Task → Run S Flow) where

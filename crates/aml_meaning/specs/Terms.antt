@@ -15,8 +15,18 @@ use Rattle.aml_convert.specs.declared.operators.BinaryOperator.TheVariants as in
 use Rattle.aml_convert.specs.declared.operators.UnaryOperator.TheVariants as unary
 use Rattle.aml_convert.specs.declared.logic.LogicalOperator.TheVariants as logical
 use Rattle.aml_convert.specs.declared.logic.Comparison.TheVariants as comparisons
-use Rattle.aml_meaning.specs.declared.store_target.TargetKind.{TargetKind}
-use Rattle.aml_meaning.specs.declared.store_target.TargetKind.TheVariants as targets
+use Rattle.aml_world.specs.declared.values.operation_kind.BufferFieldSize.TheVariants as sizes
+use Rattle.aml_world.specs.declared.values.operation_kind.TwoOperands.{TwoOperands}
+use Rattle.aml_world.specs.declared.values.operation_kind.TwoOperands.TheVariants as two
+use Rattle.aml_world.specs.declared.values.operation_kind.OneOperand.{OneOperand}
+use Rattle.aml_world.specs.declared.values.operation_kind.OneOperand.TheVariants as one
+use Rattle.aml_world.specs.declared.values.operation_kind.Test.{Test}
+use Rattle.aml_world.specs.declared.values.operation_kind.Test.TheVariants as tests
+use Rattle.aml_world.specs.declared.values.operation_kind.Count.TheVariants as counts
+use Rattle.aml_world.specs.declared.values.operation_kind.Conversion.TheVariants as conversions
+use Rattle.aml_world.specs.declared.values.operation_kind.EventChange.TheVariants as changes
+use Rattle.aml_meaning.specs.declared.term_kind.TargetKind.{TargetKind}
+use Rattle.aml_meaning.specs.declared.term_kind.TargetKind.TheVariants as targets
 use Rattle.aml_meaning.specs.declared.term_kind.TermKind.{TermKind}
 use Rattle.aml_meaning.specs.declared.term_kind.TermKind.TheVariants as kinds
 use Rattle.aml_meaning.specs.declared.term_kind.DataKind.{DataKind}
@@ -25,86 +35,85 @@ use Rattle.aml_meaning.specs.declared.term_kind.DeclarationKind.{DeclarationKind
 use Rattle.aml_meaning.specs.declared.term_kind.DeclarationKind.TheVariants as declarations
 use Rattle.aml_meaning.specs.declared.term_kind.RegionKind.{RegionKind}
 use Rattle.aml_meaning.specs.declared.term_kind.RegionKind.TheVariants as regions
-use Rattle.aml_meaning.specs.declared.term_kind.BufferFieldSize.TheVariants as sizes
 use Rattle.aml_meaning.specs.declared.term_kind.StatementKind.{StatementKind}
 use Rattle.aml_meaning.specs.declared.term_kind.StatementKind.TheVariants as statements
 use Rattle.aml_meaning.specs.declared.term_kind.OperatorKind.{OperatorKind}
 use Rattle.aml_meaning.specs.declared.term_kind.OperatorKind.TheVariants as operators
-use Rattle.aml_meaning.specs.declared.term_kind.TwoOperands.{TwoOperands}
-use Rattle.aml_meaning.specs.declared.term_kind.TwoOperands.TheVariants as two
-use Rattle.aml_meaning.specs.declared.term_kind.OneOperand.{OneOperand}
-use Rattle.aml_meaning.specs.declared.term_kind.OneOperand.TheVariants as one
-use Rattle.aml_meaning.specs.declared.term_kind.Test.{Test}
-use Rattle.aml_meaning.specs.declared.term_kind.Test.TheVariants as tests
-use Rattle.aml_meaning.specs.declared.term_kind.Count.TheVariants as counts
 use Rattle.aml_meaning.specs.declared.term_kind.WideKind.{WideKind}
 use Rattle.aml_meaning.specs.declared.term_kind.WideKind.TheVariants as wide
-use Rattle.aml_meaning.specs.declared.term_kind.Conversion.TheVariants as conversions
-use Rattle.aml_meaning.specs.declared.term_kind.EventChange.TheVariants as changes
 
 -- data
 abbrev pub data_kind : Opcode → Option DataKind
+-- written by tools/opcodes.py from tables/opcodes.txt: data_kind: begin
 data_kind opcodes.Zero = Some (datas.Constant 0)
 data_kind opcodes.One = Some (datas.Constant 1)
-data_kind opcodes.Ones = Some (datas.Constant 18446744073709551615)
-data_kind opcodes.Revision = Some (datas.Constant 2)
 data_kind opcodes.BytePrefix = Some datas.Integer
 data_kind opcodes.WordPrefix = Some datas.Integer
 data_kind opcodes.DWordPrefix = Some datas.Integer
-data_kind opcodes.QWordPrefix = Some datas.Integer
 data_kind opcodes.StringPrefix = Some datas.String
+data_kind opcodes.QWordPrefix = Some datas.Integer
 data_kind opcodes.Buffer = Some datas.Buffer
 data_kind opcodes.Package = Some datas.Package
 data_kind opcodes.VarPackage = Some datas.VarPackage
+data_kind opcodes.Ones = Some (datas.Constant 18446744073709551615)
+data_kind opcodes.Revision = Some (datas.Constant 2)
+-- written by tools/opcodes.py from tables/opcodes.txt: data_kind: end
 data_kind _ = None
 
 -- declarations, and Scope
 abbrev pub declaration_kind : Opcode → Option DeclarationKind
+-- written by tools/opcodes.py from tables/opcodes.txt: declaration_kind: begin
+declaration_kind opcodes.Alias = Some declarations.Alias
+declaration_kind opcodes.Name = Some declarations.Name
 declaration_kind opcodes.Scope = Some declarations.Scope
+declaration_kind opcodes.Method = Some declarations.Method
+declaration_kind opcodes.External = Some declarations.External
+declaration_kind opcodes.Mutex = Some declarations.Mutex
+declaration_kind opcodes.Event = Some declarations.Event
 declaration_kind opcodes.Device = Some declarations.Device
 declaration_kind opcodes.Processor = Some declarations.Processor
 declaration_kind opcodes.PowerRes = Some declarations.PowerResource
 declaration_kind opcodes.ThermalZone = Some declarations.ThermalZone
-declaration_kind opcodes.Name = Some declarations.Name
-declaration_kind opcodes.Alias = Some declarations.Alias
-declaration_kind opcodes.External = Some declarations.External
-declaration_kind opcodes.Method = Some declarations.Method
-declaration_kind opcodes.Mutex = Some declarations.Mutex
-declaration_kind opcodes.Event = Some declarations.Event
+-- written by tools/opcodes.py from tables/opcodes.txt: declaration_kind: end
 declaration_kind _ = None
 
 -- operation regions, fields in them, and buffer fields
 abbrev pub region_kind : Opcode → Option RegionKind
+-- written by tools/opcodes.py from tables/opcodes.txt: region_kind: begin
+region_kind opcodes.CreateDWordField = Some (regions.SizedBufferField sizes.DWord)
+region_kind opcodes.CreateWordField = Some (regions.SizedBufferField sizes.Word)
+region_kind opcodes.CreateByteField = Some (regions.SizedBufferField sizes.Byte)
+region_kind opcodes.CreateBitField = Some (regions.SizedBufferField sizes.Bit)
+region_kind opcodes.CreateQWordField = Some (regions.SizedBufferField sizes.QWord)
+region_kind opcodes.CreateField = Some regions.BufferField
 region_kind opcodes.OpRegion = Some regions.OperationRegion
 region_kind opcodes.Field = Some regions.Field
 region_kind opcodes.IndexField = Some regions.IndexField
-region_kind opcodes.CreateBitField = Some (regions.SizedBufferField sizes.Bit)
-region_kind opcodes.CreateByteField = Some (regions.SizedBufferField sizes.Byte)
-region_kind opcodes.CreateWordField = Some (regions.SizedBufferField sizes.Word)
-region_kind opcodes.CreateDWordField = Some (regions.SizedBufferField sizes.DWord)
-region_kind opcodes.CreateQWordField = Some (regions.SizedBufferField sizes.QWord)
-region_kind opcodes.CreateField = Some regions.BufferField
+-- written by tools/opcodes.py from tables/opcodes.txt: region_kind: end
 region_kind _ = None
 
 -- statements
 abbrev pub statement_kind : Opcode → Option StatementKind
+-- written by tools/opcodes.py from tables/opcodes.txt: statement_kind: begin
+statement_kind opcodes.Notify = Some statements.Notify
+statement_kind opcodes.Continue = Some statements.Continue
 statement_kind opcodes.If = Some statements.If
 statement_kind opcodes.Else = Some statements.Else
 statement_kind opcodes.While = Some statements.While
-statement_kind opcodes.Break = Some statements.Break
-statement_kind opcodes.Continue = Some statements.Continue
 statement_kind opcodes.Noop = Some statements.Noop
-statement_kind opcodes.BreakPoint = Some statements.Noop
 statement_kind opcodes.Return = Some statements.Return
-statement_kind opcodes.Release = Some statements.Release
-statement_kind opcodes.Notify = Some statements.Notify
+statement_kind opcodes.Break = Some statements.Break
+statement_kind opcodes.BreakPoint = Some statements.Noop
 statement_kind opcodes.Stall = Some statements.Pause
 statement_kind opcodes.Sleep = Some statements.Pause
+statement_kind opcodes.Release = Some statements.Release
 statement_kind opcodes.Fatal = Some statements.Fatal
+-- written by tools/opcodes.py from tables/opcodes.txt: statement_kind: end
 statement_kind _ = None
 
 -- locals and arguments
 abbrev pub slot_kind : Opcode → Option Slot
+-- written by tools/opcodes.py from tables/opcodes.txt: slot_kind: begin
 slot_kind opcodes.Local0 = Some (slots.Local 0)
 slot_kind opcodes.Local1 = Some (slots.Local 1)
 slot_kind opcodes.Local2 = Some (slots.Local 2)
@@ -120,77 +129,90 @@ slot_kind opcodes.Arg3 = Some (slots.Argument 3)
 slot_kind opcodes.Arg4 = Some (slots.Argument 4)
 slot_kind opcodes.Arg5 = Some (slots.Argument 5)
 slot_kind opcodes.Arg6 = Some (slots.Argument 6)
+-- written by tools/opcodes.py from tables/opcodes.txt: slot_kind: end
 slot_kind _ = None
 
 -- operators on two integers
 abbrev pub integer_operator : Opcode → Option BinaryOperator
+-- written by tools/opcodes.py from tables/opcodes.txt: integer_operator: begin
 integer_operator opcodes.Add = Some integers.Add
 integer_operator opcodes.Subtract = Some integers.Subtract
 integer_operator opcodes.Multiply = Some integers.Multiply
-integer_operator opcodes.Mod = Some integers.Mod
+integer_operator opcodes.ShiftLeft = Some integers.ShiftLeft
+integer_operator opcodes.ShiftRight = Some integers.ShiftRight
 integer_operator opcodes.And = Some integers.And
 integer_operator opcodes.Nand = Some integers.Nand
 integer_operator opcodes.Or = Some integers.Or
 integer_operator opcodes.Nor = Some integers.Nor
 integer_operator opcodes.Xor = Some integers.Xor
-integer_operator opcodes.ShiftLeft = Some integers.ShiftLeft
-integer_operator opcodes.ShiftRight = Some integers.ShiftRight
+integer_operator opcodes.Mod = Some integers.Mod
+-- written by tools/opcodes.py from tables/opcodes.txt: integer_operator: end
 integer_operator _ = None
 
 -- other operators with two operands and a target
 abbrev pub two_operands : Opcode → Option TwoOperands
+-- written by tools/opcodes.py from tables/opcodes.txt: two_operands: begin
 two_operands opcodes.Concat = Some two.Concatenate
 two_operands opcodes.ConcatRes = Some two.ConcatenateResources
 two_operands opcodes.Index = Some two.Index
+-- written by tools/opcodes.py from tables/opcodes.txt: two_operands: end
 two_operands _ = None
 
 -- operators with an operand and a target
 abbrev pub one_operand : Opcode → Option OneOperand
+-- written by tools/opcodes.py from tables/opcodes.txt: one_operand: begin
 one_operand opcodes.Not = Some (one.Integer unary.Not)
 one_operand opcodes.FindSetLeftBit = Some (one.Integer unary.FindSetLeftBit)
 one_operand opcodes.FindSetRightBit = Some (one.Integer unary.FindSetRightBit)
 one_operand opcodes.ToBuffer = Some one.ToBuffer
 one_operand opcodes.ToInteger = Some one.ToInteger
+-- written by tools/opcodes.py from tables/opcodes.txt: one_operand: end
 one_operand _ = None
 
 -- comparisons, and logical operators with two operands
 abbrev pub test_kind : Opcode → Option Test
+-- written by tools/opcodes.py from tables/opcodes.txt: test_kind: begin
 test_kind opcodes.LAnd = Some (tests.Logical logical.And)
 test_kind opcodes.LOr = Some (tests.Logical logical.Or)
 test_kind opcodes.LEqual = Some (tests.Compare comparisons.Equal)
 test_kind opcodes.LGreater = Some (tests.Compare comparisons.Greater)
 test_kind opcodes.LLess = Some (tests.Compare comparisons.Less)
+-- written by tools/opcodes.py from tables/opcodes.txt: test_kind: end
 test_kind _ = None
 
 -- the other terms that have a value
 abbrev pub other_operator : Opcode → Option OperatorKind
+-- written by tools/opcodes.py from tables/opcodes.txt: other_operator: begin
 other_operator opcodes.Store = Some operators.Store
-other_operator opcodes.CopyObject = Some operators.CopyObject
+other_operator opcodes.RefOf = Some operators.RefOf
+other_operator opcodes.Increment = Some (operators.Count counts.Increment)
+other_operator opcodes.Decrement = Some (operators.Count counts.Decrement)
 other_operator opcodes.Divide = Some operators.Divide
-other_operator opcodes.LNot = Some operators.LogicalNot
-other_operator opcodes.Increment = Some (operators.Count counts.Up)
-other_operator opcodes.Decrement = Some (operators.Count counts.Down)
+other_operator opcodes.DerefOf = Some operators.DerefOf
 other_operator opcodes.SizeOf = Some operators.SizeOf
 other_operator opcodes.ObjectType = Some operators.ObjectType
-other_operator opcodes.Acquire = Some operators.Acquire
-other_operator opcodes.RefOf = Some operators.RefOf
+other_operator opcodes.LNot = Some operators.LNot
+other_operator opcodes.CopyObject = Some operators.CopyObject
 other_operator opcodes.CondRefOf = Some operators.CondRefOf
-other_operator opcodes.DerefOf = Some operators.DerefOf
+other_operator opcodes.Acquire = Some operators.Acquire
+-- written by tools/opcodes.py from tables/opcodes.txt: other_operator: end
 other_operator _ = None
 
 -- terms of the wide profile
 abbrev pub wide_kind : Opcode → Option WideKind
+-- written by tools/opcodes.py from tables/opcodes.txt: wide_kind: begin
+wide_kind opcodes.Match = Some wide.Match
 wide_kind opcodes.ToDecimalString = Some (wide.Convert conversions.DecimalString)
 wide_kind opcodes.ToHexString = Some (wide.Convert conversions.HexadecimalString)
-wide_kind opcodes.FromBcd = Some (wide.Convert conversions.FromDecimal)
-wide_kind opcodes.ToBcd = Some (wide.Convert conversions.ToDecimal)
 wide_kind opcodes.ToString = Some wide.ToString
 wide_kind opcodes.Mid = Some wide.Mid
-wide_kind opcodes.Match = Some wide.Match
 wide_kind opcodes.Signal = Some (wide.Event changes.Signal)
-wide_kind opcodes.Reset = Some (wide.Event changes.Reset)
 wide_kind opcodes.Wait = Some wide.Wait
+wide_kind opcodes.Reset = Some (wide.Event changes.Reset)
+wide_kind opcodes.FromBcd = Some (wide.Convert conversions.FromDecimal)
+wide_kind opcodes.ToBcd = Some (wide.Convert conversions.ToDecimal)
 wide_kind opcodes.BankField = Some wide.BankField
+-- written by tools/opcodes.py from tables/opcodes.txt: wide_kind: end
 wide_kind _ = None
 
 -- the kind of a term: one of those above, or it is not evaluated

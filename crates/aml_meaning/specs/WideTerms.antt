@@ -6,21 +6,21 @@ use Rattle.aml_path.specs.declared.segment.Seg.{Seg}
 use Rattle.aml_grammar.specs.declared.opcode.Opcode.{Opcode}
 use Rattle.aml_grammar.specs.Tree.{Tree}
 use Rattle.aml_objects.specs.declared.value.Value.{Value}
+use Rattle.aml_world.specs.declared.values.operation_kind.Conversion.{Conversion}
+use Rattle.aml_world.specs.declared.values.operation_kind.EventChange.{EventChange}
+use Rattle.aml_world.specs.state.Run.{Run, lift}
+use Rattle.aml_world.specs.state.Profiles.{asked_for}
+use Rattle.aml_world.specs.values.WideOperations.{converted, string_in, middle_in}
+use Rattle.aml_world.specs.values.FormedStores.{formed_to}
+use Rattle.aml_world.specs.state.Events.{event_named, event_changed, waited}
 use Rattle.aml_meaning.specs.declared.flow.Flow.{Flow}
 use Rattle.aml_meaning.specs.declared.flow.Flow.TheVariants as flow
 use Rattle.aml_meaning.specs.declared.term_kind.WideKind.{WideKind}
 use Rattle.aml_meaning.specs.declared.term_kind.WideKind.TheVariants as kinds
-use Rattle.aml_meaning.specs.declared.term_kind.Conversion.{Conversion}
-use Rattle.aml_meaning.specs.declared.term_kind.EventChange.{EventChange}
-use Rattle.aml_meaning.specs.Run.{Run, lift}
-use Rattle.aml_meaning.specs.Profiles.{asked_for}
 use Rattle.aml_meaning.specs.Tasks.{Task, value_at, two_values}
 use Rattle.aml_meaning.specs.TargetTerms.{target_at, targeted}
 use Rattle.aml_meaning.specs.FieldCalls.{completed}
-use Rattle.aml_meaning.specs.WideOperations.{converted, string_in, middle_in}
-use Rattle.aml_meaning.specs.FormedStores.{formed_to}
 use Rattle.aml_meaning.specs.MatchTerms.{match_rule}
-use Rattle.aml_meaning.specs.Events.{event_named, event_changed, waited}
 use Rattle.aml_meaning.specs.BankTerms.{bank_list_rule}
 
 abbrev pub in_wide : {S : Type 0} → Opcode → Run S Flow → Run S Flow

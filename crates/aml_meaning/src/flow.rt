@@ -1,10 +1,10 @@
 //! What a term that was evaluated leaves.
 ghost use Rattle.std.specs.Prelude.{◌≡◌};
 ghost use Rattle.ar_space.specs.Outcome.{AnswersInPlace};
-ghost use Rattle.aml_meaning.specs.Readings.{value_in};
+ghost use Rattle.aml_meaning.specs.Tasks.{value_in};
 ghost use Rattle.aml_meaning.specs.Tasks.{goes_on};
 ghost use Rattle.aml_meaning.specs.StatementTerms.{loop_end};
-ghost use Rattle.aml_meaning.specs.Invocations.{returned_by};
+ghost use Rattle.aml_meaning.specs.Calls.{returned_by};
 
 use aml_objects::Value;
 use ar_space::{EvaluationFault, Refusal, Result};

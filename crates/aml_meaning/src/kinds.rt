@@ -6,14 +6,14 @@ ghost use Rattle.aml_meaning.specs.Terms.{wide_kind, kind_of, declaration_or, re
 ghost use Rattle.aml_meaning.specs.Terms.{integers_or, two_or, one_or, test_or, other_or, wide_or, slot_target};
 ghost use Rattle.aml_meaning.specs.Terms.{target_kind_of, target_kind};
 
-use crate::store_target::TargetKind;
 use crate::term_kind::{
-    BufferFieldSize, Conversion, Count, DataKind, DeclarationKind, EventChange, OneOperand,
-    OperatorKind, RegionKind, StatementKind, TermKind, Test, TwoOperands, WideKind,
+    DataKind, DeclarationKind, OperatorKind, RegionKind, StatementKind, TargetKind, TermKind,
+    WideKind,
 };
 use aml_convert::{BinaryOperator, Comparison, LogicalOperator, UnaryOperator};
 use aml_grammar::{Opcode, TermCode};
 use aml_objects::Slot;
+use aml_world::{BufferFieldSize, Conversion, Count, EventChange, OneOperand, Test, TwoOperands};
 
 /// Data.
 #[inline(always)]
@@ -21,17 +21,20 @@ fn data_kind(opcode: Opcode) -> Option<DataKind>
     ensures { result ≡ data_kind opcode }
 {
     match opcode {
+        // written by tools/opcodes.py from tables/opcodes.txt: data_kind: begin
         Opcode::Zero => Some(DataKind::Constant(0)),
         Opcode::One => Some(DataKind::Constant(1)),
-        Opcode::Ones => Some(DataKind::Constant(u64::MAX)),
-        Opcode::Revision => Some(DataKind::Constant(2)),
-        Opcode::BytePrefix | Opcode::WordPrefix | Opcode::DWordPrefix | Opcode::QWordPrefix => Some(
-            DataKind::Integer,
-        ),
+        Opcode::BytePrefix => Some(DataKind::Integer),
+        Opcode::WordPrefix => Some(DataKind::Integer),
+        Opcode::DWordPrefix => Some(DataKind::Integer),
         Opcode::StringPrefix => Some(DataKind::String),
+        Opcode::QWordPrefix => Some(DataKind::Integer),
         Opcode::Buffer => Some(DataKind::Buffer),
         Opcode::Package => Some(DataKind::Package),
         Opcode::VarPackage => Some(DataKind::VarPackage),
+        Opcode::Ones => Some(DataKind::Constant(u64::MAX)),
+        Opcode::Revision => Some(DataKind::Constant(2)),
+        // written by tools/opcodes.py from tables/opcodes.txt: data_kind: end
         _ => None,
     }
 }
@@ -42,17 +45,19 @@ fn declaration_kind(opcode: Opcode) -> Option<DeclarationKind>
     ensures { result ≡ declaration_kind opcode }
 {
     match opcode {
+        // written by tools/opcodes.py from tables/opcodes.txt: declaration_kind: begin
+        Opcode::Alias => Some(DeclarationKind::Alias),
+        Opcode::Name => Some(DeclarationKind::Name),
         Opcode::Scope => Some(DeclarationKind::Scope),
+        Opcode::Method => Some(DeclarationKind::Method),
+        Opcode::External => Some(DeclarationKind::External),
+        Opcode::Mutex => Some(DeclarationKind::Mutex),
+        Opcode::Event => Some(DeclarationKind::Event),
         Opcode::Device => Some(DeclarationKind::Device),
         Opcode::Processor => Some(DeclarationKind::Processor),
         Opcode::PowerRes => Some(DeclarationKind::PowerResource),
         Opcode::ThermalZone => Some(DeclarationKind::ThermalZone),
-        Opcode::Name => Some(DeclarationKind::Name),
-        Opcode::Alias => Some(DeclarationKind::Alias),
-        Opcode::External => Some(DeclarationKind::External),
-        Opcode::Method => Some(DeclarationKind::Method),
-        Opcode::Mutex => Some(DeclarationKind::Mutex),
-        Opcode::Event => Some(DeclarationKind::Event),
+        // written by tools/opcodes.py from tables/opcodes.txt: declaration_kind: end
         _ => None,
     }
 }
@@ -63,15 +68,17 @@ fn region_kind(opcode: Opcode) -> Option<RegionKind>
     ensures { result ≡ region_kind opcode }
 {
     match opcode {
+        // written by tools/opcodes.py from tables/opcodes.txt: region_kind: begin
+        Opcode::CreateDWordField => Some(RegionKind::SizedBufferField(BufferFieldSize::DWord)),
+        Opcode::CreateWordField => Some(RegionKind::SizedBufferField(BufferFieldSize::Word)),
+        Opcode::CreateByteField => Some(RegionKind::SizedBufferField(BufferFieldSize::Byte)),
+        Opcode::CreateBitField => Some(RegionKind::SizedBufferField(BufferFieldSize::Bit)),
+        Opcode::CreateQWordField => Some(RegionKind::SizedBufferField(BufferFieldSize::QWord)),
+        Opcode::CreateField => Some(RegionKind::BufferField),
         Opcode::OpRegion => Some(RegionKind::OperationRegion),
         Opcode::Field => Some(RegionKind::Field),
         Opcode::IndexField => Some(RegionKind::IndexField),
-        Opcode::CreateBitField => Some(RegionKind::SizedBufferField(BufferFieldSize::Bit)),
-        Opcode::CreateByteField => Some(RegionKind::SizedBufferField(BufferFieldSize::Byte)),
-        Opcode::CreateWordField => Some(RegionKind::SizedBufferField(BufferFieldSize::Word)),
-        Opcode::CreateDWordField => Some(RegionKind::SizedBufferField(BufferFieldSize::DWord)),
-        Opcode::CreateQWordField => Some(RegionKind::SizedBufferField(BufferFieldSize::QWord)),
-        Opcode::CreateField => Some(RegionKind::BufferField),
+        // written by tools/opcodes.py from tables/opcodes.txt: region_kind: end
         _ => None,
     }
 }
@@ -82,17 +89,21 @@ fn statement_kind(opcode: Opcode) -> Option<StatementKind>
     ensures { result ≡ statement_kind opcode }
 {
     match opcode {
+        // written by tools/opcodes.py from tables/opcodes.txt: statement_kind: begin
+        Opcode::Notify => Some(StatementKind::Notify),
+        Opcode::Continue => Some(StatementKind::Continue),
         Opcode::If => Some(StatementKind::If),
         Opcode::Else => Some(StatementKind::Else),
         Opcode::While => Some(StatementKind::While),
-        Opcode::Break => Some(StatementKind::Break),
-        Opcode::Continue => Some(StatementKind::Continue),
-        Opcode::Noop | Opcode::BreakPoint => Some(StatementKind::Noop),
+        Opcode::Noop => Some(StatementKind::Noop),
         Opcode::Return => Some(StatementKind::Return),
+        Opcode::Break => Some(StatementKind::Break),
+        Opcode::BreakPoint => Some(StatementKind::Noop),
+        Opcode::Stall => Some(StatementKind::Pause),
+        Opcode::Sleep => Some(StatementKind::Pause),
         Opcode::Release => Some(StatementKind::Release),
-        Opcode::Notify => Some(StatementKind::Notify),
-        Opcode::Stall | Opcode::Sleep => Some(StatementKind::Pause),
         Opcode::Fatal => Some(StatementKind::Fatal),
+        // written by tools/opcodes.py from tables/opcodes.txt: statement_kind: end
         _ => None,
     }
 }
@@ -103,6 +114,7 @@ fn slot_kind(opcode: Opcode) -> Option<Slot>
     ensures { result ≡ slot_kind opcode }
 {
     match opcode {
+        // written by tools/opcodes.py from tables/opcodes.txt: slot_kind: begin
         Opcode::Local0 => Some(Slot::Local(0)),
         Opcode::Local1 => Some(Slot::Local(1)),
         Opcode::Local2 => Some(Slot::Local(2)),
@@ -118,6 +130,7 @@ fn slot_kind(opcode: Opcode) -> Option<Slot>
         Opcode::Arg4 => Some(Slot::Argument(4)),
         Opcode::Arg5 => Some(Slot::Argument(5)),
         Opcode::Arg6 => Some(Slot::Argument(6)),
+        // written by tools/opcodes.py from tables/opcodes.txt: slot_kind: end
         _ => None,
     }
 }
@@ -128,17 +141,19 @@ fn integer_operator(opcode: Opcode) -> Option<BinaryOperator>
     ensures { result ≡ integer_operator opcode }
 {
     match opcode {
+        // written by tools/opcodes.py from tables/opcodes.txt: integer_operator: begin
         Opcode::Add => Some(BinaryOperator::Add),
         Opcode::Subtract => Some(BinaryOperator::Subtract),
         Opcode::Multiply => Some(BinaryOperator::Multiply),
-        Opcode::Mod => Some(BinaryOperator::Mod),
+        Opcode::ShiftLeft => Some(BinaryOperator::ShiftLeft),
+        Opcode::ShiftRight => Some(BinaryOperator::ShiftRight),
         Opcode::And => Some(BinaryOperator::And),
         Opcode::Nand => Some(BinaryOperator::Nand),
         Opcode::Or => Some(BinaryOperator::Or),
         Opcode::Nor => Some(BinaryOperator::Nor),
         Opcode::Xor => Some(BinaryOperator::Xor),
-        Opcode::ShiftLeft => Some(BinaryOperator::ShiftLeft),
-        Opcode::ShiftRight => Some(BinaryOperator::ShiftRight),
+        Opcode::Mod => Some(BinaryOperator::Mod),
+        // written by tools/opcodes.py from tables/opcodes.txt: integer_operator: end
         _ => None,
     }
 }
@@ -149,9 +164,11 @@ fn two_operands(opcode: Opcode) -> Option<TwoOperands>
     ensures { result ≡ two_operands opcode }
 {
     match opcode {
+        // written by tools/opcodes.py from tables/opcodes.txt: two_operands: begin
         Opcode::Concat => Some(TwoOperands::Concatenate),
         Opcode::ConcatRes => Some(TwoOperands::ConcatenateResources),
         Opcode::Index => Some(TwoOperands::Index),
+        // written by tools/opcodes.py from tables/opcodes.txt: two_operands: end
         _ => None,
     }
 }
@@ -162,11 +179,13 @@ fn one_operand(opcode: Opcode) -> Option<OneOperand>
     ensures { result ≡ one_operand opcode }
 {
     match opcode {
+        // written by tools/opcodes.py from tables/opcodes.txt: one_operand: begin
         Opcode::Not => Some(OneOperand::Integer(UnaryOperator::Not)),
         Opcode::FindSetLeftBit => Some(OneOperand::Integer(UnaryOperator::FindSetLeftBit)),
         Opcode::FindSetRightBit => Some(OneOperand::Integer(UnaryOperator::FindSetRightBit)),
         Opcode::ToBuffer => Some(OneOperand::ToBuffer),
         Opcode::ToInteger => Some(OneOperand::ToInteger),
+        // written by tools/opcodes.py from tables/opcodes.txt: one_operand: end
         _ => None,
     }
 }
@@ -177,11 +196,13 @@ fn test_kind(opcode: Opcode) -> Option<Test>
     ensures { result ≡ test_kind opcode }
 {
     match opcode {
+        // written by tools/opcodes.py from tables/opcodes.txt: test_kind: begin
         Opcode::LAnd => Some(Test::Logical(LogicalOperator::And)),
         Opcode::LOr => Some(Test::Logical(LogicalOperator::Or)),
         Opcode::LEqual => Some(Test::Compare(Comparison::Equal)),
         Opcode::LGreater => Some(Test::Compare(Comparison::Greater)),
         Opcode::LLess => Some(Test::Compare(Comparison::Less)),
+        // written by tools/opcodes.py from tables/opcodes.txt: test_kind: end
         _ => None,
     }
 }
@@ -192,18 +213,20 @@ fn other_operator(opcode: Opcode) -> Option<OperatorKind>
     ensures { result ≡ other_operator opcode }
 {
     match opcode {
+        // written by tools/opcodes.py from tables/opcodes.txt: other_operator: begin
         Opcode::Store => Some(OperatorKind::Store),
-        Opcode::CopyObject => Some(OperatorKind::CopyObject),
+        Opcode::RefOf => Some(OperatorKind::RefOf),
+        Opcode::Increment => Some(OperatorKind::Count(Count::Increment)),
+        Opcode::Decrement => Some(OperatorKind::Count(Count::Decrement)),
         Opcode::Divide => Some(OperatorKind::Divide),
-        Opcode::LNot => Some(OperatorKind::LogicalNot),
-        Opcode::Increment => Some(OperatorKind::Count(Count::Up)),
-        Opcode::Decrement => Some(OperatorKind::Count(Count::Down)),
+        Opcode::DerefOf => Some(OperatorKind::DerefOf),
         Opcode::SizeOf => Some(OperatorKind::SizeOf),
         Opcode::ObjectType => Some(OperatorKind::ObjectType),
-        Opcode::Acquire => Some(OperatorKind::Acquire),
-        Opcode::RefOf => Some(OperatorKind::RefOf),
+        Opcode::LNot => Some(OperatorKind::LNot),
+        Opcode::CopyObject => Some(OperatorKind::CopyObject),
         Opcode::CondRefOf => Some(OperatorKind::CondRefOf),
-        Opcode::DerefOf => Some(OperatorKind::DerefOf),
+        Opcode::Acquire => Some(OperatorKind::Acquire),
+        // written by tools/opcodes.py from tables/opcodes.txt: other_operator: end
         _ => None,
     }
 }
@@ -214,17 +237,19 @@ fn wide_kind(opcode: Opcode) -> Option<WideKind>
     ensures { result ≡ wide_kind opcode }
 {
     match opcode {
+        // written by tools/opcodes.py from tables/opcodes.txt: wide_kind: begin
+        Opcode::Match => Some(WideKind::Match),
         Opcode::ToDecimalString => Some(WideKind::Convert(Conversion::DecimalString)),
         Opcode::ToHexString => Some(WideKind::Convert(Conversion::HexadecimalString)),
-        Opcode::FromBcd => Some(WideKind::Convert(Conversion::FromDecimal)),
-        Opcode::ToBcd => Some(WideKind::Convert(Conversion::ToDecimal)),
         Opcode::ToString => Some(WideKind::ToString),
         Opcode::Mid => Some(WideKind::Mid),
-        Opcode::Match => Some(WideKind::Match),
         Opcode::Signal => Some(WideKind::Event(EventChange::Signal)),
-        Opcode::Reset => Some(WideKind::Event(EventChange::Reset)),
         Opcode::Wait => Some(WideKind::Wait),
+        Opcode::Reset => Some(WideKind::Event(EventChange::Reset)),
+        Opcode::FromBcd => Some(WideKind::Convert(Conversion::FromDecimal)),
+        Opcode::ToBcd => Some(WideKind::Convert(Conversion::ToDecimal)),
         Opcode::BankField => Some(WideKind::BankField),
+        // written by tools/opcodes.py from tables/opcodes.txt: wide_kind: end
         _ => None,
     }
 }

@@ -4,9 +4,9 @@ ghost use Rattle.ar_space.specs.declared.refusal.Refusal.TheVariants.{Evaluation
 ghost use Rattle.ar_space.specs.declared.refusal.EvaluationFault.TheVariants.{OutOfSteps};
 ghost use Rattle.ar_space.specs.Change.{Does};
 ghost use Rattle.ar_space.specs.Outcome.{NotMemory};
-ghost use Rattle.aml_meaning.specs.Run.{charge};
+ghost use Rattle.aml_world.specs.state.Run.{charge};
 
-use crate::world_state::WorldState;
+use aml_world::WorldState;
 use ar_space::{EvaluationFault, Refusal, Result};
 use std::marker::Model;
 
@@ -25,7 +25,7 @@ pub struct Running<S> {
 impl<S> Model for Running<S> {
     ghost use Rattle.std.specs.Prelude.{ℕ};
     ghost use Rattle.std.specs.Coded.{coded×, coded_ℕ};
-    ghost use Rattle.aml_meaning.specs.State.{State, state_code};
+    ghost use Rattle.aml_world.specs.state.State.{State, state_code};
 
     ghost Value = { State S × ℕ };
 
@@ -36,7 +36,7 @@ impl<S> Model for Running<S> {
 
 impl<S> Running<S> {
     /// One step, which each term takes when it begins; refused as `OutOfSteps` where none is left.
-    #[tactic(auto, unfolding(crate::specs::Run::charge))]
+    #[tactic(auto, unfolding(aml_world::specs::state::Run::charge))]
     pub fn charge(&mut self) -> Result<()>
         ensures does { Does result self.new charge self.old }
         ensures spent { self.new.1 ≤ self.old.1 }

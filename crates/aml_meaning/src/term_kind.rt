@@ -1,7 +1,7 @@
 //! Which rule a term is evaluated by.
 
-use aml_convert::{BinaryOperator, Comparison, LogicalOperator, UnaryOperator};
 use aml_objects::Slot;
+use aml_world::{BufferFieldSize, Conversion, Count, EventChange, OneOperand, Test, TwoOperands};
 
 /// Which rule a term is evaluated by.
 #[derive(Clone, Copy, Debug, PartialEq, Eq)]
@@ -58,16 +58,6 @@ pub enum RegionKind {
     BufferField,
 }
 
-/// How many bits a buffer field has whose term says it.
-#[derive(Clone, Copy, Debug, PartialEq, Eq)]
-pub enum BufferFieldSize {
-    Bit,
-    Byte,
-    Word,
-    DWord,
-    QWord,
-}
-
 /// A term that has a value.
 #[derive(Clone, Copy, Debug, PartialEq, Eq)]
 pub enum OperatorKind {
@@ -82,7 +72,7 @@ pub enum OperatorKind {
     One(OneOperand),
     /// Two operands, and no target.
     Test(Test),
-    LogicalNot,
+    LNot,
     /// Increment and Decrement.
     Count(Count),
     SizeOf,
@@ -91,37 +81,6 @@ pub enum OperatorKind {
     RefOf,
     CondRefOf,
     DerefOf,
-}
-
-/// A term with two operands and a target.
-#[derive(Clone, Copy, Debug, PartialEq, Eq)]
-pub enum TwoOperands {
-    Integers(BinaryOperator),
-    Concatenate,
-    ConcatenateResources,
-    Index,
-}
-
-/// A term with an operand and a target.
-#[derive(Clone, Copy, Debug, PartialEq, Eq)]
-pub enum OneOperand {
-    Integer(UnaryOperator),
-    ToBuffer,
-    ToInteger,
-}
-
-/// A term with two operands, whose value is True or False.
-#[derive(Clone, Copy, Debug, PartialEq, Eq)]
-pub enum Test {
-    Logical(LogicalOperator),
-    Compare(Comparison),
-}
-
-/// Which way a term counts.
-#[derive(Clone, Copy, Debug, PartialEq, Eq)]
-pub enum Count {
-    Up,
-    Down,
 }
 
 /// A term without a value.
@@ -160,22 +119,13 @@ pub enum WideKind {
     BankField,
 }
 
-/// ToDecimalString, ToHexString, FromBCD and ToBCD.
+/// How a term names a target: it is Debug, a local or an argument, or it refers to one. No other term stands there.
 #[derive(Clone, Copy, Debug, PartialEq, Eq)]
-pub enum Conversion {
-    DecimalString,
-    HexadecimalString,
-    /// FromBCD.
-    FromDecimal,
-    /// ToBCD.
-    ToDecimal,
-}
-
-/// What a term does to the signals of an event that no Wait has taken.
-#[derive(Clone, Copy, Debug, PartialEq, Eq)]
-pub enum EventChange {
-    /// Signal: they are one more.
-    Signal,
-    /// Reset: none is left.
-    Reset,
+pub enum TargetKind {
+    Nowhere,
+    Slot(Slot),
+    RefOf,
+    DerefOf,
+    Index,
+    Other,
 }

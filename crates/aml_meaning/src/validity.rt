@@ -1,10 +1,9 @@
 //! Which values are a world's own.
-ghost use Rattle.std.specs.Prelude.{◌≡◌, nat_lt, length};
-ghost use Rattle.aml_meaning.specs.Validity.{is_object, is_valid_reference, is_valid_value};
+ghost use Rattle.std.specs.Prelude.{◌≡◌};
+ghost use Rattle.aml_world.specs.state.Validity.{is_valid_value};
 
 use crate::world::World;
-use crate::world_state::WorldState;
-use aml_objects::{Reference, Value};
+use aml_objects::Value;
 
 impl<S> World<S> {
     /// Whether a value is one of this world: each object, declaration and frame that it names was given its number by
@@ -13,33 +12,6 @@ impl<S> World<S> {
     pub fn is_valid(&self, value: &Value) -> bool
         ensures { result ≡ is_valid_value self.now value.now }
     {
-        let state = &self.running.world;
-        match *value {
-            Value::Uninitialized => true,
-            Value::Integer(_) => true,
-            Value::String(object) => state.has_object(object),
-            Value::Buffer(object) => state.has_object(object),
-            Value::Package(object) => state.has_object(object),
-            Value::Reference(reference) => state.is_valid_reference(reference),
-        }
-    }
-}
-
-impl<S> WorldState<S> {
-    fn is_valid_reference(&self, reference: Reference) -> bool
-        ensures { result ≡ is_valid_reference self.now reference }
-    {
-        match reference {
-            Reference::Name(number) => self.names().was_given(number),
-            Reference::Slot(_, number) => number < self.started,
-            Reference::Element(object, _) => self.has_object(object),
-            Reference::Byte(object, _) => self.has_object(object),
-        }
-    }
-
-    fn has_object(&self, object: u32) -> bool
-        ensures { result ≡ is_object self.now object }
-    {
-        (object as usize) < self.heap.len()
+        self.running.world.is_valid(value)
     }
 }

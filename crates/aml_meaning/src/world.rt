@@ -1,25 +1,21 @@
 //! A world, as callers have it (ACPI 6.5, 5.3 and 5.5).
 ghost use Rattle.std.specs.Prelude.{◌≡◌, ◌≢◌, Ok, Err, IfOk, IfErr};
 ghost use Rattle.ar_space.specs.declared.refusal.Refusal.TheVariants.{OutOfMemory};
-ghost use Rattle.aml_meaning.specs.Predefined.{fresh, fresh_as, predefined};
+ghost use Rattle.aml_world.specs.state.Predefined.{fresh, fresh_as, predefined};
 
-use crate::passed_over::PassedOver;
-use crate::profile::Profile;
 use crate::running::Running;
-use crate::settings::{EvaluationSettings, Nesting};
-use crate::trace::Trace;
-use crate::world_state::WorldState;
 use aml_namespace::Names;
 use aml_objects::Octets;
+use aml_world::{EvaluationSettings, Profile, WorldState};
 use ar_space::{IntegerWidth, Refusal, Result};
 use std::alloc::Global;
 use std::marker::Model;
 
 /// A world: the namespace with its objects, and the register space under it, which evaluation changes.
 ///
-/// Tables are loaded into it, and its objects are evaluated, by the calls of `aml_interp`. What changes it without
-/// evaluating are calls of its state, `world.running.world`, and of the parts of that: its objects (`heap`) and its
-/// register space (`space`).
+/// Tables are loaded into it, and its objects are evaluated, by the calls of `aml_interp`. What else
+/// changes or shows it without evaluating are calls of its state, `world.running.world`, and of the parts of that: its
+/// objects (`heap`) and its register space (`space`).
 #[derive(Drop)]
 pub struct World<S> {
     /// The world's state, and the steps of the evaluation in progress.
@@ -27,7 +23,7 @@ pub struct World<S> {
 }
 
 impl<S> Model for World<S> {
-    ghost use Rattle.aml_meaning.specs.State.{State, state_code};
+    ghost use Rattle.aml_world.specs.state.State.{State, state_code};
 
     ghost Value = { State S };
 
@@ -88,21 +84,6 @@ impl<S> World<S> {
         self.running.world.space
     }
 
-    /// The register space, given back, where the evaluation that was last begun was refused, and what was passed over.
-    pub fn into_parts(self) -> (S, Trace, PassedOver)
-        ensures space { result.0 ≡ self.space }
-        ensures passed { result.2 ≡ self.passed }
-    {
-        let world = self.running.world;
-        (world.space, world.trace, world.passed)
-    }
-
-    /// Where the evaluation that was last begun was refused. That this is the place is tested, and no contract says it;
-    /// reading it changes nothing.
-    pub fn trace(&self) -> &Trace {
-        &self.running.world.trace
-    }
-
     /// Other texts that `_OSI` knows, in place of those before (ACPI 6.5, 5.7.2). It takes no memory.
     pub fn set_osi(&mut self, osi: Vec<Octets>)
         ensures { self.new ≡ record self.old { osi = osi.items } }
@@ -114,35 +95,7 @@ impl<S> World<S> {
     pub fn names(&self) -> &Names
         ensures { result.now ≡ self.now.names }
     {
-        &self.running.world.declarations.names
-    }
-
-    /// How wide integers are.
-    pub fn width(&self) -> IntegerWidth
-        ensures { result ≡ self.now.width }
-    {
-        self.running.world.width
-    }
-
-    /// The profile, which nothing changes.
-    pub fn profile(&self) -> Profile
-        ensures { result ≡ self.now.profile }
-    {
-        self.running.world.profile
-    }
-
-    /// How deep calls and terms may be one inside another, which nothing changes.
-    pub fn nesting(&self) -> Nesting
-        ensures { result ≡ self.now.nesting }
-    {
-        self.running.world.nesting
-    }
-
-    /// The refusals that were passed over in loading and in initializing; none in the core profile.
-    pub fn passed_over(&self) -> &PassedOver
-        ensures { result.now ≡ self.now.passed }
-    {
-        &self.running.world.passed
+        self.running.world.names()
     }
 
     /// The register space.

@@ -6,15 +6,15 @@ use Rattle.ar_space.specs.Outcome.{Outcome}
 use Rattle.ar_space.specs.Change.{settle, go_on, ◌>>=◌}
 use Rattle.aml_grammar.specs.declared.kinds.Row.{Row}
 use Rattle.aml_grammar.specs.declared.opcode.TermCode.TheVariants as codes
-use Rattle.aml_marked.specs.Marked.{a_super_name, a_target}
+use Rattle.aml_marks.specs.Marked.{a_super_name, a_target}
 use Rattle.aml_scan.specs.RowsAt.{row_at}
 use Rattle.aml_scan.specs.declared.row_places.RowPlace.{RowPlace}
-use Rattle.aml_meaning.specs.declared.term_kind.Conversion.{Conversion}
-use Rattle.aml_meaning.specs.declared.term_kind.EventChange.{EventChange}
+use Rattle.aml_world.specs.declared.values.operation_kind.Conversion.{Conversion}
+use Rattle.aml_world.specs.declared.values.operation_kind.EventChange.{EventChange}
+use Rattle.aml_world.specs.state.State.{State}
 use Rattle.aml_meaning.specs.declared.term_kind.TermKind.TheVariants as kinds
 use Rattle.aml_meaning.specs.declared.term_kind.WideKind.{WideKind}
 use Rattle.aml_meaning.specs.declared.term_kind.WideKind.TheVariants as wides
-use Rattle.aml_meaning.specs.State.{State}
 use Rattle.aml_meaning.specs.Meaning.{meaning}
 use Rattle.aml_meaning.specs.Tasks.{value_at}
 use Rattle.aml_meaning.specs.TargetTerms.{targeted}

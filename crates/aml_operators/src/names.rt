@@ -2,24 +2,25 @@
 ghost use Rattle.std.specs.Prelude.{◌+◌, ◌*◌, false, IfSome};
 ghost use Rattle.ar_space.specs.Change.{Does};
 ghost use Rattle.aml_grammar.specs.Shape.{trees_of};
-ghost use Rattle.aml_marked.specs.Marked.{a_name, turns_of};
+ghost use Rattle.aml_marks.specs.Marked.{a_name, turns_of};
+ghost use Rattle.aml_world.specs.state.Invocations.{invocation_found};
 ghost use Rattle.aml_meaning.specs.Meaning.{meaning};
-ghost use Rattle.aml_meaning.specs.Invocations.{invocation_found};
 ghost use Rattle.aml_meaning.specs.InvocationTerms.{invocation_rule};
 ghost use Rattle.aml_frames.specs.Places.{at_place, terms};
-ghost use Rattle.aml_frames.specs.ShortNames.{FindsAt};
+ghost use Rattle.aml_frames.specs.at_once.ShortNames.{FindsAt};
 ghost use Rattle.aml_frames.specs.Follow.{name_run, behind_name_at};
 ghost use Rattle.aml_frames.specs.Weights.{most};
 ghost use Rattle.aml_frames.specs.Steps.{Steps};
 
 use aml_accesses::{begin_call, begin_read};
 use aml_frames::{Activation, Call, Callee, Next, Reading, node_at, told_here};
-use aml_meaning::{Flow, Invocation, Running, WorldState};
+use aml_meaning::{Flow, Running};
 use aml_objects::NodeId;
+use aml_world::{Invocation, WorldState};
 use ar_space::{Result, Space};
 
 /// Begins a name that stands for a value: finds what it names, and uses it with the arguments behind it.
-#[tactic(auto, using(aml_frames::proofs::Using::using_targets), unfolding(aml_frames::specs::Follow::name_run, aml_marked::specs::Marked::a_name))]
+#[tactic(auto, using(aml_frames::proofs::Using::using_targets), unfolding(aml_frames::specs::Follow::name_run, aml_marks::specs::Marked::a_name))]
 pub fn begin_name<S: Space>(run: &mut Running<S>, act: &mut Activation, levels: u8) -> Result<Next>
     ensures { Steps S.accesses (3 * most + 100) result act.new run.new
         (name_run S.accesses (meaning S.accesses) act.old levels, behind_name_at act.old levels) run.old }

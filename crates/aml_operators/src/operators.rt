@@ -4,7 +4,7 @@ ghost use Rattle.std.specs.Prelude.{◌≡◌, ◌<◌, ◌+◌, ◌*◌, IfErr}
 ghost use Rattle.ar_space.specs.declared.refusal.Refusal.TheVariants.{OutOfMemory};
 ghost use Rattle.ar_space.specs.Outcome.{NotMemory};
 ghost use Rattle.aml_objects.specs.declared.value.Value.{Value as AnyValue};
-ghost use Rattle.aml_meaning.specs.declared.store_target.Held.TheVariants as helds;
+ghost use Rattle.aml_world.specs.declared.values.store_target.Held.TheVariants as helds;
 ghost use Rattle.aml_meaning.specs.Meaning.{meaning};
 ghost use Rattle.aml_frames.specs.declared.frames.Frame.TheVariants as frames;
 ghost use Rattle.aml_frames.specs.declared.frames.Next.TheVariants as next;
@@ -19,9 +19,10 @@ use aml_frames::{
     Activation, Dyadic, Frame, Inquiry, Monadic, Next, Reading, SecondOperand, Target, TargetUse,
     acquire_at_name, known_integer, leave,
 };
-use aml_meaning::{Flow, Held, OperatorKind, Running, reference_in};
+use aml_meaning::{Flow, OperatorKind, Running};
 use aml_objects::Value;
 use aml_targets::{begin_conditional, begin_inquiry, begin_target};
+use aml_world::{Held, reference_in};
 use ar_space::{Result, Space};
 
 /// Begins an operator. A local or an argument gives its value; any other operator evaluates its first operand, or finds
@@ -49,7 +50,7 @@ pub fn begin_operator<S: Space>(
         OperatorKind::Divide => begin_dyadic(run, act, Dyadic::Divide, levels),
         OperatorKind::One(one) => begin_monadic(run, act, Monadic::One(one), levels),
         OperatorKind::Test(test) => begin_dyadic(run, act, Dyadic::Test(test), levels),
-        OperatorKind::LogicalNot => begin_monadic(run, act, Monadic::LogicalNot, levels),
+        OperatorKind::LNot => begin_monadic(run, act, Monadic::LNot, levels),
         OperatorKind::Count(count) => begin_target(run, act, name, TargetUse::Count(count)),
         OperatorKind::SizeOf => begin_inquiry(run, act, levels, Inquiry::SizeOf),
         OperatorKind::ObjectType => begin_inquiry(run, act, levels, Inquiry::ObjectType),
@@ -244,8 +245,8 @@ fn finish_monadic<S: Space>(
             let result = run.world.convert(conversion, value)?;
             begin_target(run, act, target, TargetUse::Form(result))
         }
-        Monadic::LogicalNot => {
-            let result = run.world.logical_not(value)?;
+        Monadic::LNot => {
+            let result = run.world.lnot(value)?;
             leave(Flow::Value(result))
         }
         Monadic::DerefOf => {

@@ -16,8 +16,9 @@ ghost use Rattle.aml_frames.specs.Steps.{Steps, frame_at};
 
 use aml_accesses::read_access;
 use aml_frames::{Activation, Boxed, Frame, MatchPart, Next, Reading, leave};
-use aml_meaning::{Flow, Held, Running, Search, Searching};
+use aml_meaning::{Flow, Running};
 use aml_objects::{Field, Value};
+use aml_world::{Held, Search, Searching};
 use ar_space::{Result, Space};
 use std::alloc::Global;
 

@@ -7,8 +7,8 @@ ghost use Rattle.aml_frames.specs.Data.{buffer_run};
 ghost use Rattle.aml_frames.specs.Operands.{outside_at};
 ghost use Rattle.aml_frames.specs.Places.{at_place, behind_term};
 ghost use Rattle.aml_frames.specs.Follow.{begun_run, coded_run, behind_coded};
-ghost use Rattle.aml_frames.specs.ShortTerms.{is_made};
-ghost use Rattle.aml_frames.specs.Known.{MadeValue, ShortValue};
+ghost use Rattle.aml_frames.specs.at_once.ShortTerms.{is_made};
+ghost use Rattle.aml_frames.specs.at_once.Known.{MadeValue, ShortValue};
 
 use aml_declarations::{make_buffer, make_text};
 use aml_frames::{Activation, short_integer, slot_value};

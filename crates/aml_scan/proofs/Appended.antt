@@ -1,8 +1,8 @@
 -- Arities in two parts.
 use Rattle.std.proofs.Common.{◌≡◌, List, [], ◌∷◌, ◌++◌, Bool, Option, Some, None, refl}
 use Rattle.aml_path.specs.declared.segment.Seg.{Seg}
-use Rattle.aml_grammar.specs.declared.arities.Arity.{Arity}
-use Rattle.aml_grammar.specs.Arities.{latest, or_else}
+use Rattle.aml_arities.specs.declared.arities.Arity.{Arity}
+use Rattle.aml_arities.specs.Arities.{latest, or_else}
 
 or_else_again : {A : Type 0} (a b c : Option A) → or_else (or_else a b) c ≡ or_else a (or_else b c)
 or_else_again None b c = refl

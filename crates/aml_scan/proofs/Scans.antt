@@ -8,7 +8,7 @@ use Rattle.ar_space.specs.Outcome.{Outcome, Answers, NotMemory, seen}
 use Rattle.ar_space.specs.Change.{Does, give, stop, settle, go_on, ◌>>=◌}
 use Rattle.ar_space.proofs.Changes.{does_memory, does_seen_memory}
 use Rattle.aml_path.specs.declared.segment.Seg.{Seg}
-use Rattle.aml_grammar.specs.declared.arities.Arity.{Arity}
+use Rattle.aml_arities.specs.declared.arities.Arity.{Arity}
 use Rattle.aml_grammar.specs.declared.marks.Mark.{Mark}
 use Rattle.aml_grammar.specs.declared.context.Context.{Context}
 use Rattle.aml_grammar.specs.declared.context.Earlier.{Earlier}

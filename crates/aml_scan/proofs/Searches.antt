@@ -2,8 +2,8 @@
 use Rattle.std.specs.Prelude.{◌≡◌, ◌≤◌, ℕ, zero, suc, List, ◌++◌, length, take, Bool, true, false, ◌||◌, Option, Some, None, option_map, is_some, if◌then◌else◌}
 use Rattle.std.proofs.Common.{ap, ◌∙◌, refl, arith}
 use Rattle.aml_path.specs.declared.segment.Seg.{Seg}
-use Rattle.aml_grammar.specs.declared.arities.Arity.{Arity}
-use Rattle.aml_grammar.specs.Arities.{latest, or_else, arity_at, greatest, is_known_below, search_up}
+use Rattle.aml_arities.specs.declared.arities.Arity.{Arity}
+use Rattle.aml_arities.specs.Arities.{latest, or_else, arity_at, greatest, is_known_below, search_up}
 use Rattle.aml_scan.proofs.Appended.{latest_append}
 
 within_by : (b : Bool) (n k : ℕ) (o : Option ℕ) → ((j : ℕ) → o ≡ Some j → j ≤ n) → (if b then Some (suc n) else o) ≡ Some k → k ≤ suc n

@@ -1,7 +1,7 @@
 -- Reading that makes no trees: the steps of the grammar with their values left out.
 use Rattle.std.specs.Prelude.{List, Bool, Ok, Err, not, ◌&&◌}
 use Rattle.ar_space.specs.Outcome.{Outcome, seen}
-use Rattle.aml_grammar.specs.declared.arities.Arity.{Arity}
+use Rattle.aml_arities.specs.declared.arities.Arity.{Arity}
 use Rattle.aml_grammar.specs.declared.marks.Mark.{Mark}
 use Rattle.aml_grammar.specs.declared.kinds.Row.{Row}
 use Rattle.aml_grammar.specs.State.{State, Step}

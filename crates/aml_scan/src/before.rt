@@ -8,7 +8,7 @@ use std::marker::Brand;
 /// declares can be moved behind it without a copy of what stood before.
 pub(crate) trait Before {
     ghost use Rattle.std.specs.Prelude.{List};
-    ghost use Rattle.aml_grammar.specs.declared.arities.Arity.{Arity};
+    ghost use Rattle.aml_arities.specs.declared.arities.Arity.{Arity};
 
     /// The counts, the latest last.
     ghost before: { List Arity };

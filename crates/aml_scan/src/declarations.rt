@@ -1,11 +1,11 @@
 //! The arities that hold while a list is read.
 ghost use Rattle.std.specs.Prelude.{◌≡◌, ◌≤◌, ◌++◌, ◌∷◌, [], Ok, OnOk, length};
 ghost use Rattle.ar_space.specs.Outcome.{Answers};
-ghost use Rattle.aml_grammar.specs.Arities.{latest, arity_at, known, greatest, is_known_below, search_up, found};
-ghost use Rattle.aml_grammar.specs.Arities.{arity_of, or_path};
+ghost use Rattle.aml_arities.specs.Arities.{latest, arity_at, known, greatest, is_known_below, search_up, found};
+ghost use Rattle.aml_arities.specs.Arities.{arity_of, or_path};
 
 use crate::before::Before;
-use aml_grammar::{ArgumentCounts, Arities, deeper};
+use aml_arities::{ArgumentCounts, Arities, deeper};
 use aml_path::{NameString, Path, Seg};
 use ar_space::Result;
 use std::alloc::Global;
@@ -21,7 +21,7 @@ pub(crate) struct Declarations<'a, C: ArgumentCounts, B: Before> {
 
 impl<'a, C: ArgumentCounts, B: Before> Model for Declarations<'a, C, B> {
     ghost use Rattle.std.specs.Prelude.{◌≡◌, List, ◌++◌};
-    ghost use Rattle.aml_grammar.specs.declared.arities.Arity.{Arity};
+    ghost use Rattle.aml_arities.specs.declared.arities.Arity.{Arity};
 
     ghost Value = { List Arity };
 
@@ -59,7 +59,7 @@ impl<'a, C: ArgumentCounts, B: Before> Declarations<'a, C, B> {
         }
     }
 
-    #[tactic(auto, unfolding(aml_grammar::specs::Arities::arity_at))]
+    #[tactic(auto, unfolding(aml_arities::specs::Arities::arity_at))]
     fn arity_at(&self, path: &Path) -> Option<u8>
         ensures { result ≡ arity_at self.now path.now }
     {
@@ -70,7 +70,8 @@ impl<'a, C: ArgumentCounts, B: Before> Declarations<'a, C, B> {
     }
 
     /// How many arguments a name takes that stands, without a search, for a path: 0 where it isn't found.
-    #[tactic(auto, using(ar_space::proofs::Outcomes::answering), unfolding(aml_grammar::specs::Arities::arity_of, aml_grammar::specs::Arities::found))]
+    #[tactic(auto, using(ar_space::proofs::Outcomes::answering), //
+    unfolding(aml_arities::specs::Arities::arity_of, aml_arities::specs::Arities::found))]
     pub(crate) fn arity_of(
         &self,
         alloc: Global,
@@ -90,7 +91,7 @@ impl<'a, C: ArgumentCounts, B: Before> Declarations<'a, C, B> {
     }
 
     /// The path where a name is found, or else the one that it stands for.
-    #[tactic(auto, using(ar_space::proofs::Outcomes::answering), unfolding(aml_grammar::specs::Arities::found))]
+    #[tactic(auto, using(ar_space::proofs::Outcomes::answering), unfolding(aml_arities::specs::Arities::found))]
     pub(crate) fn found_or(
         &self,
         alloc: Global,

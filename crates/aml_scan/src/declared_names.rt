@@ -7,7 +7,8 @@ ghost use Rattle.aml_scan.specs.Reading.{Reads};
 
 use crate::before::Before;
 use crate::reader::Reader;
-use aml_grammar::{ArgumentCounts, Context, Earlier};
+use aml_arities::ArgumentCounts;
+use aml_grammar::{Context, Earlier};
 use aml_path::{NameString, Path, Prefix, Seg};
 use ar_space::{NameFault, Refusal, Result, TermFault};
 use std::alloc::Global;
@@ -23,7 +24,8 @@ fn begins_outside(name: &NameString) -> bool
 }
 
 /// The path that a declared name stands for.
-#[tactic(auto, using(ar_space::proofs::Outcomes::answering), unfolding(aml_grammar::specs::DeclaredNames::declared_path))]
+#[tactic(auto, using(ar_space::proofs::Outcomes::answering), //
+unfolding(aml_grammar::specs::DeclaredNames::declared_path))]
 pub(crate) fn declared_path(
     alloc: Global,
     scope: &Path,
@@ -40,7 +42,8 @@ pub(crate) fn declared_path(
 }
 
 /// The path of a name that may be declared here: in a body, only of a name without `\` or `^`.
-#[tactic(auto, using(ar_space::proofs::Outcomes::answering), unfolding(aml_grammar::specs::DeclaredNames::allowed_path))]
+#[tactic(auto, using(ar_space::proofs::Outcomes::answering), //
+unfolding(aml_grammar::specs::DeclaredNames::allowed_path))]
 fn allowed_path(
     alloc: Global,
     scope: &Path,

@@ -8,7 +8,8 @@ use crate::before::Before;
 use crate::declared_names::declare_field;
 use crate::names::segment;
 use crate::reader::Reader;
-use aml_grammar::{ArgumentCounts, Context};
+use aml_arities::ArgumentCounts;
+use aml_grammar::Context;
 use aml_path::Path;
 use ar_space::Result;
 

@@ -9,7 +9,8 @@ use crate::before::Before;
 use crate::positions::{TermStart, at_else};
 use crate::reader::Reader;
 use crate::terms::{items, row_operands};
-use aml_grammar::{ArgumentCounts, Context, Position, Row};
+use aml_arities::ArgumentCounts;
+use aml_grammar::{Context, Position, Row};
 use aml_path::Path;
 use ar_space::Result;
 

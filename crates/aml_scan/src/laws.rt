@@ -1,7 +1,7 @@
 //! What is read is spelled so.
 ghost use Rattle.std.specs.Prelude.{◌≡◌, List, Bool, false, ℕ, Ok};
 ghost use Rattle.aml_path.specs.declared.segment.Seg.{Seg};
-ghost use Rattle.aml_grammar.specs.declared.arities.Arity.{Arity};
+ghost use Rattle.aml_arities.specs.declared.arities.Arity.{Arity};
 ghost use Rattle.aml_grammar.specs.Tree.{Tree};
 ghost use Rattle.aml_grammar.specs.Grammar.{table_reading, Reads};
 ghost use Rattle.aml_scan.specs.Spelling.{IsSpelled};

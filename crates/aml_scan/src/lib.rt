@@ -19,7 +19,8 @@ mod skip_names;
 mod table;
 mod terms;
 
-pub use aml_grammar::{ArgumentCounts, Arities, Arity, Mark};
+pub use aml_arities::{ArgumentCounts, Arities, Arity};
+pub use aml_grammar::Mark;
 pub use if_else::ELSE;
 pub use laws::read_as_spelled;
 pub use lists::{Noted, scan, scan_within};

@@ -10,7 +10,7 @@ ghost use Rattle.aml_scan.specs.Reading.{MovesOn, MovesOnInPlace};
 
 use crate::before::Before;
 use crate::reader::Reader;
-use aml_grammar::{ArgumentCounts, Arities};
+use aml_arities::{ArgumentCounts, Arities};
 use aml_path::{NameString, Prefix, Seg, is_lead_name_char, is_name_char};
 use ar_space::{NameFault, Refusal, Result};
 use std::alloc::Global;
@@ -49,7 +49,8 @@ fn name_char<C: ArgumentCounts, B: Before>(reader: &mut Reader<'_, C, B>) -> Res
 }
 
 /// One segment.
-#[tactic(auto, using(crate::proofs::Steps::reading, crate::proofs::Segments::made_plainly), unfolding(aml_grammar::specs::Names::segment))]
+#[tactic(auto, using(crate::proofs::Steps::reading, crate::proofs::Segments::made_plainly), //
+unfolding(aml_grammar::specs::Names::segment))]
 pub(crate) fn segment<C: ArgumentCounts, B: Before>(reader: &mut Reader<'_, C, B>) -> Result<Seg>
     ensures reads { Does result reader.new segment reader.old }
     ensures shorter { OnOk result (length reader.new.rest < length reader.old.rest) }

@@ -14,7 +14,8 @@ use crate::names::name_string;
 use crate::positions::TermStart;
 use crate::reader::Reader;
 use crate::skip_names::skip_name;
-use aml_grammar::{ArgumentCounts, Context, Earlier, OperandKind};
+use aml_arities::ArgumentCounts;
+use aml_grammar::{Context, Earlier, OperandKind};
 use aml_path::Path;
 use ar_space::Result;
 

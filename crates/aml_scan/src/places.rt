@@ -11,7 +11,8 @@ use crate::names::starts_name;
 use crate::reader::Reader;
 use crate::skip_names::skip_name;
 use crate::terms::term;
-use aml_grammar::{ArgumentCounts, Context, Position};
+use aml_arities::ArgumentCounts;
+use aml_grammar::{Context, Position};
 use aml_path::Path;
 use ar_space::{NameFault, Refusal, Result, TermFault};
 
@@ -28,7 +29,8 @@ fn is_slot(byte: u8) -> bool
 
 /// A place that is read or written: a name, a local, an argument, Debug, or a term that gives a reference.
 #[cycle(scan)]
-#[tactic(auto, using(crate::proofs::Scans::scanning), unfolding(aml_grammar::specs::Grammar::super_name, aml_grammar::specs::Operands::name_operand))]
+#[tactic(auto, using(crate::proofs::Scans::scanning), //
+unfolding(aml_grammar::specs::Grammar::super_name, aml_grammar::specs::Operands::name_operand))]
 pub(crate) fn super_name<C: ArgumentCounts, B: Before>(
     reader: &mut Reader<'_, C, B>,
     levels: usize,
@@ -94,7 +96,8 @@ pub(crate) fn simple_name<C: ArgumentCounts, B: Before>(
 
 /// What the elements after it are connected to: a name or a Buffer.
 #[cycle(scan)]
-#[tactic(auto, using(crate::proofs::Scans::scanning), unfolding(aml_grammar::specs::Grammar::connection, aml_grammar::specs::Operands::name_operand))]
+#[tactic(auto, using(crate::proofs::Scans::scanning), //
+unfolding(aml_grammar::specs::Grammar::connection, aml_grammar::specs::Operands::name_operand))]
 fn connection<C: ArgumentCounts, B: Before>(
     reader: &mut Reader<'_, C, B>,
     levels: usize,

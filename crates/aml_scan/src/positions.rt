@@ -9,7 +9,8 @@ ghost use Rattle.aml_scan.specs.Reading.{Reads, MovesOnInPlace};
 use crate::before::Before;
 use crate::reader::Reader;
 use crate::table::row_of;
-use aml_grammar::{ArgumentCounts, Class, Context, Opcode, OperandKind, Position, Row};
+use aml_arities::ArgumentCounts;
+use aml_grammar::{Class, Context, Opcode, OperandKind, Position, Row};
 use aml_path::{NameString, Path};
 use ar_space::{Refusal, Result, TermFault};
 
@@ -163,7 +164,8 @@ pub(crate) fn row_at<C: ArgumentCounts, B: Before>(
 }
 
 /// How many arguments a name takes; a call with arguments is marked.
-#[tactic(auto, using(crate::proofs::Steps::reading), unfolding(aml_grammar::specs::Grammar::argument_number, aml_grammar::specs::Grammar::by_arities))]
+#[tactic(auto, using(crate::proofs::Steps::reading), //
+unfolding(aml_grammar::specs::Grammar::argument_number, aml_grammar::specs::Grammar::by_arities))]
 pub(crate) fn argument_number<C: ArgumentCounts, B: Before>(
     reader: &mut Reader<'_, C, B>,
     start: usize,

@@ -12,7 +12,8 @@ ghost use Rattle.aml_scan.specs.Reading.{MovesOnInPlace};
 
 use crate::before::Before;
 use crate::declarations::Declarations;
-use aml_grammar::{ArgumentCounts, Arities, Mark};
+use aml_arities::{ArgumentCounts, Arities};
+use aml_grammar::Mark;
 use ar_space::{Refusal, Result, TermFault};
 use std::alloc::{AllocError, Global};
 use std::marker::Model;
@@ -156,7 +157,8 @@ impl<'a, C: ArgumentCounts, B: Before> Reader<'a, C, B> {
     }
 
     /// Goes past all bytes that are left.
-    #[tactic(auto, using(crate::proofs::Scans::scanning), unfolding(aml_grammar::specs::State::all_bytes, crate::specs::Scanned::kept))]
+    #[tactic(auto, using(crate::proofs::Scans::scanning), //
+    unfolding(aml_grammar::specs::State::all_bytes, crate::specs::Scanned::kept))]
     pub(crate) fn skip_all(&mut self)
         ensures reads { Does (Ok tt) self.new (scanned all_bytes) self.old }
         ensures kept { length self.new.rest ≤ length self.old.rest }

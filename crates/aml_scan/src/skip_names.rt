@@ -11,7 +11,7 @@ ghost use Rattle.aml_scan.specs.Reading.{MovesOnInPlace};
 use crate::before::Before;
 use crate::names::segment;
 use crate::reader::Reader;
-use aml_grammar::ArgumentCounts;
+use aml_arities::ArgumentCounts;
 use ar_space::{NameFault, Refusal, Result};
 
 /// As many segments as are asked for.

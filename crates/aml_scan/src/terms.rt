@@ -20,13 +20,15 @@ use crate::positions::{
 };
 use crate::reader::Reader;
 use crate::skip_names::skip_name;
-use aml_grammar::{ArgumentCounts, Context, Earlier, OperandKind, Position, Row};
+use aml_arities::ArgumentCounts;
+use aml_grammar::{Context, Earlier, OperandKind, Position, Row};
 use aml_path::Path;
 use ar_space::{Refusal, Result, TermFault};
 
 /// A term, with at most this many levels below it.
 #[cycle(scan)]
-#[tactic(auto, using(crate::proofs::Scans::scanning), unfolding(aml_grammar::specs::Grammar::term_at, aml_grammar::specs::Grammar::term_in))]
+#[tactic(auto, using(crate::proofs::Scans::scanning), //
+unfolding(aml_grammar::specs::Grammar::term_at, aml_grammar::specs::Grammar::term_in))]
 pub(crate) fn term<C: ArgumentCounts, B: Before>(
     reader: &mut Reader<'_, C, B>,
     levels: usize,
@@ -154,7 +156,8 @@ fn coded_term<C: ArgumentCounts, B: Before>(
 }
 
 #[cycle(scan)]
-#[tactic(auto, using(crate::proofs::Scans::scanning), unfolding(aml_grammar::specs::Grammar::row_term, aml_grammar::specs::Grammar::plain_term))]
+#[tactic(auto, using(crate::proofs::Scans::scanning), //
+unfolding(aml_grammar::specs::Grammar::row_term, aml_grammar::specs::Grammar::plain_term))]
 fn row_term<C: ArgumentCounts, B: Before>(
     reader: &mut Reader<'_, C, B>,
     levels: usize,

@@ -7,12 +7,12 @@ use Rattle.ar_space.specs.declared.refusal.Refusal.{Refusal}
 use Rattle.ar_space.specs.declared.refusal.Refusal.TheVariants as refusals
 use Rattle.ar_space.specs.declared.refusal.TermFault.TheVariants as faults
 use Rattle.aml_path.specs.declared.segment.Seg.{Seg}
-use Rattle.aml_grammar.specs.declared.arities.Arity.{Arity}
+use Rattle.aml_arities.specs.declared.arities.Arity.{Arity}
 use Rattle.aml_grammar.specs.declared.context.Position.TheVariants as positions
 use Rattle.aml_grammar.specs.State.{State}
 use Rattle.aml_grammar.specs.Tree.{Tree}
 use Rattle.aml_grammar.specs.Grammar.{items, term_at, by_arities, max_depth, outermost, beginning, term_list_within, fault_within, refusal_within, within, with_arities, reading_within, table_reading_within}
-use Rattle.aml_marked.proofs.FewerLevels.{reading_all, table_all}
+use Rattle.aml_marks.proofs.FewerLevels.{reading_all, table_all}
 use Rattle.aml_scan.specs.Spelling.{IsSpelled}
 use Rattle.aml_spelling.specs.Faults.{FaultyWithin, Faulty, IsToldAs}
 use Rattle.aml_spelling.specs.Stands.{StandWithin}

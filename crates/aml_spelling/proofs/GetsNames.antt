@@ -13,7 +13,7 @@ use Rattle.aml_path.specs.Characters.{is_lead_name_char, is_name_char, is_segmen
 use Rattle.aml_path.specs.Paths.{Name, is_null}
 use Rattle.aml_path.specs.Segments.{seg_of}
 use Rattle.aml_path.proofs.Segments.{seg_of_bytes}
-use Rattle.aml_grammar.specs.declared.arities.Arity.{Arity}
+use Rattle.aml_arities.specs.declared.arities.Arity.{Arity}
 use Rattle.aml_grammar.specs.State.{State, Step, byte, times, past}
 use Rattle.aml_grammar.specs.Names.{only, starts_name, lead_name_char, name_char, segment, segments, multiple_segments, skipping, parents, carets, rooted_name, relative_name, name_string}
 use Rattle.aml_scan.specs.Spelling.{parent_prefixes, prefix_bytes, Leads, characters, IsNamePath, IsNameString}

@@ -7,8 +7,8 @@ use Rattle.aml_path.specs.Paths.{Name, resolved}
 use Rattle.aml_grammar.specs.declared.opcode.TermCode.TheVariants.{NamedField, ReservedField, AccessField, ExtendedAccessField}
 use Rattle.aml_grammar.specs.declared.context.Context.{Context}
 use Rattle.aml_grammar.specs.declared.context.Earlier.{Earlier}
-use Rattle.aml_grammar.specs.declared.arities.Arity.{Arity}
-use Rattle.aml_grammar.specs.Arities.{found, or_path, arity_of}
+use Rattle.aml_arities.specs.declared.arities.Arity.{Arity}
+use Rattle.aml_arities.specs.Arities.{found, or_path, arity_of}
 use Rattle.aml_grammar.specs.State.{State, adding}
 use Rattle.aml_grammar.specs.Operands.{declare, declare_earlier, name_operand, scope_name, alias_source, external_name, declared_name, integer_operand, method_flags, object_type, argument_count, text_operand, bytes_operand, reserved_field, access_field, extended_access_field, one_segment, named_field}
 use Rattle.aml_grammar.specs.Tree.{term, name, number, bytes}

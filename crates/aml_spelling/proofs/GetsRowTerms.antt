@@ -5,7 +5,7 @@ use Rattle.ar_space.specs.Change.{give}
 use Rattle.aml_path.specs.declared.segment.Seg.{Seg}
 use Rattle.aml_grammar.specs.declared.kinds.OperandKind.{OperandKind}
 use Rattle.aml_grammar.specs.declared.kinds.Row.{Row}
-use Rattle.aml_grammar.specs.declared.arities.Arity.{Arity}
+use Rattle.aml_arities.specs.declared.arities.Arity.{Arity}
 use Rattle.aml_grammar.specs.declared.context.Context.{Context}
 use Rattle.aml_grammar.specs.declared.context.Earlier.{Earlier}
 use Rattle.aml_grammar.specs.Table.{row_of}

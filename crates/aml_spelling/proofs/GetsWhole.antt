@@ -5,11 +5,11 @@ use Rattle.ar_space.specs.Outcome.{Outcome}
 use Rattle.aml_path.specs.declared.segment.Seg.{Seg}
 use Rattle.aml_path.specs.Paths.{Name, resolved}
 use Rattle.aml_grammar.specs.declared.opcode.TermCode.TheVariants as codes
-use Rattle.aml_grammar.specs.declared.arities.Arity.{Arity}
+use Rattle.aml_arities.specs.declared.arities.Arity.{Arity}
 use Rattle.aml_grammar.specs.declared.context.Position.{Position}
 use Rattle.aml_grammar.specs.declared.context.Position.TheVariants as positions
 use Rattle.aml_grammar.specs.declared.context.Context.{Context}
-use Rattle.aml_grammar.specs.Arities.{arity_of}
+use Rattle.aml_arities.specs.Arities.{arity_of}
 use Rattle.aml_grammar.specs.Opcodes.{number_of}
 use Rattle.aml_grammar.specs.State.{State, marking, times}
 use Rattle.aml_grammar.specs.Tree.{Tree, term, name, list, no_parts, part, Trees, no_trees, tree}

@@ -8,7 +8,7 @@ use Rattle.ar_space.specs.Outcome.{Outcome}
 use Rattle.ar_space.specs.Change.{give, stop, settle, go_on, ◌>>=◌}
 use Rattle.aml_path.specs.Segments.{seg_of}
 use Rattle.aml_path.specs.declared.name.Prefix.TheVariants.{Root, Parents}
-use Rattle.aml_grammar.specs.declared.arities.Arity.{Arity}
+use Rattle.aml_arities.specs.declared.arities.Arity.{Arity}
 use Rattle.aml_grammar.specs.State.{State, Step, look, byte, byte_of, peek, peek_of, next_bytes, all_bytes, text_length, text, little_endian, integer, length_of, bit_count, size_after, package_size, enter, narrow, leave, times}
 use Rattle.aml_grammar.specs.Names.{only, lead_name_char, name_char, segment, segments, segments_at, multiple_segments, parents, rooted_name, relative_name, name_string}
 use Rattle.aml_grammar.specs.Grammar.{packed}

@@ -10,7 +10,7 @@ use Rattle.aml_path.specs.Paths.{Name}
 use Rattle.aml_grammar.specs.declared.opcode.TermCode.TheVariants as codes
 use Rattle.aml_grammar.specs.declared.kinds.OperandKind.{OperandKind}
 use Rattle.aml_grammar.specs.declared.kinds.OperandKind.TheVariants as kinds
-use Rattle.aml_grammar.specs.declared.arities.Arity.{Arity}
+use Rattle.aml_arities.specs.declared.arities.Arity.{Arity}
 use Rattle.aml_grammar.specs.declared.context.Position.{Position}
 use Rattle.aml_grammar.specs.declared.context.Position.TheVariants as positions
 use Rattle.aml_grammar.specs.declared.context.Context.{Context}

@@ -9,11 +9,11 @@ use Rattle.aml_path.specs.declared.segment.Seg.{Seg}
 use Rattle.aml_path.specs.Paths.{Name}
 use Rattle.aml_grammar.specs.declared.kinds.OperandKind.{OperandKind}
 use Rattle.aml_grammar.specs.declared.kinds.Row.{Row}
-use Rattle.aml_grammar.specs.declared.arities.Arity.{Arity}
+use Rattle.aml_arities.specs.declared.arities.Arity.{Arity}
 use Rattle.aml_grammar.specs.declared.context.Position.{Position}
 use Rattle.aml_grammar.specs.declared.context.Position.TheVariants as positions
 use Rattle.aml_grammar.specs.declared.context.Context.{Context}
-use Rattle.aml_grammar.specs.Arities.{arity_of}
+use Rattle.aml_arities.specs.Arities.{arity_of}
 use Rattle.aml_grammar.specs.Opcodes.{number_of}
 use Rattle.aml_grammar.specs.Table.{row_of}
 use Rattle.aml_grammar.specs.Names.{starts_name}

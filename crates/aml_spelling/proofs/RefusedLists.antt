@@ -4,7 +4,7 @@ use Rattle.std.specs.Prelude.{◌==◌}
 use Rattle.std.proofs.lemmas.Bool.{eqb-true}
 use Rattle.ar_space.specs.declared.refusal.Refusal.{Refusal}
 use Rattle.aml_path.specs.declared.segment.Seg.{Seg}
-use Rattle.aml_grammar.specs.declared.arities.Arity.{Arity}
+use Rattle.aml_arities.specs.declared.arities.Arity.{Arity}
 use Rattle.aml_grammar.specs.State.{State, Step, until_of, until_end, is_next}
 use Rattle.aml_grammar.specs.Tree.{Tree, Trees, no_trees, tree}
 use Rattle.aml_scan.specs.Spelling.{Begins, Around, Place, Spells, SpellsAll}

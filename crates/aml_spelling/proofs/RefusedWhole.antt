@@ -13,7 +13,7 @@ use Rattle.aml_grammar.specs.declared.opcode.Opcode.TheVariants as opcodes
 use Rattle.aml_grammar.specs.declared.kinds.Class.{Class}
 use Rattle.aml_grammar.specs.declared.kinds.OperandKind.{OperandKind}
 use Rattle.aml_grammar.specs.declared.kinds.Row.{Row}
-use Rattle.aml_grammar.specs.declared.arities.Arity.{Arity}
+use Rattle.aml_arities.specs.declared.arities.Arity.{Arity}
 use Rattle.aml_grammar.specs.declared.context.Position.{Position}
 use Rattle.aml_grammar.specs.declared.context.Position.TheVariants as positions
 use Rattle.aml_grammar.specs.declared.context.Context.{Context}
@@ -53,7 +53,7 @@ use Rattle.aml_spelling.specs.Stands.{StandOperands, StandAll}
 use Rattle.aml_grammar.specs.Grammar.{at_else as else_context, item_of_else, nothing_earlier}
 use Rattle.aml_spelling.proofs.GetsNames.{name_first}
 use Rattle.aml_grammar.specs.declared.context.Earlier.{Earlier}
-use Rattle.aml_grammar.specs.Arities.{arity_of}
+use Rattle.aml_arities.specs.Arities.{arity_of}
 use Rattle.aml_grammar.specs.Tree.{Parts, Trees}
 use Rattle.aml_grammar.specs.Grammar.{packed, list_operand}
 use Rattle.aml_scan.specs.Spelling.{term_arg, IsNameString, SpellsAll, SpellsOperands}

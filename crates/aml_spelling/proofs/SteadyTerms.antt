@@ -9,13 +9,13 @@ use Rattle.ar_space.specs.Change.{give, ◌>>=◌}
 use Rattle.aml_path.specs.declared.segment.Seg.{Seg}
 use Rattle.aml_path.specs.Paths.{Name}
 use Rattle.aml_grammar.specs.declared.kinds.Row.{Row}
-use Rattle.aml_grammar.specs.declared.arities.Arity.{Arity}
+use Rattle.aml_arities.specs.declared.arities.Arity.{Arity}
 use Rattle.aml_grammar.specs.declared.context.Position.{Position}
 use Rattle.aml_grammar.specs.declared.context.Position.TheVariants as positions
 use Rattle.aml_grammar.specs.declared.context.Context.{Context}
 use Rattle.aml_grammar.specs.Table.{row_of}
 use Rattle.aml_grammar.specs.Names.{starts_name}
-use Rattle.aml_grammar.specs.Arities.{arity_of}
+use Rattle.aml_arities.specs.Arities.{arity_of}
 use Rattle.aml_grammar.specs.State.{State, Step, byte, marking}
 use Rattle.aml_grammar.specs.Tree.{Tree}
 use Rattle.aml_grammar.specs.Grammar.{Inner, is_module_level, at_item, item_of, stands, costs_no_level, takes_name, opcode, opcode_from, admitted_row, row_at, deeper, leveled, coded_term, element_name, argument_number, invocation, named_term, named, term_in, below, term_at, by_arities, max_depth, outermost, beginning, items, term_list, Fails}

@@ -6,13 +6,13 @@ use Rattle.ar_space.specs.Outcome.{Outcome}
 use Rattle.ar_space.specs.declared.refusal.Refusal.TheVariants as refusals
 use Rattle.ar_space.specs.declared.refusal.EvaluationFault.TheVariants.{DepthSetting}
 use Rattle.aml_path.specs.declared.segment.Seg.{Seg}
-use Rattle.aml_grammar.specs.declared.arities.Arity.{Arity}
+use Rattle.aml_arities.specs.declared.arities.Arity.{Arity}
 use Rattle.aml_grammar.specs.declared.context.Position.TheVariants as positions
 use Rattle.aml_grammar.specs.State.{State}
 use Rattle.aml_grammar.specs.Tree.{Tree}
 use Rattle.aml_grammar.specs.Shape.{trees_of}
 use Rattle.aml_grammar.specs.Grammar.{items, term_in, below, term_at, by_arities, max_depth, levels_allowed, outermost, beginning, term_list_within, within, reading, reading_within, Reads}
-use Rattle.aml_marked.proofs.FewerLevels.{reading_less, reading_all}
+use Rattle.aml_marks.proofs.FewerLevels.{reading_less, reading_all}
 use Rattle.aml_scan.specs.Spelling.{IsSpelled}
 use Rattle.aml_scan.proofs.SpelledTerms.{list_spelled}
 use Rattle.aml_spelling.specs.Stands.{StandWithin, MayStand}

@@ -11,8 +11,8 @@ use Rattle.aml_grammar.specs.declared.kinds.OperandKind.TheVariants as kinds
 use Rattle.aml_grammar.specs.declared.kinds.Row.{Row}
 use Rattle.aml_grammar.specs.declared.context.Earlier.{Earlier}
 use Rattle.aml_grammar.specs.Grammar.{scope_of}
-use Rattle.aml_grammar.specs.declared.arities.Arity.{Arity}
-use Rattle.aml_grammar.specs.Arities.{found, or_path, arity_of}
+use Rattle.aml_arities.specs.declared.arities.Arity.{Arity}
+use Rattle.aml_arities.specs.Arities.{found, or_path, arity_of}
 use Rattle.aml_grammar.specs.DeclaredNames.{begins_outside}
 use Rattle.aml_grammar.specs.Opcodes.{number_of}
 use Rattle.aml_grammar.specs.Table.{row_of}

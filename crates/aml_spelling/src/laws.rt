@@ -5,7 +5,7 @@ ghost use Rattle.ar_space.specs.declared.refusal.Refusal.{Refusal};
 ghost use Rattle.ar_space.specs.declared.refusal.Refusal.TheVariants as refusals;
 ghost use Rattle.ar_space.specs.declared.refusal.TermFault.TheVariants.{BadOpcode, Truncated};
 ghost use Rattle.aml_path.specs.declared.segment.Seg.{Seg};
-ghost use Rattle.aml_grammar.specs.declared.arities.Arity.{Arity};
+ghost use Rattle.aml_arities.specs.declared.arities.Arity.{Arity};
 ghost use Rattle.aml_grammar.specs.declared.context.Context.{Context};
 ghost use Rattle.aml_grammar.specs.declared.context.Earlier.{Earlier};
 ghost use Rattle.aml_grammar.specs.Operands.{scope_name, alias_source, external_name, declared_name};

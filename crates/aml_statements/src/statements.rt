@@ -1,7 +1,7 @@
 //! Statements: what is done before their first part is evaluated (ACPI 6.5, 19.6 and 20.2.5.3). The operands stand
 //! next.
 ghost use Rattle.std.specs.Prelude.{◌+◌, ◌*◌, Some};
-ghost use Rattle.aml_marked.specs.Marked.{maybe_else};
+ghost use Rattle.aml_marks.specs.Marked.{maybe_else};
 ghost use Rattle.ar_space.specs.Outcome.{NotMemory};
 ghost use Rattle.aml_meaning.specs.Meaning.{meaning};
 ghost use Rattle.aml_meaning.specs.StatementTerms.{otherwise};
@@ -163,7 +163,7 @@ fn next_branch<S: Space>(
 }
 
 /// The Else of an If, where it has one: it costs a step.
-#[tactic(auto, using(aml_frames::proofs::Stepping::elses), unfolding(aml_marked::specs::Marked::maybe_else, aml_marked::specs::Marked::gives))]
+#[tactic(auto, using(aml_frames::proofs::Stepping::elses), unfolding(aml_marks::specs::Marked::maybe_else, aml_marks::specs::Marked::gives))]
 fn next_otherwise<S: Space>(run: &mut Running<S>, act: &mut Activation, levels: u8) -> Result<Next>
     ensures steps { Steps S.accesses 6 result act.new run.new (
       otherwise (meaning S.accesses) act.old.scope act.old.depth

@@ -3,7 +3,7 @@ use Rattle.std.specs.Prelude.{ℕ, Option, Ok}
 use Rattle.std.proofs.Common.{refl}
 use Rattle.ar_space.specs.Accesses.{Accesses}
 use Rattle.ar_space.specs.Change.{◌>>=◌}
-use Rattle.aml_meaning.specs.State.{State}
+use Rattle.aml_world.specs.state.State.{State}
 use Rattle.aml_meaning.specs.Meaning.{meaning}
 use Rattle.aml_meaning.specs.Tasks.{operand_value}
 use Rattle.aml_frames.specs.declared.frames.Frame.TheVariants as frames

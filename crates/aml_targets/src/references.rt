@@ -2,11 +2,11 @@
 ghost use Rattle.std.specs.Prelude.{◌≡◌, ◌+◌, ◌*◌, true};
 ghost use Rattle.ar_space.specs.Change.{Does};
 ghost use Rattle.aml_grammar.specs.Names.{starts_name};
-ghost use Rattle.aml_marked.specs.Marked.{first, a_name};
-ghost use Rattle.aml_meaning.specs.Run.{lift};
+ghost use Rattle.aml_marks.specs.Marked.{first, a_name};
+ghost use Rattle.aml_world.specs.state.Run.{lift};
 ghost use Rattle.ar_space.specs.Outcome.{NotMemory};
+ghost use Rattle.aml_world.specs.values.StoreTargets.{reference_if_found};
 ghost use Rattle.aml_meaning.specs.Meaning.{meaning};
-ghost use Rattle.aml_meaning.specs.StoreTargets.{reference_if_found};
 ghost use Rattle.aml_meaning.specs.declared.term_kind.OperatorKind.TheVariants as operators;
 ghost use Rattle.aml_frames.specs.declared.frames.Frame.TheVariants as frames;
 ghost use Rattle.aml_frames.specs.Follow.{inquiry_kind};
@@ -94,7 +94,7 @@ pub fn begin_conditional<S: Space>(
 }
 
 /// CondRefOf of a name: it is looked for.
-#[tactic(auto, using(aml_frames::proofs::Using::seeking), unfolding(aml_marked::specs::Marked::a_name))]
+#[tactic(auto, using(aml_frames::proofs::Using::seeking), unfolding(aml_marks::specs::Marked::a_name))]
 fn begin_sought<S: Space>(run: &mut Running<S>, act: &mut Activation, levels: u8) -> Result<Next>
     requires { starts_name (first act.old.place.rest) ≡ true }
     ensures { Steps S.accesses (3 * most + 100) result act.new run.new

@@ -2,7 +2,7 @@
 ghost use Rattle.std.specs.Prelude.{◌≢◌, ◌+◌, ◌*◌};
 ghost use Rattle.ar_space.specs.Outcome.{NotMemory};
 ghost use Rattle.aml_objects.specs.declared.entry.Field.{Field as AnyField};
-ghost use Rattle.aml_meaning.specs.declared.object_type.Referent.TheVariants as referents;
+ghost use Rattle.aml_world.specs.declared.values.object_type.Referent.TheVariants as referents;
 ghost use Rattle.aml_meaning.specs.Meaning.{meaning};
 ghost use Rattle.aml_frames.specs.declared.frames.Frame.TheVariants as frames;
 ghost use Rattle.aml_frames.specs.declared.uses.TargetUse.TheVariants as uses;
@@ -15,10 +15,9 @@ use aml_accesses::{begin_read, begin_write, read_access};
 use aml_frames::{
     Activation, Boxed, Frame, Inquiry, Next, Reading, TargetUse, integer_of, size_or_type,
 };
-use aml_meaning::{
-    Count, EventChange, Flow, Held, Referent, Running, StoreTarget, Stored, WorldState,
-};
+use aml_meaning::{Flow, Running};
 use aml_objects::{Field, Value};
+use aml_world::{Count, EventChange, Held, Referent, StoreTarget, Stored, WorldState};
 use ar_space::{Result, Space};
 
 /// How many bytes the timeout of Acquire takes.

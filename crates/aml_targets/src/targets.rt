@@ -3,12 +3,12 @@ ghost use Rattle.std.specs.Prelude.{◌≡◌, ◌<◌, ◌+◌, true, false, If
 ghost use Rattle.ar_space.specs.Change.{Does};
 ghost use Rattle.aml_grammar.specs.Apart.{code_of};
 ghost use Rattle.aml_grammar.specs.Names.{starts_name};
-ghost use Rattle.aml_marked.specs.Marked.{first, a_name};
-ghost use Rattle.aml_meaning.specs.Run.{lift};
+ghost use Rattle.aml_marks.specs.Marked.{first, a_name};
+ghost use Rattle.aml_world.specs.state.Run.{lift};
+ghost use Rattle.aml_world.specs.values.StoreTargets.{target_named};
 ghost use Rattle.aml_meaning.specs.Meaning.{meaning};
 ghost use Rattle.aml_meaning.specs.Terms.{target_kind};
-ghost use Rattle.aml_meaning.specs.TargetTerms.{target_named};
-ghost use Rattle.aml_meaning.specs.declared.store_target.TargetKind.TheVariants as kinds;
+ghost use Rattle.aml_meaning.specs.declared.term_kind.TargetKind.TheVariants as kinds;
 ghost use Rattle.aml_frames.specs.declared.frames.Frame.TheVariants as frames;
 ghost use Rattle.aml_frames.specs.Places.{next_term, behind_term};
 ghost use Rattle.aml_frames.specs.Uses.{super, optional, use_ends, operand_used};
@@ -18,7 +18,8 @@ ghost use Rattle.aml_frames.specs.Steps.{Steps, frame_at, next_target};
 
 use crate::target_uses::use_target;
 use aml_frames::{Activation, Frame, Next, Target, TargetForm, TargetUse, told_here, use_known};
-use aml_meaning::{Flow, Running, StoreTarget, TargetKind, reference_in};
+use aml_meaning::{Flow, Running, TargetKind};
+use aml_world::{StoreTarget, reference_in};
 use ar_space::{NameFault, Refusal, Result, Space};
 
 /// The target that stands next is found and used, or what it refers to is evaluated first.
@@ -104,7 +105,7 @@ fn begin_any_super_name<S: Space>(
 }
 
 /// What a name names.
-#[tactic(auto, using(aml_frames::proofs::Using::naming), unfolding(aml_marked::specs::Marked::a_name))]
+#[tactic(auto, using(aml_frames::proofs::Using::naming), unfolding(aml_marks::specs::Marked::a_name))]
 fn begin_named<S: Space>(
     run: &mut Running<S>,
     act: &mut Activation,

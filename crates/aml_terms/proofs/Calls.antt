@@ -8,7 +8,7 @@ use Rattle.aml_grammar.specs.Grammar.{is_if}
 use Rattle.aml_grammar.specs.Names.{starts_name}
 use Rattle.aml_grammar.specs.Table.{row_of}
 use Rattle.aml_grammar.specs.Tree.{Tree}
-use Rattle.aml_marked.specs.Marked.{Place, Below, first, after, gives, with_row, an_opcode, a_coded, an_else, a_call, a_named, a_term_in, a_term}
+use Rattle.aml_marks.specs.Marked.{Place, Below, first, after, gives, with_row, an_opcode, a_coded, an_else, a_call, a_named, a_term_in, a_term}
 
 code_by : (b : Below) (row : Row) (p : Place) (other : Bool) → is_if row.0 ≡ other → code_of (with_row b (Some row) p).0 ≡ codes.Opcode row.0
 unfolding with_row after gives

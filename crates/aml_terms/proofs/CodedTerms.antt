@@ -5,8 +5,8 @@ use Rattle.std.proofs.lemmas.Bool.{cases_lt}
 use Rattle.aml_grammar.specs.declared.kinds.Row.{Row}
 use Rattle.aml_grammar.specs.Names.{starts_name}
 use Rattle.aml_grammar.specs.Table.{table, row_of}
-use Rattle.aml_marked.specs.Marked.{Place, Below, over, first, after, gives, with_row, an_opcode, a_coded, a_term_in, a_term}
-use Rattle.aml_marked.proofs.Walking.{some_levels}
+use Rattle.aml_marks.specs.Marked.{Place, Below, over, first, after, gives, with_row, an_opcode, a_coded, a_term_in, a_term}
+use Rattle.aml_marks.proofs.Walking.{some_levels}
 use Rattle.aml_scan.specs.RowsAt.{row_at}
 use Rattle.aml_scan.specs.declared.row_places.RowPlace.{RowPlace}
 

@@ -3,7 +3,7 @@ use Rattle.std.specs.Prelude.{◌≡◌, ◌≢◌, Option, Some, None, refl}
 use Rattle.std.proofs.Common.{◌∙◌, sym, ap}
 use Rattle.aml_grammar.specs.declared.kinds.Row.{Row}
 use Rattle.aml_grammar.specs.Table.{row_of}
-use Rattle.aml_marked.specs.Marked.{Place, Below, over, after, gives, inside, an_operand, all_operands, of_row, with_row, an_else}
+use Rattle.aml_marks.specs.Marked.{Place, Below, over, after, gives, inside, an_operand, all_operands, of_row, with_row, an_else}
 use Rattle.aml_scan.specs.RowsAt.{row_at, row_at_any}
 use Rattle.aml_scan.specs.declared.row_places.RowPlace.{RowPlace}
 

@@ -1,7 +1,7 @@
 -- Which field element begins with a byte.
 use Rattle.std.specs.Prelude.{◌≡◌, ◌≢◌, ℕ, ◌==◌, true, false, refl, if◌then◌else◌}
 use Rattle.std.proofs.Common.{sym, arith}
-use Rattle.aml_marked.specs.Marked.{Place, Below, first, field_of, a_field, a_reserved_field, an_access_field, an_extended_access_field, a_named_field}
+use Rattle.aml_marks.specs.Marked.{Place, Below, first, field_of, a_field, a_reserved_field, an_access_field, an_extended_access_field, a_named_field}
 
 is_not : (b n : ℕ) → b ≢ n → (b == n) ≡ false
 is_not b n ne = grind (arith, ne)

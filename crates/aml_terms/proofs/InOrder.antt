@@ -4,8 +4,8 @@ use Rattle.aml_grammar.specs.declared.kinds.OperandKind.{OperandKind}
 use Rattle.aml_grammar.specs.Shape.{parts_of}
 use Rattle.aml_grammar.specs.Apart.{part_at}
 use Rattle.aml_grammar.specs.Grammar.{is_nothing}
-use Rattle.aml_marked.specs.Marked.{Place, Below, after, gives, an_operand, all_operands}
-use Rattle.aml_marked.proofs.Parting.{part_later}
+use Rattle.aml_marks.specs.Marked.{Place, Below, after, gives, an_operand, all_operands}
+use Rattle.aml_marks.proofs.Parting.{part_later}
 
 module _ (b : Below) (k : OperandKind) (ks : List OperandKind) (p : Place) (i : ℕ) where
   pub none_there : is_nothing k ≡ true → part_at (parts_of (all_operands b (k ∷ ks) p).0) i ≡ None

@@ -7,7 +7,7 @@ use Rattle.ar_space.specs.Outcome.{Outcome, Answers}
 use Rattle.ar_space.proofs.Outcomes.{answering}
 use Rattle.aml_path.specs.Paths.{Name}
 use Rattle.aml_grammar.specs.Names.{name_string}
-use Rattle.aml_marked.specs.Marked.{Place, bare_state, or_root, a_name}
+use Rattle.aml_marks.specs.Marked.{Place, bare_state, or_root, a_name}
 
 pub named_ok : {n : Name} (p : Place) → Answers (Ok n) (name_string (bare_state p)).0 → Answers (Ok n) (Ok (a_name p).0)
 unfolding a_name

@@ -3,12 +3,12 @@ use Rattle.std.specs.Prelude.{◌≡◌, List, [], ◌∷◌, false, ℕ, Ok, re
 use Rattle.std.proofs.Common.{◌∙◌, sym, ap}
 use Rattle.ar_space.specs.Outcome.{Outcome, Answers, NotMemory, seen}
 use Rattle.ar_space.proofs.Outcomes.{answering}
-use Rattle.aml_grammar.specs.declared.arities.Arity.{Arity}
+use Rattle.aml_arities.specs.declared.arities.Arity.{Arity}
 use Rattle.aml_grammar.specs.declared.marks.Mark.{Mark}
 use Rattle.aml_grammar.specs.Tree.{Tree, Trees}
 use Rattle.aml_grammar.specs.Shape.{trees_of}
 use Rattle.aml_grammar.specs.Grammar.{term_list, by_arities, table_reading}
-use Rattle.aml_marked.specs.Marked.{trees_by}
+use Rattle.aml_marks.specs.Marked.{trees_by}
 use Rattle.aml_scan.specs.Scanned.{noted}
 use Rattle.aml_terms.specs.Copying.{trees_list}
 use Rattle.aml_marks.proofs.Scans.{table_ok, scanning}

@@ -9,8 +9,8 @@ use Rattle.aml_grammar.specs.Names.{starts_name}
 use Rattle.aml_grammar.specs.Tree.{Tree}
 use Rattle.aml_grammar.specs.Table.{row_of}
 use Rattle.aml_grammar.specs.Grammar.{is_if, is_nothing}
-use Rattle.aml_marked.specs.Marked.{Place, Below, over, first, after, gives, inside, an_operand, all_operands, of_row, with_row, an_opcode, a_coded, a_term_in, a_term}
-use Rattle.aml_marked.proofs.Walking.{some_levels}
+use Rattle.aml_marks.specs.Marked.{Place, Below, over, first, after, gives, inside, an_operand, all_operands, of_row, with_row, an_opcode, a_coded, a_term_in, a_term}
+use Rattle.aml_marks.proofs.Walking.{some_levels}
 use Rattle.aml_terms.specs.ShortTerms.{with_only, maybe_length, short_length}
 
 over_over : (m n : ℕ) (p : Place) → over m (over n p) ≡ over (n + m) p

@@ -2,7 +2,7 @@
 use Rattle.std.specs.Prelude.{ℕ, List, true, false}
 use Rattle.aml_grammar.specs.Tree.{Tree, Trees, no_trees}
 use Rattle.aml_grammar.specs.Shape.{trees_of}
-use Rattle.aml_marked.specs.Marked.{Place, a_term, an_else, a_field, with_row, turns_of, to_end, count_at, no_term}
+use Rattle.aml_marks.specs.Marked.{Place, a_term, an_else, a_field, with_row, turns_of, to_end, count_at, no_term}
 use Rattle.aml_scan.specs.RowsAt.{row_at}
 use Rattle.aml_terms.specs.declared.at.At.{At}
 use Rattle.aml_terms.specs.declared.at.Kind.{Kind}

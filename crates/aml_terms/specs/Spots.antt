@@ -1,7 +1,7 @@
 -- What stands where an operand stands.
 use Rattle.std.specs.Prelude.{ℕ, false}
 use Rattle.aml_grammar.specs.Tree.{Part, number}
-use Rattle.aml_marked.specs.Marked.{Place, a_term, an_operand, a_bit_count, turns_of, maybe_else, list_part}
+use Rattle.aml_marks.specs.Marked.{Place, a_term, an_operand, a_bit_count, turns_of, maybe_else, list_part}
 use Rattle.aml_terms.specs.declared.spot.Spot.{Spot}
 use Rattle.aml_terms.specs.declared.spot.Spot.TheVariants as spots
 

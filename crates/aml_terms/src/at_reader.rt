@@ -1,7 +1,7 @@
 //! A reader of terms that stands in lent bytes.
 ghost use Rattle.std.specs.Prelude.{◌≡◌, ◌-◌, ℕ, option_map, Some};
 ghost use Rattle.aml_grammar.specs.Apart.{code_of, operand_of};
-ghost use Rattle.aml_marked.specs.Marked.{Below, count_at, a_term, a_field, lent_of};
+ghost use Rattle.aml_marks.specs.Marked.{Below, count_at, a_term, a_field, lent_of};
 ghost use Rattle.aml_terms.specs.AtTree.{at_tree, at_list, behind_of, list_of, place_at};
 
 use crate::at::{At, Kind};
@@ -17,7 +17,10 @@ use ar_space::{NameFault, Refusal, Result};
 use std::alloc::Global;
 
 /// The code of a term.
-#[tactic(auto, using(aml_marked::proofs::Walking::walking), unfolding(aml_marked::specs::Marked::a_name, aml_marked::specs::Marked::a_call, aml_marked::specs::Marked::with_row, aml_marked::specs::Marked::a_coded, aml_marked::specs::Marked::a_term_in, aml_marked::specs::Marked::after, aml_marked::specs::Marked::gives))]
+#[tactic(auto, using(aml_marks::proofs::Walking::walking), //
+unfolding(aml_marks::specs::Marked::a_name, aml_marks::specs::Marked::a_call, aml_marks::specs::Marked::with_row, //
+aml_marks::specs::Marked::a_coded, aml_marks::specs::Marked::a_term_in, aml_marks::specs::Marked::after, //
+aml_marks::specs::Marked::gives))]
 fn code_at(cursor: &mut Cursor<'_>, levels: u8, element: bool) -> TermCode
     ensures { (count : ℕ → ℕ) → result ≡ code_of (a_term count levels element cursor.old).0 }
 {
@@ -39,7 +42,11 @@ fn code_at(cursor: &mut Cursor<'_>, levels: u8, element: bool) -> TermCode
 }
 
 /// The code of a field element.
-#[tactic(auto, unfolding(aml_marked::specs::Marked::a_field, aml_marked::specs::Marked::a_reserved_field, aml_marked::specs::Marked::an_access_field, aml_marked::specs::Marked::an_extended_access_field, aml_marked::specs::Marked::a_connect_field, aml_marked::specs::Marked::a_named_field, aml_marked::specs::Marked::after, aml_marked::specs::Marked::gives))]
+#[tactic(auto, //
+unfolding(aml_marks::specs::Marked::a_field, aml_marks::specs::Marked::a_reserved_field, //
+aml_marks::specs::Marked::an_access_field, aml_marks::specs::Marked::an_extended_access_field, //
+aml_marks::specs::Marked::a_connect_field, aml_marks::specs::Marked::a_named_field, //
+aml_marks::specs::Marked::after, aml_marks::specs::Marked::gives))]
 fn field_code(cursor: &Cursor<'_>) -> TermCode
     ensures { (below : Below) → result ≡ code_of (a_field below cursor.now).0 }
 {
@@ -110,7 +117,9 @@ impl<'a> TermReader for At<'a> {
 
     ghost list = { at_list };
 
-    #[tactic(auto, unfolding(aml_marked::specs::Marked::with_row, aml_marked::specs::Marked::an_else, aml_marked::specs::Marked::after, aml_marked::specs::Marked::gives))]
+    #[tactic(auto, //
+    unfolding(aml_marks::specs::Marked::with_row, aml_marks::specs::Marked::an_else, //
+    aml_marks::specs::Marked::after, aml_marks::specs::Marked::gives))]
     fn code(self) -> TermCode {
         let mut cursor = Cursor::new(self.at, self.rest);
         match self.kind {
@@ -146,7 +155,7 @@ impl<'a> TermReader for At<'a> {
         }
     }
 
-    #[tactic(auto, using(aml_marked::proofs::Walking::walking))]
+    #[tactic(auto, using(aml_marks::proofs::Walking::walking))]
     fn next(self) -> Option<Item<At<'a>>> {
         let is_over = self.turns == 0 || self.rest.is_empty();
         match self.kind {

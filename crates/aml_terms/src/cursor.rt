@@ -1,8 +1,8 @@
 //! A cursor over lent bytes whose steps refuse nothing: what is missing is read as zero, and no step goes past the end.
 ghost use Rattle.std.specs.Prelude.{◌≡◌, ◌+◌, ◌^◌, ◌<◌, ◌≤◌, ◌==◌, length, take};
 ghost use Rattle.aml_grammar.specs.State.{text_length, is_next};
-ghost use Rattle.aml_marked.specs.Marked.{Place, past, over, first, an_integer, a_bit_count, a_size, prefix_length};
-ghost use Rattle.aml_marked.specs.Marked.{segments_length, name_length};
+ghost use Rattle.aml_marks.specs.Marked.{Place, past, over, first, an_integer, a_bit_count, a_size, prefix_length};
+ghost use Rattle.aml_marks.specs.Marked.{segments_length, name_length};
 
 use aml_scan::{carets, length_of, little_endian, text_length};
 use std::marker::Model;
@@ -19,7 +19,7 @@ pub struct Cursor<'a> {
 
 impl<'a> Model for Cursor<'a> {
     ghost use Rattle.std.specs.Prelude.{◌+◌, ◌^◌, ◌<◌, length};
-    ghost use Rattle.aml_marked.specs.Marked.{Place};
+    ghost use Rattle.aml_marks.specs.Marked.{Place};
 
     ghost Value = { Place };
 
@@ -99,7 +99,9 @@ impl<'a> Cursor<'a> {
     }
 
     /// A count of bits, which is spelled as the length of a package.
-    #[tactic(auto, unfolding(aml_marked::specs::Marked::a_bit_count, aml_marked::specs::Marked::after, aml_marked::specs::Marked::gives))]
+    #[tactic(auto, //
+    unfolding(aml_marks::specs::Marked::a_bit_count, aml_marks::specs::Marked::after, //
+    aml_marks::specs::Marked::gives))]
     pub(crate) fn bit_count(&mut self) -> u64
         ensures value { result ≡ (a_bit_count self.old).0 }
         ensures after { self.new ≡ (a_bit_count self.old).1 }
@@ -112,7 +114,8 @@ impl<'a> Cursor<'a> {
     }
 
     /// How many bytes of a package follow its length.
-    #[tactic(auto, unfolding(aml_marked::specs::Marked::a_size, aml_marked::specs::Marked::after, aml_marked::specs::Marked::gives))]
+    #[tactic(auto, //
+    unfolding(aml_marks::specs::Marked::a_size, aml_marks::specs::Marked::after, aml_marks::specs::Marked::gives))]
     fn size(&mut self) -> usize
         ensures value { result ≡ (a_size self.old).0 }
         ensures after { self.new ≡ (a_size self.old).1 }

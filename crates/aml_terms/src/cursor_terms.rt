@@ -6,9 +6,9 @@ ghost use Rattle.aml_grammar.specs.declared.opcode.TermCode.TheVariants as codes
 ghost use Rattle.aml_grammar.specs.Apart.{code_of};
 ghost use Rattle.aml_grammar.specs.Names.{starts_name};
 ghost use Rattle.aml_grammar.specs.Shape.{trees_of};
-ghost use Rattle.aml_marked.specs.Marked.{Below, count_at, first, a_name, a_term, a_field, an_else, a_call, turns_of};
-ghost use Rattle.aml_marked.specs.Marked.{with_row, a_target, maybe_else, fields_left};
-ghost use Rattle.aml_marked.specs.Moving.{MovesOn};
+ghost use Rattle.aml_marks.specs.Marked.{Below, count_at, first, a_name, a_term, a_field, an_else, a_call, turns_of};
+ghost use Rattle.aml_marks.specs.Marked.{with_row, a_target, maybe_else, fields_left};
+ghost use Rattle.aml_marks.specs.Moving.{MovesOn};
 ghost use Rattle.aml_scan.specs.RowsAt.{row_at};
 ghost use Rattle.aml_scan.specs.declared.row_places.RowPlace.{RowPlace};
 ghost use Rattle.aml_terms.specs.AtTree.{at_tree, at_list, place_at};
@@ -70,7 +70,10 @@ impl<'a> Cursor<'a> {
 
     /// The same, whatever stands there.
     #[inline(never)]
-    #[tactic(auto, using(aml_marked::proofs::Walking::walking, crate::proofs::MovingOn::moving), unfolding(aml_marked::specs::Marked::a_call, aml_marked::specs::Marked::with_row, aml_marked::specs::Marked::a_coded, aml_marked::specs::Marked::a_term_in, aml_marked::specs::Marked::after, aml_marked::specs::Marked::gives))]
+    #[tactic(auto, using(aml_marks::proofs::Walking::walking, crate::proofs::MovingOn::moving), //
+    unfolding(aml_marks::specs::Marked::a_call, aml_marks::specs::Marked::with_row, //
+    aml_marks::specs::Marked::a_coded, aml_marks::specs::Marked::a_term_in, aml_marks::specs::Marked::after, //
+    aml_marks::specs::Marked::gives))]
     fn take_any_opcode(&mut self, levels: u8) -> Option<RowPlace>
         ensures some { (place : RowPlace) → result ≡ Some place → 0 < levels }
         ensures term { (place : RowPlace) → (count : ℕ → ℕ) → (element : Bool) → result ≡ Some place →
@@ -121,7 +124,7 @@ impl<'a> Cursor<'a> {
     }
 
     /// The name that begins here; the root where none does. Refused: `OutOfMemory`.
-    #[tactic(auto, using(crate::proofs::Named::naming), unfolding(aml_marked::specs::Marked::a_name))]
+    #[tactic(auto, using(crate::proofs::Named::naming), unfolding(aml_marks::specs::Marked::a_name))]
     pub fn name(&self, alloc: Global) -> Result<NameString>
         ensures { Answers result (Ok (a_name self.now).0) }
     {
@@ -140,7 +143,7 @@ impl<'a> Cursor<'a> {
     }
 
     /// A reader of the field elements that are left.
-    #[tactic(auto, unfolding(aml_marked::specs::Marked::fields_left))]
+    #[tactic(auto, unfolding(aml_marks::specs::Marked::fields_left))]
     pub fn field_list(&self, marks: &'a Marks, levels: u8) -> At<'a>
         ensures { at_list result ≡ trees_of (fields_left (a_term (count_at marks.now) levels) self.now).0 }
     {
@@ -169,7 +172,7 @@ impl<'a> Cursor<'a> {
     }
 
     /// Goes over a target.
-    #[tactic(auto, unfolding(aml_marked::specs::Marked::a_target))]
+    #[tactic(auto, unfolding(aml_marks::specs::Marked::a_target))]
     pub fn over_target(&mut self, marks: &Marks, levels: u8)
         ensures { self.new ≡ (a_target (a_term (count_at marks.now) levels) self.old).1 }
     {
@@ -244,7 +247,11 @@ impl<'a> At<'a> {
     }
 
     /// No field element is a call.
-    #[tactic(auto, unfolding(aml_marked::specs::Marked::a_field, aml_marked::specs::Marked::a_reserved_field, aml_marked::specs::Marked::an_access_field, aml_marked::specs::Marked::an_extended_access_field, aml_marked::specs::Marked::a_connect_field, aml_marked::specs::Marked::a_named_field, aml_marked::specs::Marked::after, aml_marked::specs::Marked::gives))]
+    #[tactic(auto, //
+    unfolding(aml_marks::specs::Marked::a_field, aml_marks::specs::Marked::a_reserved_field, //
+    aml_marks::specs::Marked::an_access_field, aml_marks::specs::Marked::an_extended_access_field, //
+    aml_marks::specs::Marked::a_connect_field, aml_marks::specs::Marked::a_named_field, //
+    aml_marks::specs::Marked::after, aml_marks::specs::Marked::gives))]
     fn call_in_field(&self) -> Option<Call<'a>>
         ensures result { result ≡ None }
         ensures none { (below : Below) → code_of (a_field below (place_at self.now)).0 ≢ codes.MethodInvocation }
@@ -290,7 +297,11 @@ impl<'a> At<'a> {
     }
 
     /// No field element has an opcode.
-    #[tactic(auto, unfolding(aml_marked::specs::Marked::a_field, aml_marked::specs::Marked::a_reserved_field, aml_marked::specs::Marked::an_access_field, aml_marked::specs::Marked::an_extended_access_field, aml_marked::specs::Marked::a_connect_field, aml_marked::specs::Marked::a_named_field, aml_marked::specs::Marked::after, aml_marked::specs::Marked::gives))]
+    #[tactic(auto, //
+    unfolding(aml_marks::specs::Marked::a_field, aml_marks::specs::Marked::a_reserved_field, //
+    aml_marks::specs::Marked::an_access_field, aml_marks::specs::Marked::an_extended_access_field, //
+    aml_marks::specs::Marked::a_connect_field, aml_marks::specs::Marked::a_named_field, //
+    aml_marks::specs::Marked::after, aml_marks::specs::Marked::gives))]
     fn coded_field(&self) -> Option<Coded<'a>>
         ensures result { result ≡ None }
         ensures none { (below : Below) → (opcode : Opcode) → code_of (a_field below (place_at self.now)).0 ≢

@@ -2,8 +2,8 @@
 ghost use Rattle.std.specs.Prelude.{◌≡◌, ℕ, length, Some, Ok, option_map};
 ghost use Rattle.ar_space.specs.Outcome.{Answers};
 ghost use Rattle.aml_grammar.specs.Apart.{Shows, name_of};
-ghost use Rattle.aml_marked.specs.Marked.{count_at, a_term, an_operand, name_or_term, target_of, a_bit_count};
-ghost use Rattle.aml_marked.specs.Marked.{first, lent_of};
+ghost use Rattle.aml_marks.specs.Marked.{count_at, a_term, an_operand, name_or_term, target_of, a_bit_count};
+ghost use Rattle.aml_marks.specs.Marked.{first, lent_of};
 ghost use Rattle.aml_terms.specs.AtTree.{at_tree, at_list, list_of};
 ghost use Rattle.aml_grammar.specs.Tree.{list};
 ghost use Rattle.aml_terms.specs.Spots.{spot_part};
@@ -20,7 +20,8 @@ use ar_space::{NameFault, Refusal, Result};
 use std::alloc::Global;
 
 /// What an operand is.
-#[tactic(auto, using(aml_marked::proofs::Parting::parting), unfolding(aml_marked::specs::Marked::maybe_else, aml_marked::specs::Marked::gives))]
+#[tactic(auto, using(aml_marks::proofs::Parting::parting), //
+unfolding(aml_marks::specs::Marked::maybe_else, aml_marks::specs::Marked::gives))]
 pub(crate) fn view<'a>(cursor: &Cursor<'a>, marks: &'a Marks, spot: Spot) -> OperandView<At<'a>>
     ensures { Shows at_tree at_list result (Some (spot_part (count_at marks.now) spot cursor.now)) }
 {
@@ -52,7 +53,10 @@ fn bits(cursor: &Cursor<'_>) -> u64
 }
 
 /// What an operand of a kind is.
-#[tactic(auto, using(aml_marked::proofs::Parting::parting), unfolding(aml_marked::specs::Marked::an_operand, aml_marked::specs::Marked::a_target, aml_marked::specs::Marked::a_super_name, aml_marked::specs::Marked::all_items, aml_marked::specs::Marked::fields_left, aml_marked::specs::Marked::gives))]
+#[tactic(auto, using(aml_marks::proofs::Parting::parting), //
+unfolding(aml_marks::specs::Marked::an_operand, aml_marks::specs::Marked::a_target, //
+aml_marks::specs::Marked::a_super_name, aml_marks::specs::Marked::all_items, aml_marks::specs::Marked::fields_left, //
+aml_marks::specs::Marked::gives))]
 fn view_kind<'a>(
     cursor: &Cursor<'a>,
     marks: &'a Marks,
@@ -106,7 +110,7 @@ fn view_list<'a>(
 }
 
 /// A name, or else a term.
-#[tactic(auto, using(aml_marked::proofs::Parting::parting))]
+#[tactic(auto, using(aml_marks::proofs::Parting::parting))]
 fn view_name_or_term<'a>(cursor: &Cursor<'a>, marks: &'a Marks, levels: u8) -> OperandView<At<'a>>
     ensures { Shows at_tree at_list result
         (Some (name_or_term (a_term (count_at marks.now) levels) (first cursor.now.rest) cursor.now).0) }
@@ -119,7 +123,7 @@ fn view_name_or_term<'a>(cursor: &Cursor<'a>, marks: &'a Marks, levels: u8) -> O
 }
 
 /// What a target is.
-#[tactic(auto, using(aml_marked::proofs::Parting::parting))]
+#[tactic(auto, using(aml_marks::proofs::Parting::parting))]
 fn view_target<'a>(cursor: &Cursor<'a>, marks: &'a Marks, levels: u8) -> OperandView<At<'a>>
     ensures { Shows at_tree at_list result
         (Some (target_of (a_term (count_at marks.now) levels) (first cursor.now.rest) cursor.now).0) }
@@ -134,7 +138,9 @@ fn view_target<'a>(cursor: &Cursor<'a>, marks: &'a Marks, levels: u8) -> Operand
 // ---- names and bytes
 
 /// The name at a spot.
-#[tactic(auto, using(crate::proofs::Named::naming), unfolding(aml_marked::specs::Marked::an_operand, aml_marked::specs::Marked::a_target, aml_marked::specs::Marked::a_super_name, aml_marked::specs::Marked::gives, aml_marked::specs::Marked::maybe_else))]
+#[tactic(auto, using(crate::proofs::Named::naming), //
+unfolding(aml_marks::specs::Marked::an_operand, aml_marks::specs::Marked::a_target, //
+aml_marks::specs::Marked::a_super_name, aml_marks::specs::Marked::gives, aml_marks::specs::Marked::maybe_else))]
 pub(crate) fn name_here(alloc: Global, cursor: &Cursor<'_>, spot: Spot) -> Result<NameString>
     ensures { (count : ℕ → ℕ) → Answers result (name_of (Some (spot_part count spot cursor.now))) }
 {
@@ -168,7 +174,9 @@ pub(crate) fn name_here(alloc: Global, cursor: &Cursor<'_>, spot: Spot) -> Resul
 }
 
 /// The bytes at a spot, lent.
-#[tactic(auto, unfolding(aml_marked::specs::Marked::an_operand, aml_marked::specs::Marked::a_target, aml_marked::specs::Marked::a_super_name, aml_marked::specs::Marked::gives, aml_marked::specs::Marked::maybe_else))]
+#[tactic(auto, //
+unfolding(aml_marks::specs::Marked::an_operand, aml_marks::specs::Marked::a_target, //
+aml_marks::specs::Marked::a_super_name, aml_marks::specs::Marked::gives, aml_marks::specs::Marked::maybe_else))]
 pub(crate) fn lent_here<'a>(cursor: &Cursor<'a>, spot: Spot) -> Option<&'a [u8]>
     ensures { (count : ℕ → ℕ) → option_map (λ b. b.now) result ≡ lent_of (Some (spot_part count spot cursor.now)) }
 {

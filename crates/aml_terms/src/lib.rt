@@ -18,9 +18,9 @@ mod short;
 mod skip;
 mod spot;
 
+pub use aml_arities::{ArgumentCounts, Arities, Arity};
 pub use aml_grammar::{
-    ArgumentCounts, Arities, Arity, Item, Mark, Opcode, Operand, OperandView, Term, TermCode,
-    TermPart, TermReader,
+    Item, Mark, Opcode, Operand, OperandView, Term, TermCode, TermPart, TermReader,
 };
 pub use aml_marks::{Marks, scan_list, scan_list_within, scan_table, scan_table_within};
 pub use aml_scan::{ELSE, RowPlace, read_as_spelled, read_name};

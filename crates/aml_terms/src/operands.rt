@@ -3,9 +3,9 @@ ghost use Rattle.std.specs.Prelude.{◌≡◌, ◌<◌, ◌≤◌, ◌∷◌, []
 ghost use Rattle.aml_grammar.specs.Shape.{parts_of};
 ghost use Rattle.aml_grammar.specs.Apart.{part_at, operand_of};
 ghost use Rattle.aml_grammar.specs.Grammar.{is_if, is_nothing, kinds_of};
-ghost use Rattle.aml_marked.specs.Marked.{count_at, a_term, an_else, with_row, all_operands, of_row, over, a_field};
-ghost use Rattle.aml_marked.specs.Marked.{an_access_field, an_extended_access_field, a_named_field};
-ghost use Rattle.aml_marked.specs.Parting.{kind_count};
+ghost use Rattle.aml_marks.specs.Marked.{count_at, a_term, an_else, with_row, all_operands, of_row, over, a_field};
+ghost use Rattle.aml_marks.specs.Marked.{an_access_field, an_extended_access_field, a_named_field};
+ghost use Rattle.aml_marks.specs.Parting.{kind_count};
 ghost use Rattle.aml_terms.specs.AtTree.{at_tree, place_at};
 ghost use Rattle.aml_terms.specs.Spots.{spot_part};
 
@@ -18,7 +18,9 @@ use aml_marks::Marks;
 use aml_scan::{is_nothing, row_of, starts_name};
 
 /// Goes to an operand among kinds that stand one after another.
-#[tactic(auto, using(aml_marked::proofs::Parting::parting), unfolding(aml_marked::specs::Marked::all_operands, aml_marked::specs::Marked::after, aml_marked::specs::Marked::gives))]
+#[tactic(auto, using(aml_marks::proofs::Parting::parting), //
+unfolding(aml_marks::specs::Marked::all_operands, aml_marks::specs::Marked::after, //
+aml_marks::specs::Marked::gives))]
 fn to_kind(
     cursor: &mut Cursor<'_>,
     marks: &Marks,
@@ -62,7 +64,8 @@ fn kind_count(kinds: &[OperandKind]) -> usize
 
 /// Goes to an operand of a row.
 #[inline(always)]
-#[tactic(auto, using(aml_marked::proofs::Parting::parting), unfolding(aml_marked::specs::Marked::of_row, aml_marked::specs::Marked::inside))]
+#[tactic(auto, using(aml_marks::proofs::Parting::parting), //
+unfolding(aml_marks::specs::Marked::of_row, aml_marks::specs::Marked::inside))]
 fn to_row_operand(
     cursor: &mut Cursor<'_>,
     marks: &Marks,
@@ -122,7 +125,8 @@ fn to_later_operand(
 
 /// Goes to an operand of a term with an opcode.
 #[inline(always)]
-#[tactic(auto, using(aml_marked::proofs::Parting::parting), unfolding(aml_marked::specs::Marked::with_row, aml_marked::specs::Marked::after, aml_marked::specs::Marked::gives))]
+#[tactic(auto, using(aml_marks::proofs::Parting::parting), //
+unfolding(aml_marks::specs::Marked::with_row, aml_marks::specs::Marked::after, aml_marks::specs::Marked::gives))]
 fn to_operand_of_row(
     cursor: &mut Cursor<'_>,
     marks: &Marks,
@@ -141,7 +145,8 @@ fn to_operand_of_row(
 }
 
 /// Goes to an operand of an If: its Else is its last one.
-#[tactic(auto, using(aml_marked::proofs::Parting::parting), unfolding(aml_marked::specs::Marked::with_row, aml_marked::specs::Marked::after, aml_marked::specs::Marked::gives))]
+#[tactic(auto, using(aml_marks::proofs::Parting::parting), //
+unfolding(aml_marks::specs::Marked::with_row, aml_marks::specs::Marked::after, aml_marks::specs::Marked::gives))]
 fn to_operand_of_if(
     cursor: &mut Cursor<'_>,
     marks: &Marks,
@@ -165,7 +170,10 @@ fn to_operand_of_if(
 }
 
 /// Goes to an operand of a term.
-#[tactic(auto, using(aml_marked::proofs::Parting::parting), unfolding(aml_marked::specs::Marked::a_name, aml_marked::specs::Marked::a_call, aml_marked::specs::Marked::with_row, aml_marked::specs::Marked::a_coded, aml_marked::specs::Marked::a_term_in, aml_marked::specs::Marked::an_operand, aml_marked::specs::Marked::after, aml_marked::specs::Marked::gives))]
+#[tactic(auto, using(aml_marks::proofs::Parting::parting), //
+unfolding(aml_marks::specs::Marked::a_name, aml_marks::specs::Marked::a_call, aml_marks::specs::Marked::with_row, //
+aml_marks::specs::Marked::a_coded, aml_marks::specs::Marked::a_term_in, aml_marks::specs::Marked::an_operand, //
+aml_marks::specs::Marked::after, aml_marks::specs::Marked::gives))]
 fn to_operand(
     cursor: &mut Cursor<'_>,
     marks: &Marks,
@@ -198,7 +206,9 @@ fn to_operand(
 }
 
 /// Goes to the list of an Else.
-#[tactic(auto, using(aml_marked::proofs::Parting::parting), unfolding(aml_marked::specs::Marked::an_else, aml_marked::specs::Marked::inside, aml_marked::specs::Marked::an_operand, aml_marked::specs::Marked::after, aml_marked::specs::Marked::gives))]
+#[tactic(auto, using(aml_marks::proofs::Parting::parting), //
+unfolding(aml_marks::specs::Marked::an_else, aml_marks::specs::Marked::inside, //
+aml_marks::specs::Marked::an_operand, aml_marks::specs::Marked::after, aml_marks::specs::Marked::gives))]
 fn to_else_operand(cursor: &mut Cursor<'_>, levels: u8, index: usize) -> Option<Spot>
     ensures { (count : ℕ → ℕ) → option_map (λ s. spot_part count s cursor.new) result ≡
         operand_of (an_else (a_term count levels) cursor.old).0 index }
@@ -212,7 +222,11 @@ fn to_else_operand(cursor: &mut Cursor<'_>, levels: u8, index: usize) -> Option<
 }
 
 /// Goes to an operand of a field element.
-#[tactic(auto, using(aml_marked::proofs::Parting::parting), unfolding(aml_marked::specs::Marked::a_field, aml_marked::specs::Marked::a_reserved_field, aml_marked::specs::Marked::a_connect_field, aml_marked::specs::Marked::a_named_field, aml_marked::specs::Marked::an_operand, aml_marked::specs::Marked::a_name, aml_marked::specs::Marked::after, aml_marked::specs::Marked::gives))]
+#[tactic(auto, using(aml_marks::proofs::Parting::parting), //
+unfolding(aml_marks::specs::Marked::a_field, aml_marks::specs::Marked::a_reserved_field, //
+aml_marks::specs::Marked::a_connect_field, aml_marks::specs::Marked::a_named_field, //
+aml_marks::specs::Marked::an_operand, aml_marks::specs::Marked::a_name, aml_marks::specs::Marked::after, //
+aml_marks::specs::Marked::gives))]
 fn to_field_operand(cursor: &mut Cursor<'_>, levels: u8, index: usize) -> Option<Spot>
     ensures { (count : ℕ → ℕ) → option_map (λ s. spot_part count s cursor.new) result ≡
         operand_of (a_field (a_term count levels) cursor.old).0 index }
@@ -246,7 +260,9 @@ fn to_only(cursor: &mut Cursor<'_>, spot: Spot, index: usize) -> Option<Spot>
 const BYTE: Spot = Spot::Operand(OperandKind::ByteData, 0);
 
 /// Goes to an operand of an access field: the access, or its attribute.
-#[tactic(auto, using(aml_marked::proofs::Parting::parting), unfolding(aml_marked::specs::Marked::an_access_field, aml_marked::specs::Marked::an_operand, aml_marked::specs::Marked::after, aml_marked::specs::Marked::gives))]
+#[tactic(auto, using(aml_marks::proofs::Parting::parting), //
+unfolding(aml_marks::specs::Marked::an_access_field, aml_marks::specs::Marked::an_operand, //
+aml_marks::specs::Marked::after, aml_marks::specs::Marked::gives))]
 fn to_access(cursor: &mut Cursor<'_>, index: usize) -> Option<Spot>
     ensures { (count : ℕ → ℕ) → option_map (λ s. spot_part count s cursor.new) result ≡
         operand_of (an_access_field cursor.old).0 index }
@@ -263,7 +279,9 @@ fn to_access(cursor: &mut Cursor<'_>, index: usize) -> Option<Spot>
 }
 
 /// Goes to an operand of an extended access field: the access, its attribute or its length.
-#[tactic(auto, using(aml_marked::proofs::Parting::parting), unfolding(aml_marked::specs::Marked::an_extended_access_field, aml_marked::specs::Marked::an_operand, aml_marked::specs::Marked::after, aml_marked::specs::Marked::gives))]
+#[tactic(auto, using(aml_marks::proofs::Parting::parting), //
+unfolding(aml_marks::specs::Marked::an_extended_access_field, aml_marks::specs::Marked::an_operand, //
+aml_marks::specs::Marked::after, aml_marks::specs::Marked::gives))]
 fn to_extended_access(cursor: &mut Cursor<'_>, index: usize) -> Option<Spot>
     ensures { (count : ℕ → ℕ) → option_map (λ s. spot_part count s cursor.new) result ≡
         operand_of (an_extended_access_field cursor.old).0 index }
@@ -285,7 +303,9 @@ fn to_extended_access(cursor: &mut Cursor<'_>, index: usize) -> Option<Spot>
 }
 
 /// Goes to an operand of a named field: its name, or its count of bits.
-#[tactic(auto, using(aml_marked::proofs::Parting::parting), unfolding(aml_marked::specs::Marked::a_named_field, aml_marked::specs::Marked::an_operand, aml_marked::specs::Marked::a_name, aml_marked::specs::Marked::after, aml_marked::specs::Marked::gives))]
+#[tactic(auto, using(aml_marks::proofs::Parting::parting), //
+unfolding(aml_marks::specs::Marked::a_named_field, aml_marks::specs::Marked::an_operand, //
+aml_marks::specs::Marked::a_name, aml_marks::specs::Marked::after, aml_marks::specs::Marked::gives))]
 fn to_named(cursor: &mut Cursor<'_>, levels: u8, index: usize) -> Option<Spot>
     ensures { (count : ℕ → ℕ) → option_map (λ s. spot_part count s cursor.new) result ≡
         operand_of (a_named_field cursor.old).0 index }
@@ -301,7 +321,7 @@ fn to_named(cursor: &mut Cursor<'_>, levels: u8, index: usize) -> Option<Spot>
 }
 
 /// Goes to an operand of what stands there.
-#[tactic(auto, using(aml_marked::proofs::Parting::parting))]
+#[tactic(auto, using(aml_marks::proofs::Parting::parting))]
 pub(crate) fn to_part<'a>(part: &At<'a>, cursor: &mut Cursor<'a>, index: usize) -> Option<Spot>
     requires { cursor.old ≡ place_at part.now }
     ensures { option_map (λ s. spot_part (count_at part.now.marks.now) s cursor.new) result ≡

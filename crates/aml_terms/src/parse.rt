@@ -6,7 +6,8 @@ ghost use Rattle.aml_grammar.specs.Grammar.{reading, table_reading};
 
 use crate::copying::copied_list;
 use crate::places::list_at;
-use aml_grammar::{ArgumentCounts, Arities, Term};
+use aml_arities::{ArgumentCounts, Arities};
+use aml_grammar::Term;
 use aml_marks::{scan_list, scan_table_apart};
 use aml_path::Path;
 use ar_space::Result;

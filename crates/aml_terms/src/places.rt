@@ -1,7 +1,7 @@
 //! Readers at the beginning of lists and terms.
 ghost use Rattle.std.specs.Prelude.{◌≡◌, ◌<◌, ◌≤◌, ◌-◌, ◌∷◌, ℕ, length, drop, false};
 ghost use Rattle.aml_grammar.specs.Shape.{trees_of};
-ghost use Rattle.aml_marked.specs.Marked.{count_at, a_term, to_end, trees_by, walk_levels};
+ghost use Rattle.aml_marks.specs.Marked.{count_at, a_term, to_end, trees_by, walk_levels};
 ghost use Rattle.aml_terms.specs.AtTree.{at_tree, at_list, place_at, behind_of};
 
 use crate::at::{At, Kind};
@@ -59,7 +59,9 @@ pub fn term_at<'a>(cursor: &Cursor<'a>, marks: &'a Marks, levels: u8, element: b
 
 /// The same, whatever stands there.
 #[inline(never)]
-#[tactic(auto, using(aml_marked::proofs::Walking::walking), unfolding(aml_marked::specs::Marked::a_coded, aml_marked::specs::Marked::a_term_in, aml_marked::specs::Marked::after, aml_marked::specs::Marked::gives))]
+#[tactic(auto, using(aml_marks::proofs::Walking::walking), //
+unfolding(aml_marks::specs::Marked::a_coded, aml_marks::specs::Marked::a_term_in, aml_marks::specs::Marked::after, //
+aml_marks::specs::Marked::gives))]
 fn other_term_at<'a>(cursor: &Cursor<'a>, marks: &'a Marks, levels: u8, element: bool) -> At<'a>
     ensures marks { result.marks.now ≡ marks.now }
     ensures tree { at_tree result ≡ (a_term (count_at marks.now) levels element cursor.now).0 }
@@ -96,7 +98,7 @@ pub(crate) fn behind<'a>(term: &At<'a>) -> Cursor<'a>
 }
 
 /// The list of terms that bytes hold, by the marks that their scan left. It takes no memory.
-#[tactic(auto, unfolding(aml_marked::specs::Marked::all_items))]
+#[tactic(auto, unfolding(aml_marks::specs::Marked::all_items))]
 pub fn list_at<'a>(bytes: &'a [u8], marks: &'a Marks) -> At<'a>
     ensures { at_list result ≡ trees_of (trees_by marks.now bytes.now) }
 {
@@ -110,7 +112,7 @@ pub fn list_at<'a>(bytes: &'a [u8], marks: &'a Marks) -> At<'a>
 /// `bytes` begin where the scan began and end where the list ends in which the term stands: what is behind the end of
 /// a package is no part of its last term. From offset 0 of all bytes that were scanned, and from each offset that is
 /// answered until it is their length, these are the terms of `list_at`, one after another.
-#[tactic(auto, using(aml_marked::proofs::Walking::walking))]
+#[tactic(auto, using(aml_marks::proofs::Walking::walking))]
 pub fn first_term<'a>(bytes: &'a [u8], at: usize, marks: &'a Marks) -> (At<'a>, usize)
     requires { at < length bytes.now }
     ensures tree { at_tree result.0 ≡

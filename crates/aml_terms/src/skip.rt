@@ -1,9 +1,9 @@
 //! Goes over terms by their marks. It takes no memory and refuses nothing.
 ghost use Rattle.std.specs.Prelude.{◌≡◌, Some, false};
 ghost use Rattle.aml_grammar.specs.Grammar.{is_if};
-ghost use Rattle.aml_marked.specs.Marked.{count_at, a_term, a_call, a_coded, an_opcode, with_row, of_row, all_operands};
-ghost use Rattle.aml_marked.specs.Marked.{an_operand, name_or_term, turns_of, maybe_else, an_else, target_of, a_target};
-ghost use Rattle.aml_marked.specs.Marked.{a_super_name, all_items, fields_left, a_field, to_end, first, Below};
+ghost use Rattle.aml_marks.specs.Marked.{count_at, a_term, a_call, a_coded, an_opcode, with_row, of_row, all_operands};
+ghost use Rattle.aml_marks.specs.Marked.{an_operand, name_or_term, turns_of, maybe_else, an_else, target_of, a_target};
+ghost use Rattle.aml_marks.specs.Marked.{a_super_name, all_items, fields_left, a_field, to_end, first, Below};
 
 use crate::cursor::Cursor;
 use crate::short::short_length;
@@ -14,7 +14,8 @@ use aml_scan::{ELSE, EXT_OP_PREFIX, is_nothing, row_of, starts_name};
 /// Goes over a term, with at most this many levels. Most terms are short ones, and take no call.
 #[cycle(skip)]
 #[inline(always)]
-#[tactic(auto, using(crate::proofs::ShortTerms::short_term, aml_marked::proofs::Walking::no_levels), unfolding(aml_marked::specs::Marked::gives))]
+#[tactic(auto, using(crate::proofs::ShortTerms::short_term, aml_marks::proofs::Walking::no_levels), //
+unfolding(aml_marks::specs::Marked::gives))]
 pub(crate) fn skip_term(cursor: &mut Cursor<'_>, marks: &Marks, levels: u8, element: bool)
     ensures { cursor.new ≡ (a_term (count_at marks.now) levels element cursor.old).1 }
 {
@@ -32,7 +33,9 @@ pub(crate) fn skip_term(cursor: &mut Cursor<'_>, marks: &Marks, levels: u8, elem
 /// Goes over a term, whatever its first byte is.
 #[cycle(skip)]
 #[inline(never)]
-#[tactic(auto, using(aml_marked::proofs::Walking::walking), unfolding(aml_marked::specs::Marked::a_name, aml_marked::specs::Marked::a_term_in, aml_marked::specs::Marked::after, aml_marked::specs::Marked::gives))]
+#[tactic(auto, using(aml_marks::proofs::Walking::walking), //
+unfolding(aml_marks::specs::Marked::a_name, aml_marks::specs::Marked::a_term_in, aml_marks::specs::Marked::after, //
+aml_marks::specs::Marked::gives))]
 fn skip_long_term(cursor: &mut Cursor<'_>, marks: &Marks, levels: u8, element: bool)
     ensures { cursor.new ≡ (a_term (count_at marks.now) levels element cursor.old).1 }
 {
@@ -50,7 +53,9 @@ fn skip_long_term(cursor: &mut Cursor<'_>, marks: &Marks, levels: u8, element: b
 
 /// Goes over a call: a name and its arguments.
 #[cycle(skip)]
-#[tactic(auto, using(aml_marked::proofs::Walking::walking), unfolding(aml_marked::specs::Marked::a_call, aml_marked::specs::Marked::after, aml_marked::specs::Marked::gives, aml_marked::specs::Marked::a_name))]
+#[tactic(auto, using(aml_marks::proofs::Walking::walking), //
+unfolding(aml_marks::specs::Marked::a_call, aml_marks::specs::Marked::after, aml_marks::specs::Marked::gives, //
+aml_marks::specs::Marked::a_name))]
 fn skip_call(cursor: &mut Cursor<'_>, marks: &Marks, levels: u8)
     ensures { cursor.new ≡ (a_call (a_term (count_at marks.now) levels) (count_at marks.now) cursor.old).1 }
 {
@@ -60,7 +65,7 @@ fn skip_call(cursor: &mut Cursor<'_>, marks: &Marks, levels: u8)
 }
 
 #[cycle(skip)]
-#[tactic(auto, using(aml_marked::proofs::Walking::walking))]
+#[tactic(auto, using(aml_marks::proofs::Walking::walking))]
 pub(crate) fn skip_arguments(cursor: &mut Cursor<'_>, marks: &Marks, levels: u8, count: usize)
     ensures { cursor.new ≡ (turns_of (a_term (count_at marks.now) levels false) count cursor.old).1 }
 {
@@ -72,7 +77,8 @@ pub(crate) fn skip_arguments(cursor: &mut Cursor<'_>, marks: &Marks, levels: u8,
 }
 
 /// Goes over the number of an opcode: one byte, or two after ExtOpPrefix.
-#[tactic(auto, unfolding(aml_marked::specs::Marked::an_opcode, aml_marked::specs::Marked::after, aml_marked::specs::Marked::gives))]
+#[tactic(auto, //
+unfolding(aml_marks::specs::Marked::an_opcode, aml_marks::specs::Marked::after, aml_marks::specs::Marked::gives))]
 pub(crate) fn opcode(cursor: &mut Cursor<'_>) -> u16
     ensures value { result ≡ (an_opcode cursor.old).0 }
     ensures after { cursor.new ≡ (an_opcode cursor.old).1 }
@@ -90,7 +96,9 @@ pub(crate) fn opcode(cursor: &mut Cursor<'_>) -> u16
 
 /// Goes over a term that begins with an opcode.
 #[cycle(skip)]
-#[tactic(auto, using(aml_marked::proofs::Walking::walking), unfolding(aml_marked::specs::Marked::with_row, aml_marked::specs::Marked::a_coded, aml_marked::specs::Marked::after, aml_marked::specs::Marked::gives))]
+#[tactic(auto, using(aml_marks::proofs::Walking::walking), //
+unfolding(aml_marks::specs::Marked::with_row, aml_marks::specs::Marked::a_coded, aml_marks::specs::Marked::after, //
+aml_marks::specs::Marked::gives))]
 fn skip_coded(cursor: &mut Cursor<'_>, marks: &Marks, levels: u8)
     ensures { cursor.new ≡ (a_coded (a_term (count_at marks.now) levels) cursor.old).1 }
 {
@@ -111,7 +119,8 @@ pub(crate) fn is_if(opcode: Opcode) -> bool
 
 /// Goes over the operands of a term, and over the Else that may follow an If.
 #[cycle(skip)]
-#[tactic(auto, using(aml_marked::proofs::Walking::walking), unfolding(aml_marked::specs::Marked::with_row, aml_marked::specs::Marked::after, aml_marked::specs::Marked::gives))]
+#[tactic(auto, using(aml_marks::proofs::Walking::walking), //
+unfolding(aml_marks::specs::Marked::with_row, aml_marks::specs::Marked::after, aml_marks::specs::Marked::gives))]
 pub(crate) fn skip_row_term(cursor: &mut Cursor<'_>, marks: &Marks, levels: u8, row: &Row)
     ensures { cursor.new ≡ (with_row (a_term (count_at marks.now) levels) (Some row.now) cursor.old).1 }
 {
@@ -123,7 +132,9 @@ pub(crate) fn skip_row_term(cursor: &mut Cursor<'_>, marks: &Marks, levels: u8, 
 
 /// Goes over the operands of a row: over a package at once.
 #[cycle(skip)]
-#[tactic(auto, using(aml_marked::proofs::Walking::walking), unfolding(aml_marked::specs::Marked::of_row, aml_marked::specs::Marked::inside, aml_marked::specs::Marked::all_operands, aml_marked::specs::Marked::gives))]
+#[tactic(auto, using(aml_marks::proofs::Walking::walking), //
+unfolding(aml_marks::specs::Marked::of_row, aml_marks::specs::Marked::inside, //
+aml_marks::specs::Marked::all_operands, aml_marks::specs::Marked::gives))]
 pub(crate) fn skip_row(cursor: &mut Cursor<'_>, marks: &Marks, levels: u8, row: &Row)
     ensures { cursor.new ≡ (of_row (a_term (count_at marks.now) levels) row.now cursor.old).1 }
 {
@@ -137,7 +148,9 @@ pub(crate) fn skip_row(cursor: &mut Cursor<'_>, marks: &Marks, levels: u8, row: 
 }
 
 #[cycle(skip)]
-#[tactic(auto, using(aml_marked::proofs::Walking::walking), unfolding(aml_marked::specs::Marked::all_operands, aml_marked::specs::Marked::after, aml_marked::specs::Marked::gives))]
+#[tactic(auto, using(aml_marks::proofs::Walking::walking), //
+unfolding(aml_marks::specs::Marked::all_operands, aml_marks::specs::Marked::after, //
+aml_marks::specs::Marked::gives))]
 fn skip_operands(cursor: &mut Cursor<'_>, marks: &Marks, levels: u8, kinds: &[OperandKind])
     ensures { cursor.new ≡ (all_operands (a_term (count_at marks.now) levels) kinds.now cursor.old).1 }
 {
@@ -151,7 +164,9 @@ fn skip_operands(cursor: &mut Cursor<'_>, marks: &Marks, levels: u8, kinds: &[Op
 
 /// Goes over an operand.
 #[cycle(skip)]
-#[tactic(auto, using(aml_marked::proofs::Walking::walking), unfolding(aml_marked::specs::Marked::an_operand, aml_marked::specs::Marked::gives, aml_marked::specs::Marked::a_name, aml_marked::specs::Marked::a_target, aml_marked::specs::Marked::a_super_name))]
+#[tactic(auto, using(aml_marks::proofs::Walking::walking), //
+unfolding(aml_marks::specs::Marked::an_operand, aml_marks::specs::Marked::gives, aml_marks::specs::Marked::a_name, //
+aml_marks::specs::Marked::a_target, aml_marks::specs::Marked::a_super_name))]
 pub(crate) fn skip_operand(cursor: &mut Cursor<'_>, marks: &Marks, levels: u8, kind: OperandKind)
     ensures { cursor.new ≡ (an_operand (a_term (count_at marks.now) levels) kind cursor.old).1 }
 {
@@ -187,7 +202,7 @@ pub(crate) fn skip_operand(cursor: &mut Cursor<'_>, marks: &Marks, levels: u8, k
 
 /// Goes over a name, or else a term.
 #[cycle(skip)]
-#[tactic(auto, using(aml_marked::proofs::Walking::walking), unfolding(aml_marked::specs::Marked::a_name))]
+#[tactic(auto, using(aml_marks::proofs::Walking::walking), unfolding(aml_marks::specs::Marked::a_name))]
 pub(crate) fn skip_name_or_term(cursor: &mut Cursor<'_>, marks: &Marks, levels: u8)
     ensures { cursor.new ≡ (name_or_term (a_term (count_at marks.now) levels) (first cursor.old.rest) cursor.old).1 }
 {
@@ -200,7 +215,7 @@ pub(crate) fn skip_name_or_term(cursor: &mut Cursor<'_>, marks: &Marks, levels: 
 
 /// Goes over a target: a zero, a name or a term.
 #[cycle(skip)]
-#[tactic(auto, using(aml_marked::proofs::Walking::walking))]
+#[tactic(auto, using(aml_marks::proofs::Walking::walking))]
 pub(crate) fn skip_target(cursor: &mut Cursor<'_>, marks: &Marks, levels: u8)
     ensures { cursor.new ≡ (target_of (a_term (count_at marks.now) levels) (first cursor.old.rest) cursor.old).1 }
 {
@@ -213,7 +228,7 @@ pub(crate) fn skip_target(cursor: &mut Cursor<'_>, marks: &Marks, levels: u8)
 
 /// Goes over terms to the end of their list.
 #[cycle(skip)]
-#[tactic(auto, using(aml_marked::proofs::Walking::walking), unfolding(aml_marked::specs::Marked::all_items))]
+#[tactic(auto, using(aml_marks::proofs::Walking::walking), unfolding(aml_marks::specs::Marked::all_items))]
 fn skip_items(cursor: &mut Cursor<'_>, marks: &Marks, levels: u8, element: bool)
     ensures { cursor.new ≡ (all_items (a_term (count_at marks.now) levels) element cursor.old).1 }
 {
@@ -226,7 +241,7 @@ fn skip_items(cursor: &mut Cursor<'_>, marks: &Marks, levels: u8, element: bool)
 
 /// Goes over field elements to the end of their list.
 #[cycle(skip)]
-#[tactic(auto, using(aml_marked::proofs::Walking::walking), unfolding(aml_marked::specs::Marked::fields_left))]
+#[tactic(auto, using(aml_marks::proofs::Walking::walking), unfolding(aml_marks::specs::Marked::fields_left))]
 fn skip_fields(cursor: &mut Cursor<'_>, marks: &Marks, levels: u8)
     ensures { cursor.new ≡ (fields_left (a_term (count_at marks.now) levels) cursor.old).1 }
 {
@@ -239,7 +254,12 @@ fn skip_fields(cursor: &mut Cursor<'_>, marks: &Marks, levels: u8)
 
 /// Goes over a field element.
 #[cycle(skip)]
-#[tactic(auto, using(aml_marked::proofs::Walking::walking), unfolding(aml_marked::specs::Marked::a_field, aml_marked::specs::Marked::a_reserved_field, aml_marked::specs::Marked::an_access_field, aml_marked::specs::Marked::an_extended_access_field, aml_marked::specs::Marked::a_connect_field, aml_marked::specs::Marked::a_named_field, aml_marked::specs::Marked::a_super_name, aml_marked::specs::Marked::a_name, aml_marked::specs::Marked::after, aml_marked::specs::Marked::gives))]
+#[tactic(auto, using(aml_marks::proofs::Walking::walking), //
+unfolding(aml_marks::specs::Marked::a_field, aml_marks::specs::Marked::a_reserved_field, //
+aml_marks::specs::Marked::an_access_field, aml_marks::specs::Marked::an_extended_access_field, //
+aml_marks::specs::Marked::a_connect_field, aml_marks::specs::Marked::a_named_field, //
+aml_marks::specs::Marked::a_super_name, aml_marks::specs::Marked::a_name, aml_marks::specs::Marked::after, //
+aml_marks::specs::Marked::gives))]
 pub(crate) fn skip_field(cursor: &mut Cursor<'_>, marks: &Marks, levels: u8)
     ensures { cursor.new ≡ (a_field (a_term (count_at marks.now) levels) cursor.old).1 }
 {
@@ -266,7 +286,8 @@ pub(crate) fn skip_field(cursor: &mut Cursor<'_>, marks: &Marks, levels: u8)
 }
 
 /// Goes over an Else, where one follows.
-#[tactic(auto, using(aml_marked::proofs::Walking::walking), unfolding(aml_marked::specs::Marked::maybe_else, aml_marked::specs::Marked::gives))]
+#[tactic(auto, using(aml_marks::proofs::Walking::walking), //
+unfolding(aml_marks::specs::Marked::maybe_else, aml_marks::specs::Marked::gives))]
 pub(crate) fn skip_else(cursor: &mut Cursor<'_>)
     ensures { (below : Below) → cursor.new ≡ (maybe_else below cursor.old).1 }
 {
@@ -276,7 +297,9 @@ pub(crate) fn skip_else(cursor: &mut Cursor<'_>)
 }
 
 /// Goes over an Else.
-#[tactic(auto, using(aml_marked::proofs::Walking::walking), unfolding(aml_marked::specs::Marked::an_else, aml_marked::specs::Marked::inside, aml_marked::specs::Marked::after, aml_marked::specs::Marked::gives))]
+#[tactic(auto, using(aml_marks::proofs::Walking::walking), //
+unfolding(aml_marks::specs::Marked::an_else, aml_marks::specs::Marked::inside, aml_marks::specs::Marked::after, //
+aml_marks::specs::Marked::gives))]
 pub(crate) fn over_else(cursor: &mut Cursor<'_>)
     ensures { (below : Below) → cursor.new ≡ (an_else below cursor.old).1 }
 {

@@ -97,3 +97,5 @@ entries_known bytes rest entry e = entries_some bytes rest (Some entry) e
 
 pub entries_passed : (bytes rest : List ℕ) → first_structure bytes ≡ Some (None, rest) → entries_in bytes ≡ entries_in rest
 entries_passed bytes rest e = entries_some bytes rest None e
+
+pub ruleset entries = (entries_none, entries_known, entries_passed)

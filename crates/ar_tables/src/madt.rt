@@ -120,7 +120,7 @@ impl<'a> Iterator for MadtEntries<'a> {
 }
 
 /// The first entry of bytes, and the bytes behind it.
-#[tactic(auto, using(crate::proofs::Structures::entries_none, crate::proofs::Structures::entries_known, crate::proofs::Structures::entries_passed))]
+#[tactic(auto, using(crate::proofs::Structures::entries))]
 fn next_entry(bytes: &[u8]) -> (Option<MadtEntry>, &[u8])
     ensures { MatchOption result.0 ((entries_in bytes.now ≡ []) × (entries_in result.1.now ≡ []))
         (λ entry. entries_in bytes.now ≡ entry ∷ entries_in result.1.now) }

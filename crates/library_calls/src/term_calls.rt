@@ -1,6 +1,6 @@
 //! The calls that read terms of AML.
 use crate::promise::{Ended, answered};
-use aml_marked::marked_count;
+use aml_marks::marked_count;
 use aml_path::Path;
 use aml_scan::{row_of, scan};
 use aml_terms::{

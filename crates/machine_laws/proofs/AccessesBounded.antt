@@ -7,7 +7,7 @@ use Rattle.ar_space.specs.declared.space.Width.{Width}
 use Rattle.ar_space.specs.declared.space.Place.{Place}
 use Rattle.ar_space.specs.Accesses.{Accesses}
 use Rattle.ar_space.specs.Outcome.{Outcome}
-use Rattle.aml_meaning.specs.State.{State}
+use Rattle.aml_world.specs.state.State.{State}
 use Rattle.aml_laws.specs.Becomes.{Becomes}
 use Rattle.aml_laws.specs.Reached.{Reached}
 use Rattle.aml_laws.specs.Reached as reached

@@ -5,14 +5,15 @@ use Rattle.std.proofs.lemmas.Bool.{lt-ltb}
 use Rattle.ar_space.specs.Accesses.{Accesses}
 use Rattle.ar_space.specs.Change.{settle, stop, go_on, ◌>>=◌}
 use Rattle.aml_path.specs.declared.segment.Seg.{Seg}
-use Rattle.aml_meaning.specs.declared.pci_functions.Sought.TheVariants as sought
-use Rattle.aml_meaning.specs.declared.profile.Profile.{Profile}
-use Rattle.aml_meaning.specs.declared.profile.Profile.TheVariants as profiles
-use Rattle.aml_meaning.specs.Bridges.{with_scope, bridges_over}
-use Rattle.aml_meaning.specs.Calling.{released, ending, with_steps}
-use Rattle.aml_meaning.specs.PciFunctions.{segment_group, base_bus, nearest_from, nearest, or_behind, behind_asked}
-use Rattle.aml_meaning.specs.Run.{lift}
-use Rattle.aml_meaning.specs.State.{State}
+use Rattle.aml_world.specs.declared.fields.pci_functions.Sought.TheVariants as sought
+use Rattle.aml_world.specs.declared.state.profile.Profile.{Profile}
+use Rattle.aml_world.specs.declared.state.profile.Profile.TheVariants as profiles
+use Rattle.aml_world.specs.fields.Bridges.{with_scope, bridges_over}
+use Rattle.aml_world.specs.state.Mutexes.{released}
+use Rattle.aml_world.specs.fields.PciFunctions.{segment_group, base_bus, nearest_from, nearest, or_behind, behind_asked}
+use Rattle.aml_world.specs.state.Run.{lift}
+use Rattle.aml_world.specs.state.State.{State}
+use Rattle.aml_meaning.specs.Calling.{ending, with_steps}
 use Rattle.aml_laws.specs.BusesFound.{BusesFound, TellAddresses, TellsPart}
 use Rattle.aml_laws.specs.PciScopes.{IsBridgeAt, NoneSuch}
 use Rattle.aml_laws.proofs.BusesFound.{part_told, buses_found}

@@ -13,12 +13,13 @@ use Rattle.ar_tables.specs.declared.mode.Mode.{Mode}
 use Rattle.aml_path.specs.declared.segment.Seg.{Seg}
 use Rattle.aml_path.specs.Characters.{is_segment}
 use Rattle.aml_path.proofs.Segments.{seg_is}
-use Rattle.aml_meaning.specs.declared.profile.Profile.TheVariants as profiles
-use Rattle.aml_meaning.specs.Given.{Given}
-use Rattle.aml_meaning.specs.Given as given
+use Rattle.aml_world.specs.declared.state.profile.Profile.TheVariants as profiles
+use Rattle.aml_world.specs.state.Given.{Given}
+use Rattle.aml_world.specs.state.Given as given
+use Rattle.aml_world.specs.state.PassedOver.{is_passable}
+use Rattle.aml_world.specs.state.Profiles.{is_wide}
+use Rattle.aml_world.specs.state.Noting.{with_passed}
 use Rattle.aml_meaning.specs.Calling.{answered}
-use Rattle.aml_meaning.specs.PassedOver.{is_passable}
-use Rattle.aml_meaning.specs.Passing.{is_wide, with_passed}
 use Rattle.aml_laws.specs.Becomes.{same, answer}
 use Rattle.aml_laws.proofs.ProfileKept.{profile_is_kept}
 use Rattle.acpi_machine.specs.Calls.{on_world, unless_spent, mode_number, call_done, call_passing, object_answered, object_called, called_where_it_stands, initial_calls, started, initialized}

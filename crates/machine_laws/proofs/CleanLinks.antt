@@ -24,10 +24,10 @@ use Rattle.ar_space.specs.Outcome.{Outcome, ◌>>=◌}
 use Rattle.ar_space.specs.declared.refusal.Refusal.{Refusal}
 use Rattle.aml_path.specs.declared.segment.Seg.{Seg}
 use Rattle.aml_namespace.specs.Namespace.{Map}
-use Rattle.aml_meaning.specs.declared.profile.Profile.{Profile}
-use Rattle.aml_meaning.specs.declared.profile.Profile.TheVariants.{Core, Wide}
-use Rattle.aml_meaning.specs.Given as given
-use Rattle.aml_meaning.specs.Given.{Given}
+use Rattle.aml_world.specs.declared.state.profile.Profile.{Profile}
+use Rattle.aml_world.specs.declared.state.profile.Profile.TheVariants.{Core, Wide}
+use Rattle.aml_world.specs.state.Given as given
+use Rattle.aml_world.specs.state.Given.{Given}
 use Rattle.aml_laws.proofs.CleanOutcomes.{Clean, CleanRefusal, followed_clean, if_clean}
 use Rattle.aml_laws.proofs.CleanValues.{seg_of_clean}
 

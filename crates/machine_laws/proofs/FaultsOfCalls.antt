@@ -8,9 +8,9 @@ use Rattle.ar_tables.specs.declared.mode.Mode.{Mode}
 use Rattle.aml_path.specs.declared.segment.Seg.{Seg}
 use Rattle.ar_space.specs.Outcome.{Outcome}
 use Rattle.ar_space.specs.declared.refusal.Refusal.{Refusal}
-use Rattle.aml_meaning.specs.Given.{Given}
-use Rattle.aml_meaning.specs.PassedOver.{is_passable}
-use Rattle.aml_meaning.specs.Passing.{is_wide}
+use Rattle.aml_world.specs.state.Given.{Given}
+use Rattle.aml_world.specs.state.PassedOver.{is_passable}
+use Rattle.aml_world.specs.state.Profiles.{is_wide}
 use Rattle.aml_laws.proofs.CleanOutcomes.{Clean, followed_clean}
 use Rattle.aml_laws.proofs.CleanValues.{seg_of_clean}
 use Rattle.aml_laws.proofs.FaultsOfChanges.{Explained, RefusalExplained, Explains, spent_with_none, direct_explains, give_explains, stop_explains, settle_explains, then_explains, either_branch_explains}

@@ -21,8 +21,8 @@ use Rattle.acpi_resources.specs.Records.{InterruptOffer}
 use Rattle.ar_space.specs.Accesses.{Accesses}
 use Rattle.ar_space.specs.Change.{Change}
 use Rattle.aml_path.specs.declared.segment.Seg.{Seg}
-use Rattle.aml_meaning.specs.Given as given
-use Rattle.aml_meaning.specs.Given.{Given}
+use Rattle.aml_world.specs.state.Given as given
+use Rattle.aml_world.specs.state.Given.{Given}
 use Rattle.aml_laws.proofs.FaultsOfChanges.{direct_explains, either_branch_explains, give_explains, settle_explains, stop_explains, then_explains}
 
 -- what changes for each of a list add

@@ -4,7 +4,7 @@ use Rattle.ar_space.specs.Accesses.{Accesses}
 use Rattle.ar_tables.specs.declared.tables.Tables.{Tables}
 use Rattle.aml_path.specs.declared.segment.Seg.{Seg}
 use Rattle.aml_objects.specs.declared.entry.NamedObject.{NamedObject}
-use Rattle.aml_meaning.specs.Predefined.{takes, at_root, predefined_scopes, predefined_objects, predefined}
+use Rattle.aml_world.specs.state.Predefined.{takes, at_root, predefined_scopes, predefined_objects, predefined}
 use Rattle.aml_laws.proofs.CleanOutcomes.{Clean, if_clean}
 use Rattle.aml_laws.proofs.CleanValues.{seg_of_clean}
 use Rattle.aml_laws.proofs.CleanNames.{declared_clean}

@@ -12,14 +12,14 @@ use Rattle.ar_tables.specs.declared.mode.Mode.{Mode}
 use Rattle.ar_tables.specs.declared.mode.Mode.TheVariants.{Pic, Apic}
 use Rattle.aml_path.specs.declared.segment.Seg.{Seg}
 use Rattle.aml_objects.specs.declared.entry.Entry.{Entry}
-use Rattle.aml_meaning.specs.declared.profile.Profile.{Profile}
-use Rattle.aml_meaning.specs.declared.profile.Profile.TheVariants as profiles
+use Rattle.aml_world.specs.declared.state.profile.Profile.{Profile}
+use Rattle.aml_world.specs.declared.state.profile.Profile.TheVariants as profiles
+use Rattle.aml_world.specs.state.Given.{Given}
+use Rattle.aml_world.specs.state.Given as given
+use Rattle.aml_world.specs.state.PassedOver.{is_passable}
+use Rattle.aml_world.specs.state.Profiles.{is_wide}
+use Rattle.aml_world.specs.state.State.{State}
 use Rattle.aml_meaning.specs.Calling.{answered}
-use Rattle.aml_meaning.specs.Given.{Given}
-use Rattle.aml_meaning.specs.Given as given
-use Rattle.aml_meaning.specs.PassedOver.{is_passable}
-use Rattle.aml_meaning.specs.Passing.{is_wide}
-use Rattle.aml_meaning.specs.State.{State}
 use Rattle.acpi_machine.specs.Calls.{on_world, unless_spent, mode_number, call_done, call_passing, object_answered, object_called, called_where_it_stands, initial_calls, started, initialized}
 use Rattle.acpi_machine.specs.FixedPaths.{at_root, below_root}
 use Rattle.acpi_machine.specs.MachineStates.{MachineState}

@@ -3,8 +3,8 @@ use Rattle.std.specs.Prelude.{◌≡◌, ℕ, List, [], ◌∷◌, ◌++◌, Boo
 use Rattle.ar_space.specs.Accesses.{Accesses}
 use Rattle.ar_space.specs.Change.{Change}
 use Rattle.aml_path.specs.declared.segment.Seg.{Seg}
-use Rattle.aml_meaning.specs.Given.{Given}
-use Rattle.aml_meaning.specs.Given as given
+use Rattle.aml_world.specs.state.Given.{Given}
+use Rattle.aml_world.specs.state.Given as given
 use Rattle.acpi_resources.specs.Offers.{possible_as}
 use Rattle.acpi_resources.specs.Records.{InterruptOffer}
 use Rattle.acpi_machine.specs.Buses.{prt}

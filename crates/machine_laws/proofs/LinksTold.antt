@@ -25,10 +25,10 @@ use Rattle.aml_objects.specs.declared.entry.NamedObject.TheVariants as object
 use Rattle.aml_objects.specs.declared.value.Value.{Value}
 use Rattle.aml_objects.specs.declared.value.Value.TheVariants as value
 use Rattle.aml_namespace.specs.Namespace.{Map}
-use Rattle.aml_meaning.specs.declared.profile.Profile.{Profile}
-use Rattle.aml_meaning.specs.declared.profile.Profile.TheVariants.{Core, Wide}
-use Rattle.aml_meaning.specs.Given.{Given, Givens, givens}
-use Rattle.aml_meaning.specs.Given as given
+use Rattle.aml_world.specs.declared.state.profile.Profile.{Profile}
+use Rattle.aml_world.specs.declared.state.profile.Profile.TheVariants.{Core, Wide}
+use Rattle.aml_world.specs.state.Given.{Given, Givens, givens}
+use Rattle.aml_world.specs.state.Given as given
 use Rattle.acpi_machine.specs.Buses.{prt}
 use Rattle.acpi_machine.specs.Calls.{evaluated_object}
 use Rattle.acpi_machine.specs.Children.{stands, some_answer, answer_if_any, child_evaluated}

@@ -4,8 +4,8 @@ use Rattle.ar_space.specs.Accesses.{Accesses}
 use Rattle.ar_tables.specs.declared.mode.Mode.{Mode}
 use Rattle.ar_tables.specs.declared.tables.Tables.{Tables}
 use Rattle.aml_path.specs.declared.segment.Seg.{Seg}
-use Rattle.aml_meaning.specs.Given.{Given}
-use Rattle.aml_meaning.specs.State.{State}
+use Rattle.aml_world.specs.state.Given.{Given}
+use Rattle.aml_world.specs.state.State.{State}
 use Rattle.aml_laws.specs.Noted.{WithNotes, noted, TellsNotes}
 use Rattle.aml_laws.proofs.NotesOfFaults.{explained_told}
 use Rattle.acpi_machine.specs.MachineStates.{MachineState}

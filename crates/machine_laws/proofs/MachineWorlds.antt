@@ -12,14 +12,14 @@ use Rattle.ar_space.specs.Change.{Change, settle, give, stop, go_on, ◌>>=◌, 
 use Rattle.ar_tables.specs.declared.mode.Mode.{Mode}
 use Rattle.ar_tables.specs.declared.tables.Tables.{Tables}
 use Rattle.aml_path.specs.declared.segment.Seg.{Seg}
-use Rattle.aml_meaning.specs.declared.profile.Profile.{Profile}
-use Rattle.aml_meaning.specs.declared.settings.EvaluationSettings.{EvaluationSettings}
-use Rattle.aml_meaning.specs.declared.profile.Profile.TheVariants as profiles
-use Rattle.aml_meaning.specs.Given.{Given}
-use Rattle.aml_meaning.specs.PassedOver.{is_passable}
-use Rattle.aml_meaning.specs.Passing.{is_wide}
-use Rattle.aml_meaning.specs.Predefined.{fresh_as, predefined}
-use Rattle.aml_meaning.specs.State.{State}
+use Rattle.aml_world.specs.declared.state.profile.Profile.{Profile}
+use Rattle.aml_world.specs.declared.state.settings.EvaluationSettings.{EvaluationSettings}
+use Rattle.aml_world.specs.declared.state.profile.Profile.TheVariants as profiles
+use Rattle.aml_world.specs.state.Given.{Given}
+use Rattle.aml_world.specs.state.PassedOver.{is_passable}
+use Rattle.aml_world.specs.state.Profiles.{is_wide}
+use Rattle.aml_world.specs.state.Predefined.{fresh_as, predefined}
+use Rattle.aml_world.specs.state.State.{State}
 use Rattle.aml_laws.specs.Becomes.{Becomes, same, term, list, table, value, answer, passed}
 use Rattle.aml_laws.specs.PassedNotes.{KeepsTheFirst, GoesOn}
 use Rattle.aml_laws.proofs.NotesKept.{notes_go_on, first_are_kept, first_are_always_kept}

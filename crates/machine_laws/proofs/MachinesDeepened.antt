@@ -7,9 +7,9 @@ use Rattle.ar_space.specs.Change.{Change}
 use Rattle.ar_tables.specs.declared.mode.Mode.{Mode}
 use Rattle.ar_tables.specs.declared.tables.Tables.{Tables}
 use Rattle.aml_path.specs.declared.segment.Seg.{Seg}
-use Rattle.aml_meaning.specs.declared.settings.Nesting.{Nesting}
-use Rattle.aml_meaning.specs.Given.{Given}
-use Rattle.aml_meaning.specs.State.{State}
+use Rattle.aml_world.specs.declared.state.settings.Nesting.{Nesting}
+use Rattle.aml_world.specs.state.Given.{Given}
+use Rattle.aml_world.specs.state.State.{State}
 use Rattle.aml_laws.specs.Deepened.{deeper_by, deepened, IsDepthSetting}
 use Rattle.aml_laws.proofs.Together.{Together, Comes}
 use Rattle.aml_laws.proofs.Deepening.{set_by, deepening, in_one_world, world_comes}

@@ -8,8 +8,8 @@ use Rattle.ar_space.specs.Change.{Change, give, go_on, ◌>>=◌}
 use Rattle.ar_tables.specs.declared.mode.Mode.{Mode}
 use Rattle.ar_tables.specs.declared.tables.Tables.{Tables}
 use Rattle.aml_path.specs.declared.segment.Seg.{Seg}
-use Rattle.aml_meaning.specs.Given as given
-use Rattle.aml_meaning.specs.State.{State}
+use Rattle.aml_world.specs.state.Given as given
+use Rattle.aml_world.specs.state.State.{State}
 use Rattle.acpi_machine.specs.MachineStates.{MachineState}
 use Rattle.acpi_machine.specs.Loading.{table_loaded, each_loaded, all_loaded, loaded_tables}
 use Rattle.acpi_machine.specs.Calls.{on_world, unless_spent, call_passing, object_answered, evaluated_object, object_called, called_where_it_stands, initial_calls, started, initialized}

@@ -8,9 +8,9 @@ use Rattle.ar_space.specs.Change.{Change}
 use Rattle.ar_tables.specs.declared.mode.Mode.{Mode}
 use Rattle.ar_tables.specs.declared.tables.Tables.{Tables}
 use Rattle.aml_path.specs.declared.segment.Seg.{Seg}
-use Rattle.aml_meaning.specs.declared.profile.Profile.TheVariants as profiles
-use Rattle.aml_meaning.specs.Given.{Given}
-use Rattle.aml_meaning.specs.State.{State}
+use Rattle.aml_world.specs.declared.state.profile.Profile.TheVariants as profiles
+use Rattle.aml_world.specs.state.Given.{Given}
+use Rattle.aml_world.specs.state.State.{State}
 use Rattle.aml_laws.specs.Widened.{widened, LeftOut, IsLeftOut, IsLeftOutAt}
 use Rattle.aml_laws.proofs.Levels.{level}
 use Rattle.aml_laws.proofs.Together.{Sides, Together, Comes, IsEnded}

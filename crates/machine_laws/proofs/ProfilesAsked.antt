@@ -9,8 +9,8 @@ use Rattle.ar_space.specs.Accesses.{Accesses}
 use Rattle.ar_space.specs.Outcome.{Outcome, ◌>>=◌}
 use Rattle.aml_path.specs.declared.segment.Seg.{Seg}
 use Rattle.aml_namespace.specs.Namespace.{Map}
-use Rattle.aml_meaning.specs.declared.profile.Profile.{Profile}
-use Rattle.aml_meaning.specs.declared.profile.Profile.TheVariants.{Core, Wide}
+use Rattle.aml_world.specs.declared.state.profile.Profile.{Profile}
+use Rattle.aml_world.specs.declared.state.profile.Profile.TheVariants.{Core, Wide}
 use Rattle.acpi_resources.specs.declared.exclusives.Exclusives.TheVariants.{Refused, Taken}
 use Rattle.acpi_resources.specs.Descriptors.{descriptor_of, extended_interrupt_descriptor}
 use Rattle.acpi_resources.specs.FlagByte.{is_edge, is_shared}

@@ -8,8 +8,8 @@ use Rattle.ar_space.specs.Accesses.{Accesses}
 use Rattle.ar_space.specs.Outcome.{Outcome}
 use Rattle.ar_space.specs.Change.{Change, settle, give, stop, go_on, ◌>>=◌}
 use Rattle.aml_path.specs.declared.segment.Seg.{Seg}
-use Rattle.aml_meaning.specs.Given.{Given}
-use Rattle.aml_meaning.specs.Given as given
+use Rattle.aml_world.specs.state.Given.{Given}
+use Rattle.aml_world.specs.state.Given as given
 use Rattle.aml_laws.specs.Becomes.{same, answer}
 use Rattle.acpi_resources.specs.Records.{InterruptOffer}
 use Rattle.acpi_machine.specs.Buses.{prt}

@@ -8,8 +8,8 @@ use Rattle.ar_space.specs.declared.refusal.EvaluationFault.TheVariants.{ObjectLi
 use Rattle.ar_space.specs.Outcome.{Outcome}
 use Rattle.ar_space.specs.Change.{give, settle, go_on, ◌>>=◌}
 use Rattle.ar_tables.specs.declared.tables.Tables.{Tables}
-use Rattle.aml_meaning.specs.State.{State}
-use Rattle.aml_meaning.specs.Predefined.{predefined}
+use Rattle.aml_world.specs.state.State.{State}
+use Rattle.aml_world.specs.state.Predefined.{predefined}
 use Rattle.acpi_machine.specs.Loading.{table_loaded, each_loaded, all_loaded, loaded_tables}
 use Rattle.machine_laws.specs.LoadedInTurn.{LoadedInTurn, no_more, refused, next}
 

@@ -10,9 +10,9 @@ use Rattle.ar_space.specs.Accesses.{Accesses}
 use Rattle.ar_space.specs.Outcome.{Outcome}
 use Rattle.ar_space.specs.Change.{stop, settle, go_on, ◌>>=◌, ◌>>◌}
 use Rattle.ar_tables.specs.declared.tables.Tables.{Tables}
-use Rattle.aml_meaning.specs.declared.settings.EvaluationSettings.{EvaluationSettings}
-use Rattle.aml_meaning.specs.Predefined.{fresh_as, predefined}
-use Rattle.aml_meaning.specs.State.{State}
+use Rattle.aml_world.specs.declared.state.settings.EvaluationSettings.{EvaluationSettings}
+use Rattle.aml_world.specs.state.Predefined.{fresh_as, predefined}
+use Rattle.aml_world.specs.state.State.{State}
 use Rattle.aml_laws.specs.Becomes.{Becomes, same}
 use Rattle.aml_laws.proofs.OsiKept.{osi_is_given}
 use Rattle.acpi_machine.specs.Calls.{unless_spent, texts_kept, few_texts_kept, osi_set}

@@ -1,7 +1,7 @@
 -- Machines in which calls and terms may be deeper, one inside another.
 use Rattle.std.specs.Prelude.{◌≡◌}
 use Rattle.ar_space.specs.Outcome.{Outcome}
-use Rattle.aml_meaning.specs.declared.settings.Nesting.{Nesting}
+use Rattle.aml_world.specs.declared.state.settings.Nesting.{Nesting}
 use Rattle.aml_laws.specs.Deepened.{deepened}
 use Rattle.acpi_machine.specs.MachineStates.{MachineState}
 

@@ -8,12 +8,12 @@ use Rattle.ar_tables.specs.declared.mode.Mode.{Mode}
 use Rattle.ar_tables.specs.declared.mode.Mode.TheVariants.{Pic, Apic}
 use Rattle.aml_path.specs.declared.segment.Seg.{Seg}
 use Rattle.aml_objects.specs.declared.entry.Entry.{Entry}
-use Rattle.aml_meaning.specs.declared.profile.Profile.TheVariants.{Core, Wide}
+use Rattle.aml_world.specs.declared.state.profile.Profile.TheVariants.{Core, Wide}
+use Rattle.aml_world.specs.state.Given as given
+use Rattle.aml_world.specs.state.PassedOver.{is_passable}
+use Rattle.aml_world.specs.state.Noting.{with_passed}
+use Rattle.aml_world.specs.state.State.{State}
 use Rattle.aml_meaning.specs.Calling.{answered}
-use Rattle.aml_meaning.specs.Given as given
-use Rattle.aml_meaning.specs.PassedOver.{is_passable}
-use Rattle.aml_meaning.specs.Passing.{with_passed}
-use Rattle.aml_meaning.specs.State.{State}
 use Rattle.acpi_machine.specs.MachineStates.{MachineState}
 
 abbrev pub ini : Seg

@@ -2,7 +2,7 @@
 use Rattle.std.specs.Prelude.{List}
 use Rattle.ar_space.specs.declared.refusal.Refusal.{Refusal}
 use Rattle.aml_path.specs.declared.segment.Seg.{Seg}
-use Rattle.aml_meaning.specs.Passing.{with_passed}
+use Rattle.aml_world.specs.state.Noting.{with_passed}
 use Rattle.acpi_machine.specs.MachineStates.{MachineState}
 
 -- the path of what was called, and what it was refused for

@@ -1,8 +1,8 @@
 -- The entries of a routing table (ACPI 6.5, 6.2.13 and table 6.15): their four parts, and what each may be.
 use Rattle.std.specs.Prelude.{◌≡◌, ◌<◌, ◌+◌, ◌*◌, ◌^◌, ℕ, List, [], ◌∷◌, length}
 use Rattle.aml_path.specs.declared.segment.Seg.{Seg}
-use Rattle.aml_meaning.specs.Given.{Given, Givens, givens}
-use Rattle.aml_meaning.specs.Given as given
+use Rattle.aml_world.specs.state.Given.{Given, Givens, givens}
+use Rattle.aml_world.specs.state.Given as given
 
 -- the address, the pin, the source and the source index, in this order
 abbrev pub entry_of : Given → Given → Given → Given → Given

@@ -4,7 +4,7 @@ ghost use Rattle.ar_space.specs.Accesses.{Accesses};
 ghost use Rattle.ar_space.specs.declared.refusal.SpaceFault.TheVariants.{Device};
 ghost use Rattle.ar_space.specs.declared.space.Place.{Place as Places};
 ghost use Rattle.ar_space.specs.declared.space.Width.{Width as Widths};
-ghost use Rattle.aml_meaning.specs.State.{State};
+ghost use Rattle.aml_world.specs.state.State.{State};
 ghost use Rattle.aml_laws.specs.Becomes.{Becomes};
 ghost use Rattle.aml_laws.specs.Reached.{Reached};
 ghost use Rattle.acpi_machine.specs.MachineStates.{MachineState};

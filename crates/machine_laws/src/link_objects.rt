@@ -9,9 +9,9 @@ ghost use Rattle.ar_space.specs.declared.refusal.RoutingTableFault.TheVariants.{
 ghost use Rattle.ar_space.specs.declared.refusal.ValueFault.TheVariants.{WrongType};
 ghost use Rattle.aml_path.specs.declared.segment.Seg.{Seg};
 ghost use Rattle.aml_path.specs.Text.{text_of};
-ghost use Rattle.aml_meaning.specs.declared.profile.Profile.TheVariants.{Core, Wide};
-ghost use Rattle.aml_meaning.specs.Given.{Given, Givens, givens};
-ghost use Rattle.aml_meaning.specs.Given as given;
+ghost use Rattle.aml_world.specs.declared.state.profile.Profile.TheVariants.{Core, Wide};
+ghost use Rattle.aml_world.specs.state.Given.{Given, Givens, givens};
+ghost use Rattle.aml_world.specs.state.Given as given;
 ghost use Rattle.acpi_machine.specs.Calls.{evaluated_object};
 ghost use Rattle.acpi_machine.specs.MachineStates.{MachineState};
 ghost use Rattle.acpi_resources.specs.declared.exclusives.Exclusives.TheVariants.{Refused, Taken};

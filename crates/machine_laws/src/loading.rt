@@ -11,9 +11,9 @@ ghost use Rattle.ar_space.specs.declared.integer_width.IntegerWidth.TheVariants.
 ghost use Rattle.ar_space.specs.Outcome.{Outcome};
 ghost use Rattle.ar_tables.specs.FindTables.{tables_of};
 ghost use Rattle.ar_tables.specs.declared.tables.Tables.{Tables};
-ghost use Rattle.aml_meaning.specs.State.{State};
-ghost use Rattle.aml_meaning.specs.Predefined.{fresh_as, predefined};
-ghost use Rattle.aml_meaning.specs.declared.settings.EvaluationSettings.{EvaluationSettings};
+ghost use Rattle.aml_world.specs.state.State.{State};
+ghost use Rattle.aml_world.specs.state.Predefined.{fresh_as, predefined};
+ghost use Rattle.aml_world.specs.declared.state.settings.EvaluationSettings.{EvaluationSettings};
 ghost use Rattle.acpi_machine.specs.Calls.{osi_set};
 ghost use Rattle.acpi_machine.specs.Loading.{all_loaded, loaded_tables};
 ghost use Rattle.acpi_machine.specs.MachineStates.{MachineState};

@@ -4,8 +4,8 @@ ghost use Rattle.ar_space.specs.Accesses.{Accesses};
 ghost use Rattle.ar_tables.specs.declared.mode.Mode.{Mode};
 ghost use Rattle.ar_tables.specs.declared.tables.Tables.{Tables};
 ghost use Rattle.aml_path.specs.declared.segment.Seg.{Seg};
-ghost use Rattle.aml_meaning.specs.Given.{Given};
-ghost use Rattle.aml_meaning.specs.State.{State};
+ghost use Rattle.aml_world.specs.state.Given.{Given};
+ghost use Rattle.aml_world.specs.state.State.{State};
 ghost use Rattle.aml_laws.specs.Widened.{widened, IsLeftOut, IsLeftOutAt};
 ghost use Rattle.acpi_resources.specs.Records.{InterruptOffer};
 ghost use Rattle.acpi_machine.specs.MachineStates.{MachineState};
@@ -78,7 +78,8 @@ pub fn the_wide_profile_gathers_what_the_core_one_does<S>()
 /// A report of a machine is one of the same machine in the wide profile, if no line of it tells of what the
 /// profile leaves out, and it leaves the same machine with the same registers: with options, with lines for a kernel,
 /// and without.
-#[tactic(auto, using(crate::proofs::ReportsWidened::widening_reports, crate::proofs::TellingWidened::report_for_kernels_widened))]
+#[tactic(auto, using(crate::proofs::ReportsWidened::widening_reports, //
+crate::proofs::TellingWidened::report_for_kernels_widened))]
 pub fn the_wide_profile_reports_what_the_core_one_does<S>()
     ensures report { (accesses : Accesses S) (dry : Bool) (avoid : List ℕ) (before after : MachineState S)
         (report : RoutingReport) → TellsNothingLeftOut report → IsReport accesses dry avoid before after report →

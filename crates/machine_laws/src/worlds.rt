@@ -15,10 +15,10 @@ ghost use Rattle.ar_space.specs.declared.integer_width.IntegerWidth.{IntegerWidt
 ghost use Rattle.ar_tables.specs.declared.mode.Mode.{Mode};
 ghost use Rattle.ar_tables.specs.declared.tables.Tables.{Tables};
 ghost use Rattle.aml_path.specs.declared.segment.Seg.{Seg};
-ghost use Rattle.aml_meaning.specs.Given.{Given};
-ghost use Rattle.aml_meaning.specs.Predefined.{fresh_as};
-ghost use Rattle.aml_meaning.specs.State.{State};
-ghost use Rattle.aml_meaning.specs.declared.settings.EvaluationSettings.{EvaluationSettings};
+ghost use Rattle.aml_world.specs.state.Given.{Given};
+ghost use Rattle.aml_world.specs.state.Predefined.{fresh_as};
+ghost use Rattle.aml_world.specs.state.State.{State};
+ghost use Rattle.aml_world.specs.declared.state.settings.EvaluationSettings.{EvaluationSettings};
 ghost use Rattle.aml_laws.specs.Becomes.{Becomes};
 ghost use Rattle.aml_laws.specs.PassedNotes.{KeepsTheFirst, GoesOn};
 ghost use Rattle.acpi_machine.specs.Calls.{called_where_it_stands, evaluated_object, initialized};

@@ -5,7 +5,7 @@ use Rattle.ar_space.specs.Accesses.{Accesses}
 use Rattle.ar_space.specs.Outcome.{Outcome}
 use Rattle.space_trace.specs.declared.access.Access.{Access}
 use Rattle.ar_tables.specs.declared.tables.Tables.{Tables}
-use Rattle.aml_meaning.specs.State.{State}
+use Rattle.aml_world.specs.state.State.{State}
 use Rattle.acpi_machine.specs.Calls.{initialized}
 use Rattle.acpi_machine.specs.MachineStates.{MachineState, machine_of}
 use Rattle.acpi_links.specs.Gatherings.{Gathering}

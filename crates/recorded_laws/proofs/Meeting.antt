@@ -6,8 +6,8 @@ use Rattle.ar_space.specs.declared.refusal.Refusal.{Refusal}
 use Rattle.ar_space.specs.Accesses.{Accesses}
 use Rattle.ar_space.specs.Outcome.{Outcome}
 use Rattle.ar_tables.specs.declared.tables.Tables.{Tables}
-use Rattle.aml_meaning.specs.State.{State}
-use Rattle.aml_meaning.specs.Predefined.{fresh_as}
+use Rattle.aml_world.specs.state.State.{State}
+use Rattle.aml_world.specs.state.Predefined.{fresh_as}
 use Rattle.acpi_machine.specs.Calls.{initialized}
 use Rattle.acpi_machine.specs.MachineStates.{MachineState, machine_of, sci_of}
 use Rattle.acpi_links.specs.Gatherings.{Gathering, gathered}

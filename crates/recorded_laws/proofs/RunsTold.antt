@@ -8,8 +8,8 @@ use Rattle.ar_space.specs.declared.refusal.Refusal.TheVariants as refusal
 use Rattle.ar_space.specs.Accesses.{Accesses}
 use Rattle.ar_space.specs.Outcome.{Outcome}
 use Rattle.recorded_space.specs.declared.exchange.Exchange.{Exchange}
-use Rattle.aml_meaning.specs.State.{State}
-use Rattle.aml_meaning.specs.Predefined.{fresh_as}
+use Rattle.aml_world.specs.state.State.{State}
+use Rattle.aml_world.specs.state.Predefined.{fresh_as}
 use Rattle.aml_laws.specs.Noted.{WithNotes, noted, fault_of, AllAnswered, RefusalTells, TellsNotes}
 use Rattle.aml_laws.proofs.CleanOutcomes.{Clean, CleanRefusal}
 use Rattle.aml_laws.proofs.Noting.{noting}

@@ -6,18 +6,18 @@ use Rattle.ar_space.specs.Outcome.{Outcome, seen}
 use Rattle.ar_space.specs.declared.refusal.Refusal.{Refusal}
 use Rattle.ar_tables.specs.declared.tables.Tables.{Tables}
 use Rattle.ar_tables.specs.FindTables.{tables_of}
-use Rattle.aml_meaning.specs.State.{State}
+use Rattle.aml_world.specs.state.State.{State}
 use Rattle.acpi_machine.specs.Calls.{initialized}
 use Rattle.aml_path.specs.declared.segment.Seg.{Seg}
 use Rattle.aml_path.specs.Text.{path_of_text}
-use Rattle.acpiroute_words.specs.declared.arguments.Argument.{Argument}
+use Rattle.acpiroute_shell.specs.declared.arguments.Argument.{Argument}
 use Rattle.acpiroute_lib.specs.EvalCommand.{given_argument, value_at, eval_answer}
 use Rattle.acpi_machine.specs.MachineStates.{MachineState, machine_of}
 use Rattle.machine_text.specs.MachineText.{machine_text}
 use Rattle.machine_text.specs.declared.machine_lines.MachineText.{MachineText}
-use Rattle.acpiroute_words.specs.declared.request.Asking.{Asking}
-use Rattle.acpiroute_words.specs.declared.request.Flags.{Flags}
-use Rattle.acpiroute_words.specs.declared.request.Question.TheVariants.{Route, Eval}
+use Rattle.acpiroute_shell.specs.declared.request.Asking.{Asking}
+use Rattle.acpiroute_shell.specs.declared.request.Flags.{Flags}
+use Rattle.acpiroute_shell.specs.declared.request.Question.TheVariants.{Route, Eval}
 use Rattle.acpiroute_lib.specs.RunEnds.{options_of, evaluates, after_loading, asks, started, loaded_over, run_of}
 use Rattle.acpiroute_lib.specs.Machines.{Registers, register_accesses, registers_of, initialized_left}
 use Rattle.acpiroute_lib.specs.RouteCommand.{IsRoutedOn, IsRouteAnswer}

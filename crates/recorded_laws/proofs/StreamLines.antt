@@ -33,7 +33,7 @@ use Rattle.ar_space.specs.declared.refusal.ReportFault.{ReportFault}
 use Rattle.ar_space.specs.declared.refusal.ReportFault.TheVariants.{BadLine}
 use Rattle.ar_space.specs.declared.refusal.InputFault.{InputFault}
 use Rattle.ar_space.specs.declared.refusal.InputFault.TheVariants.{MachineLine, ReadFault, WriteFault, TextTooLong}
-use Rattle.acpiroute_words.specs.ErrorLines.{error_line}
+use Rattle.acpiroute_shell.specs.ErrorLines.{error_line}
 
 -- which of the three a line tells, by the digits behind `refused `
 abbrev by_digits : List ℕ → Option InputFault

@@ -6,9 +6,9 @@ use Rattle.ar_space.specs.Outcome.{Outcome}
 use Rattle.ar_tables.specs.declared.mode.Mode.{Mode}
 use Rattle.ar_tables.specs.declared.tables.Tables.{Tables}
 use Rattle.aml_path.specs.declared.segment.Seg.{Seg}
-use Rattle.aml_meaning.specs.Given as given
-use Rattle.aml_meaning.specs.Predefined.{fresh_as}
-use Rattle.aml_meaning.specs.State.{State}
+use Rattle.aml_world.specs.state.Given as given
+use Rattle.aml_world.specs.state.Predefined.{fresh_as}
+use Rattle.aml_world.specs.state.State.{State}
 use Rattle.acpi_machine.specs.MachineStates.{MachineState, sci_of}
 use Rattle.acpi_links.specs.Folds.{folded}
 use Rattle.acpi_links.specs.Gatherings.{Gathering, gathered}
@@ -21,19 +21,19 @@ use Rattle.acpi_configure.specs.WithOptions.{narrowed, found_by}
 use Rattle.route_model.specs.Avoided.{are_all_avoided}
 use Rattle.route_report.specs.Reports.{ReportedAfter}
 use Rattle.aml_laws.proofs.CleanOutcomes.{Clean, if_clean}
-use Rattle.acpiroute_words.specs.declared.arguments.Argument.{Argument}
-use Rattle.acpiroute_words.specs.declared.request.Evaluation.{Evaluation}
-use Rattle.acpiroute_words.specs.declared.request.Request.{Request}
-use Rattle.acpiroute_words.specs.declared.request.Request.TheVariants as request
-use Rattle.acpiroute_words.specs.CheckCommand.{Verdict, check_answer, IsCheckAnswer}
-use Rattle.acpiroute_words.specs.Written.{Written}
+use Rattle.acpiroute_shell.specs.declared.arguments.Argument.{Argument}
+use Rattle.acpiroute_shell.specs.declared.request.Evaluation.{Evaluation}
+use Rattle.acpiroute_shell.specs.declared.request.Request.{Request}
+use Rattle.acpiroute_shell.specs.declared.request.Request.TheVariants as request
+use Rattle.acpiroute_shell.specs.CheckCommand.{Verdict, check_answer, IsCheckAnswer}
+use Rattle.acpiroute_shell.specs.Written.{Written}
 use Rattle.acpiroute_lib.specs.Commands.{IsAnswer}
 use Rattle.acpiroute_lib.specs.EvalCommand.{value_at, evaluated_text, eval_answer}
 use Rattle.acpiroute_lib.specs.Machines.{Registers, register_accesses, registers_of, machine_left, machine_with, machine_of_text, initialized_left, initialized_machine, machine_of_text_in}
 use Rattle.acpiroute_lib.specs.NamesCommand.{names_answer}
 use Rattle.acpiroute_lib.specs.RouteCommand.{IsRouted, IsRoutedOn}
 use Rattle.acpiroute_lib.specs.WhyCommand.{IsWhyAnswer, IsRegistersAnswer}
-use Rattle.acpiroute_words.specs.declared.request.Asking.{Asking}
+use Rattle.acpiroute_shell.specs.declared.request.Asking.{Asking}
 use Rattle.ar_space.specs.declared.refusal.Refusal.{Refusal}
 use Rattle.machine_text.specs.MachineText.{machine_text}
 use Rattle.machine_laws.proofs.FaultsOfCalls.{evaluated_object_explains, initialized_explains}

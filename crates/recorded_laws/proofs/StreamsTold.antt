@@ -6,9 +6,9 @@ use Rattle.ar_space.specs.declared.refusal.InputFault.TheVariants.{MachineLine, 
 use Rattle.ar_space.specs.declared.refusal.Refusal.{Refusal}
 use Rattle.ar_space.specs.declared.refusal.Refusal.TheVariants.{Input}
 use Rattle.ar_space.specs.Outcome.{Outcome}
-use Rattle.acpiroute_words.specs.declared.request.Request.{Request}
-use Rattle.acpiroute_words.specs.Held.{Held}
-use Rattle.acpiroute_words.specs.Input.{input_of}
+use Rattle.acpiroute_shell.specs.declared.request.Request.{Request}
+use Rattle.acpiroute_shell.specs.Held.{Held}
+use Rattle.acpiroute_shell.specs.Input.{input_of}
 use Rattle.acpiroute_lib.specs.Causes.{IsOwnRefusal, IsCause, TellsCause}
 use Rattle.acpiroute_lib.specs.Commands.{IsAnswer}
 use Rattle.acpiroute_lib.specs.Runs.{IsAnswerOver, Ran}

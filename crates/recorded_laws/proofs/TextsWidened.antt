@@ -7,18 +7,18 @@ use Rattle.ar_tables.specs.declared.tables.Tables.{Tables}
 use Rattle.ar_tables.specs.FindTables.{tables_of}
 use Rattle.aml_path.specs.declared.segment.Seg.{Seg}
 use Rattle.aml_path.specs.Text.{path_of_text}
-use Rattle.aml_meaning.specs.Given.{Given}
-use Rattle.aml_meaning.specs.State.{State}
-use Rattle.aml_meaning.specs.Predefined.{fresh_as}
+use Rattle.aml_world.specs.state.Given.{Given}
+use Rattle.aml_world.specs.state.State.{State}
+use Rattle.aml_world.specs.state.Predefined.{fresh_as}
 use Rattle.aml_laws.specs.Widened.{widened, IsLeftOut, IsLeftOutAt}
 use Rattle.acpi_machine.specs.Calls.{evaluated_object, initialized}
 use Rattle.acpi_machine.specs.Loading.{loaded_tables}
 use Rattle.acpi_machine.specs.MachineStates.{MachineState}
 use Rattle.acpi_configure.specs.Options.{RunOptions}
 use Rattle.machine_text.specs.MachineText.{machine_text}
-use Rattle.acpiroute_words.specs.Written.{Written}
-use Rattle.acpiroute_words.specs.declared.arguments.Argument.{Argument}
-use Rattle.acpiroute_words.specs.declared.request.Evaluation.{Evaluation}
+use Rattle.acpiroute_shell.specs.Written.{Written}
+use Rattle.acpiroute_shell.specs.declared.arguments.Argument.{Argument}
+use Rattle.acpiroute_shell.specs.declared.request.Evaluation.{Evaluation}
 use Rattle.acpiroute_lib.specs.EvalCommand.{given_argument, value_at, value_written, evaluated_text, eval_answer}
 use Rattle.acpiroute_lib.specs.Machines.{Registers, register_accesses, registers_of, machine_left, machine_with, machine_of_text, initialized_left, initialized_machine, machine_of_text_in}
 use Rattle.acpiroute_lib.specs.NamesCommand.{names_of_machine, names_answer}

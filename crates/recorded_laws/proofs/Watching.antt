@@ -6,14 +6,14 @@ use Rattle.ar_space.specs.Change.{go_on, ◌>>=◌}
 use Rattle.ar_space.specs.Outcome.{Outcome}
 use Rattle.ar_tables.specs.declared.tables.Tables.{Tables}
 use Rattle.ar_tables.specs.declared.mode.Mode.{Mode}
-use Rattle.aml_meaning.specs.Predefined.{fresh_as}
-use Rattle.aml_meaning.specs.State.{State}
+use Rattle.aml_world.specs.state.Predefined.{fresh_as}
+use Rattle.aml_world.specs.state.State.{State}
 use Rattle.acpi_configure.specs.Options.{RunOptions}
 use Rattle.acpi_machine.specs.MachineStates.{MachineState, machine_of, sci_of}
-use Rattle.acpiroute_words.specs.declared.arguments.Argument.{Argument}
-use Rattle.acpiroute_words.specs.declared.request.Asking.{Asking}
-use Rattle.acpiroute_words.specs.declared.request.Question.{Question}
-use Rattle.acpiroute_words.specs.declared.request.Question.TheVariants.{Route, Eval}
+use Rattle.acpiroute_shell.specs.declared.arguments.Argument.{Argument}
+use Rattle.acpiroute_shell.specs.declared.request.Asking.{Asking}
+use Rattle.acpiroute_shell.specs.declared.request.Question.{Question}
+use Rattle.acpiroute_shell.specs.declared.request.Question.TheVariants.{Route, Eval}
 use Rattle.acpiroute_lib.specs.RunEnds.{options_of, dropped, after_loading, finds, evaluates, asks, started, loaded_over, run_of}
 use Rattle.watched_space.specs.Watching.{Watch, watched}
 use Rattle.aml_laws.proofs.Together.{SideBySide, Goes, Together, alike, goes_from, none_ended, plain, settle_together, then_together, wrapped_together}

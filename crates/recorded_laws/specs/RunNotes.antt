@@ -4,7 +4,7 @@ use Rattle.ar_space.specs.Accesses.{Accesses}
 use Rattle.ar_space.specs.Change.{Change}
 use Rattle.ar_space.specs.Outcome.{Outcome}
 use Rattle.recorded_space.specs.declared.exchange.Exchange.{Exchange}
-use Rattle.aml_meaning.specs.State.{State}
+use Rattle.aml_world.specs.state.State.{State}
 use Rattle.aml_laws.specs.Noted.{WithNotes, noted, AllAnswered, TellsNotes}
 use Rattle.acpi_machine.specs.Calls.{initialized}
 use Rattle.acpi_machine.specs.MachineStates.{MachineState, machine_of}

@@ -3,7 +3,7 @@ use Rattle.std.specs.Prelude.{◌≡◌, ℕ, Bool, true, false, List, Err}
 use Rattle.ar_space.specs.declared.refusal.Refusal.{Refusal}
 use Rattle.ar_space.specs.declared.refusal.Refusal.TheVariants.{Input}
 use Rattle.ar_space.specs.declared.refusal.InputFault.TheVariants.{ReadFault, WriteFault, TextTooLong}
-use Rattle.acpiroute_words.specs.Input.{input_of}
+use Rattle.acpiroute_shell.specs.Input.{input_of}
 
 -- a refusal tells of a write only where one failed, of a read only where one failed and no write did, and of the length only where the
 -- input is too long

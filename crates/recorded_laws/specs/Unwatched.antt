@@ -1,5 +1,5 @@
 -- A machine over the register space below the one that keeps its last access.
-use Rattle.aml_meaning.specs.State.{State}
+use Rattle.aml_world.specs.state.State.{State}
 use Rattle.acpi_machine.specs.MachineStates.{MachineState}
 use Rattle.watched_space.specs.Watching.{Watch}
 

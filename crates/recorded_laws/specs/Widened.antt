@@ -2,14 +2,14 @@
 use Rattle.std.specs.Prelude.{◌≡◌, ◌⊎◌, true, Ok, Err}
 use Rattle.ar_space.specs.Outcome.{Outcome}
 use Rattle.ar_space.specs.declared.refusal.Refusal.{Refusal}
-use Rattle.aml_meaning.specs.declared.profile.Profile.TheVariants as profile
-use Rattle.aml_meaning.specs.PassedOver.{is_passable}
+use Rattle.aml_world.specs.declared.state.profile.Profile.TheVariants as profile
+use Rattle.aml_world.specs.state.PassedOver.{is_passable}
 use Rattle.acpi_machine.specs.MachineStates.{MachineState}
 use Rattle.acpi_configure.specs.Options.{RunOptions}
 use Rattle.route_report.specs.Reports.{RoutingReport}
 use Rattle.recorded_route.specs.declared.settings.Settings.{Settings}
-use Rattle.acpiroute_words.specs.Written.{Written}
-use Rattle.acpiroute_words.specs.declared.request.Evaluation.{Evaluation}
+use Rattle.acpiroute_shell.specs.Written.{Written}
+use Rattle.acpiroute_shell.specs.declared.request.Evaluation.{Evaluation}
 use Rattle.acpiroute_lib.specs.Machines.{Registers}
 use Rattle.acpiroute_lib.specs.RouteCommand.{IsReportOf}
 use Rattle.machine_laws.specs.Widened.{Withheld, TellsNothingLeftOut}

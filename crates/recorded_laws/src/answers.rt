@@ -5,10 +5,10 @@ ghost use Rattle.ar_space.specs.declared.refusal.InputFault.TheVariants.{Machine
 ghost use Rattle.ar_space.specs.declared.refusal.InputFault.TheVariants.{TextTooLong};
 ghost use Rattle.ar_space.specs.declared.refusal.Refusal.{Refusal};
 ghost use Rattle.ar_space.specs.declared.refusal.Refusal.TheVariants.{Input};
-ghost use Rattle.acpiroute_words.specs.declared.request.Request.{Request};
-ghost use Rattle.acpiroute_words.specs.ErrorLines.{error_line};
-ghost use Rattle.acpiroute_words.specs.Held.{Held};
-ghost use Rattle.acpiroute_words.specs.Input.{input_of};
+ghost use Rattle.acpiroute_shell.specs.declared.request.Request.{Request};
+ghost use Rattle.acpiroute_shell.specs.ErrorLines.{error_line};
+ghost use Rattle.acpiroute_shell.specs.Held.{Held};
+ghost use Rattle.acpiroute_shell.specs.Input.{input_of};
 ghost use Rattle.acpiroute_lib.specs.Causes.{IsCause, TellsCause};
 ghost use Rattle.acpiroute_lib.specs.Commands.{IsAnswer};
 ghost use Rattle.acpiroute_lib.specs.Runs.{IsAnswerOver, Ran};

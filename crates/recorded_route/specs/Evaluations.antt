@@ -5,8 +5,8 @@ use Rattle.ar_space.specs.Outcome.{Outcome}
 use Rattle.ar_space.specs.Change.{Change, settle, ◌>>=◌, ◌>>◌}
 use Rattle.ar_tables.specs.declared.tables.Tables.{Tables}
 use Rattle.aml_path.specs.Text.{path_of_text}
-use Rattle.aml_meaning.specs.Given.{Given}
-use Rattle.aml_meaning.specs.State.{State}
+use Rattle.aml_world.specs.state.Given.{Given}
+use Rattle.aml_world.specs.state.State.{State}
 use Rattle.acpi_machine.specs.Calls.{initialized, evaluated_object}
 use Rattle.acpi_machine.specs.MachineStates.{MachineState, machine_of}
 use Rattle.recorded_route.specs.declared.settings.Settings.{Settings}

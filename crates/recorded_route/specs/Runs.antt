@@ -11,8 +11,8 @@ use Rattle.ar_space.specs.Outcome.{Outcome, ◌>>=◌}
 use Rattle.ar_tables.specs.declared.tables.Tables.{Tables}
 use Rattle.ar_tables.specs.FindTables.{tables_of}
 use Rattle.machine_text.specs.MachineText.{machine_text}
-use Rattle.aml_meaning.specs.State.{State}
-use Rattle.aml_meaning.specs.Predefined.{fresh_as}
+use Rattle.aml_world.specs.state.State.{State}
+use Rattle.aml_world.specs.state.Predefined.{fresh_as}
 use Rattle.acpi_machine.specs.Calls.{initialized}
 use Rattle.acpi_machine.specs.Loading.{loaded_tables}
 use Rattle.acpi_machine.specs.MachineStates.{MachineState, machine_of}

@@ -2,7 +2,7 @@
 ghost use Rattle.std.specs.Prelude.{◌≡◌, map};
 ghost use Rattle.ar_space.specs.Outcome.{NotMemory, seen};
 ghost use Rattle.ar_space.specs.Change.{Does};
-ghost use Rattle.aml_meaning.specs.Given.{given_of};
+ghost use Rattle.aml_world.specs.state.Given.{given_of};
 ghost use Rattle.recorded_space.specs.Recordings.{recorded};
 ghost use Rattle.recorded_route.specs.Evaluations.{object_of, machine_answer, answer_over, evaluation};
 ghost use Rattle.recorded_route.specs.Endings.{IsEvaluated, IsEvaluatedOfTables, IsEvaluatedOver, Leaves};
@@ -12,8 +12,8 @@ use crate::description::{Description, TablesInMemory, described, described_table
 use crate::ending::{Ending, WantedAccess, ending_of, wanted_of};
 use crate::settings::Settings;
 use acpi_machine::{Machine, load_tables_as};
-use aml_meaning::Datum;
 use aml_path::Path;
+use aml_world::Datum;
 use ar_space::{Refusal, Result, Space};
 use recorded_space::{Exchange, Recorded};
 use std::alloc::Global;

@@ -12,6 +12,7 @@ use Rattle.aml_path.specs.Paths.{path_cmp}
 use Rattle.route_model.specs.Links.{OfferingLink}
 use Rattle.route_model.proofs.Paths.{path_total}
 use Rattle.route_report.specs.Ordered.{link_order, wired_order, give_order}
+use Rattle.ar_space.proofs.Outcomes.{answering}
 
 both_equal : (o p : Ordering) → ordering_then o p ≡ Equal → (o ≡ Equal) × (p ≡ Equal)
 both_equal Less p e = absurd (cc e)
@@ -23,6 +24,8 @@ path_exact = slice_cmp-IsAntisymmetric seg_cmp_exact
 
 pub wired_exact : IsAntisymmetric wired_order
 wired_exact v w e = let b = both_equal (nat_cmp v.0 w.0) (nat_cmp v.1 w.1) e in ap₂ (λ (m n : ℕ). (m, n)) (nat_cmp-IsAntisymmetric v.0 w.0 b.0) (nat_cmp-IsAntisymmetric v.1 w.1 b.1)
+
+pub ruleset claiming = (answering, wired_exact)
 
 pub give_exact : IsAntisymmetric give_order
 give_exact g h e = let b = both_equal (path_cmp g.0 h.0) (nat_cmp g.1 h.1) e in ap₂ (λ (p : List Seg) (n : ℕ). (p, n)) (path_exact g.0 h.0 b.0) (nat_cmp-IsAntisymmetric g.1 h.1 b.1)

@@ -185,7 +185,7 @@ impl Draft {
     }
 
     /// The claim, each of its lists in order, of a report that has n - 1 lines.
-    #[tactic(auto, using(ar_space::proofs::Outcomes::answering, crate::proofs::Orders::wired_exact), unfolding(crate::specs::Reading::claimed))]
+    #[tactic(auto, using(crate::proofs::Orders::claiming), unfolding(crate::specs::Reading::claimed))]
     pub(crate) fn claim(self, n: usize) -> Result<Claim>
         ensures { Answers result (claimed n self) }
     {

@@ -21,6 +21,7 @@ mod words;
 pub use acpi_resources::{Form, Polarity};
 pub use ar_tables::Mode;
 pub use printing::print;
+pub use put::path_text;
 pub use reading::read;
 pub use report::{
     After, AfterLine, BusLine, BusState, InterruptSource, IoApicLine, LinkLine, OptionLines,

@@ -29,7 +29,7 @@ pub(crate) fn number(text: &mut Vec<u8>, number: u32) -> Result<(), AllocError>
 }
 
 /// The text of a path, which is refused only where memory runs out.
-fn path_text(alloc: Global, path: &Path) -> Result<String, AllocError>
+pub fn path_text(alloc: Global, path: &Path) -> Result<String, AllocError>
     ensures { IfOk result (λ t. string_bytes t ≡ text_of path.now) }
 {
     match path.text(alloc) {

@@ -1,6 +1,6 @@
 use Rattle.std.proofs.Common.{◌∙◌}
 use Rattle.std.specs.Prelude.{map}
-use Rattle.aml_meaning.specs.Given.{given_of}
+use Rattle.aml_world.specs.state.Given.{given_of}
 use Rattle.acpi_explain.proofs.Called.{called_none, called_ok, called_err}
 use Rattle.acpi_explain.proofs.Paths.{stands_key}
 use Rattle.acpi_explain.proofs.calls.call_at.Goals as goal

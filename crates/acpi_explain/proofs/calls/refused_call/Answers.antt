@@ -1,7 +1,7 @@
 use Rattle.std.proofs.Common.{ap, subst}
 use Rattle.std.specs.Prelude.{[], ◌∷◌, map}
-use Rattle.aml_meaning.specs.Given.{given_of}
-use Rattle.aml_meaning.specs.Given as given
+use Rattle.aml_world.specs.state.Given.{given_of}
+use Rattle.aml_world.specs.state.Given as given
 use Rattle.acpi_machine.specs.Calls.{mode_number}
 use Rattle.acpi_explain.specs.Refused.{TellsRefused}
 use Rattle.acpi_explain.specs.Stages.{InitialPaths}

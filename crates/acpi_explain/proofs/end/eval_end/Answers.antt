@@ -1,4 +1,4 @@
-use Rattle.aml_meaning.specs.Given.{given_of}
+use Rattle.aml_world.specs.state.Given.{given_of}
 use Rattle.acpi_explain.proofs.end.eval_end.Goals as goal
 
 pub returns-in-Ok-evaluate_object : goal.returns-in-Ok-evaluate_object

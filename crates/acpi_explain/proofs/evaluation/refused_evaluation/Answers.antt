@@ -1,5 +1,5 @@
 use Rattle.std.specs.Prelude.{map}
-use Rattle.aml_meaning.specs.Given.{given_of}
+use Rattle.aml_world.specs.state.Given.{given_of}
 use Rattle.acpi_explain.proofs.Halted.{evaluation_told}
 use Rattle.acpi_explain.proofs.evaluation.refused_evaluation.Goals as goal
 

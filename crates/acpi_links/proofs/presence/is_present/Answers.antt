@@ -1,5 +1,5 @@
 use Rattle.std.proofs.Common.{map, ap}
-use Rattle.aml_meaning.specs.Given.{given_of}
+use Rattle.aml_world.specs.state.Given.{given_of}
 use Rattle.acpi_links.proofs.Stopped.{present_made}
 use Rattle.acpi_links.proofs.presence.is_present.Goals as goal
 

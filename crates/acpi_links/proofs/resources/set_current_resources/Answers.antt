@@ -1,5 +1,5 @@
 use Rattle.acpi_links.proofs.Stopped.{does_set, does_not_set, set_made}
-use Rattle.aml_meaning.specs.Given.{given_of}
+use Rattle.aml_world.specs.state.Given.{given_of}
 use Rattle.acpi_links.proofs.resources.set_current_resources.Goals as goal
 
 pub returns-in_err-answer-clause-value : goal.returns-in_err-answer-clause-value

@@ -1,6 +1,6 @@
 use Rattle.std.proofs.Common.{length}
 use Rattle.ar_space.specs.Change.{Same}
-use Rattle.aml_meaning.specs.Fields.{bus_behind_all}
+use Rattle.aml_world.specs.fields.Fields.{bus_behind_all}
 use Rattle.acpi_machine.specs.Buses.{address_part}
 use Rattle.acpi_machine.proofs.buses.bus_behind_all.Given as goal
 

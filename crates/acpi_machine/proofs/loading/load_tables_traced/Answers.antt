@@ -21,7 +21,7 @@ pub returns-in-Err-load_all-clause-refusal : goal.returns-in-Err-load_all-clause
 returns-in-Err-load_all-clause-refusal g c = λ ne. ap (λ p. p.0) ((all_done _ _ _ _ _ _ _ (rw (← c.deref.ensures.value) c.in-Ok.ensures.answer) c.in-Ok-with_settings.ensures.world c.in-Err-load_all.ensures).is ne)
 
 pub returns-in-Err-load_all-clause-space : goal.returns-in-Err-load_all-clause-space
-returns-in-Err-load_all-clause-space g c = λ ne. ap (λ p. p.1.space) ((all_done _ _ _ _ _ _ _ (rw (← c.deref.ensures.value) c.in-Ok.ensures.answer) c.in-Ok-with_settings.ensures.world c.in-Err-load_all.ensures).is ne) ∙ sym c.into_parts-space.ensures.space
+returns-in-Err-load_all-clause-space g c = λ ne. ap (λ p. p.1.space) ((all_done _ _ _ _ _ _ _ (rw (← c.deref.ensures.value) c.in-Ok.ensures.answer) c.in-Ok-with_settings.ensures.world c.in-Err-load_all.ensures).is ne) ∙ sym c.parts_of-space.ensures.space
 
 pub returns-in-Err-clause-passed : goal.returns-in-Err-clause-passed
 returns-in-Err-clause-passed g c = λ ne. texts_refused_passed _ _ _ _ _ _ (rw (← c.deref.ensures.value) c.in-Err.ensures.answer) ne ∙ sym c.new-in-Err.ensures
@@ -30,4 +30,4 @@ pub returns-in-Err-with_settings-clause-passed : goal.returns-in-Err-with_settin
 returns-in-Err-with_settings-clause-passed g c = λ ne. names_refused_passed _ _ _ _ _ _ (rw (← c.deref.ensures.value) c.in-Ok.ensures.answer) (c.in-Err-with_settings.ensures.refusal ne) ∙ sym c.new-in-Err-with_settings-2.ensures
 
 pub returns-in-Err-load_all-clause-passed : goal.returns-in-Err-load_all-clause-passed
-returns-in-Err-load_all-clause-passed g c = λ ne. ap (λ p. p.1.passed) ((all_done _ _ _ _ _ _ _ (rw (← c.deref.ensures.value) c.in-Ok.ensures.answer) c.in-Ok-with_settings.ensures.world c.in-Err-load_all.ensures).is ne) ∙ sym c.into_parts-space.ensures.passed
+returns-in-Err-load_all-clause-passed g c = λ ne. ap (λ p. p.1.passed) ((all_done _ _ _ _ _ _ _ (rw (← c.deref.ensures.value) c.in-Ok.ensures.answer) c.in-Ok-with_settings.ensures.world c.in-Err-load_all.ensures).is ne) ∙ sym c.parts_of-space.ensures.passed

@@ -1,7 +1,7 @@
 use Rattle.std.proofs.Common.{map, ap, rules, ◌++◌, ◌∷◌, [], Ok}
 use Rattle.ar_space.specs.Change.{give}
 use Rattle.ar_space.proofs.Changes.{changing, does_ok, does_made}
-use Rattle.aml_meaning.specs.Given.{given_of}
+use Rattle.aml_world.specs.state.Given.{given_of}
 use Rattle.acpi_machine.specs.Buses.{prt}
 use Rattle.acpi_machine.proofs.Stopping.{stops_first, none_made}
 use Rattle.acpi_prt.specs.RoutingTables.{routing_table}

@@ -1,7 +1,7 @@
 use Rattle.std.proofs.Common.{map, arith}
 use Rattle.ar_space.proofs.Changes.{does_same, does_seen_err, same_ok}
 use Rattle.std.proofs.lemmas.List.{length-map}
-use Rattle.aml_meaning.specs.Given.{given_of}
+use Rattle.aml_world.specs.state.Given.{given_of}
 use Rattle.acpi_machine.specs.Stops.{AllOrNone}
 use Rattle.acpi_machine.proofs.Stopping.{none_made, stops_here, stops_in, goes_on}
 use Rattle.acpi_prt.specs.RoutingTables.{pin_of}

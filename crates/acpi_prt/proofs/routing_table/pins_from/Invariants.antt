@@ -1,6 +1,6 @@
 use Rattle.std.proofs.Common.{map, drop, []}
 use Rattle.ar_space.specs.Change.{Same}
-use Rattle.aml_meaning.specs.Given.{given_of}
+use Rattle.aml_world.specs.state.Given.{given_of}
 use Rattle.acpi_machine.proofs.Stopping.{Goes}
 use Rattle.acpi_prt.specs.RoutingTables.{pins_from}
 use Rattle.acpi_prt.specs.Stops.{StopsInEntries}

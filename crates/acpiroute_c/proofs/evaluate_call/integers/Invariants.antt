@@ -1,5 +1,5 @@
 use Rattle.std.proofs.Common.{◌≡◌, map, take}
-use Rattle.aml_meaning.specs.Given as given
+use Rattle.aml_world.specs.state.Given as given
 use Rattle.acpiroute_c.proofs.evaluate_call.integers.Given as goal
 
 abbrev pub invariant-loop-n : goal.invariant-loop-n

@@ -1,7 +1,7 @@
 use Rattle.std.proofs.Common.{◌∙◌, ap, refl, sym}
 use Rattle.std.specs.Prelude.{map, Some}
 use Rattle.aml_path.specs.Text.{path_of_text}
-use Rattle.aml_meaning.specs.Given.{given_of}
+use Rattle.aml_world.specs.state.Given.{given_of}
 use Rattle.acpi_explain.specs.declared.told.Phase.TheVariants.{Running}
 use Rattle.acpiroute_lib.proofs.Endings.{named, bad_name}
 use Rattle.acpiroute_lib.proofs.Phases.{phase_named, phase_unnamed}

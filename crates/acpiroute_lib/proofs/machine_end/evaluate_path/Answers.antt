@@ -1,5 +1,5 @@
 use Rattle.std.specs.Prelude.{map, Some}
-use Rattle.aml_meaning.specs.Given.{given_of}
+use Rattle.aml_world.specs.state.Given.{given_of}
 use Rattle.acpi_machine.specs.Calls.{evaluated_object}
 use Rattle.acpi_explain.specs.declared.told.Phase.TheVariants.{Running}
 use Rattle.acpiroute_lib.specs.RunEnds.{dropped}

@@ -1,5 +1,5 @@
 use Rattle.std.proofs.Common.{rules}
-use Rattle.aml_meaning.specs.Given.{given_of}
+use Rattle.aml_world.specs.state.Given.{given_of}
 use Rattle.acpiroute_lib.proofs.Packages.{more_elements}
 use Rattle.acpiroute_lib.proofs.value_text.+values.Goals as goal
 

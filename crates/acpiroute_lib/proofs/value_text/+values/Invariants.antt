@@ -1,5 +1,5 @@
 use Rattle.std.proofs.Common.{◌≡◌, ◌++◌, map, take}
-use Rattle.aml_meaning.specs.Given as given
+use Rattle.aml_world.specs.state.Given as given
 use Rattle.acpiroute_lib.specs.ValueText.{elements_text}
 use Rattle.acpiroute_lib.proofs.value_text.+values.Given as goal
 

@@ -1,5 +1,5 @@
 use Rattle.std.proofs.Common.{Err, refl}
-use Rattle.aml_meaning.specs.Regions.{integer_only}
+use Rattle.aml_world.specs.fields.Regions.{integer_only}
 use Rattle.aml_accesses.proofs.Addressing.{asks_unsettled}
 use Rattle.aml_accesses.proofs.asking.known.Goals as goal
 

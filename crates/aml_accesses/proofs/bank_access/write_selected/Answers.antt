@@ -1,6 +1,6 @@
 use Rattle.std.proofs.Common.{ap, ℕ, ◌∙◌, refl, rules, arith}
 use Rattle.aml_accesses.proofs.BankSteps.{bank_by_bank}
-use Rattle.aml_meaning.specs.State.{State}
+use Rattle.aml_world.specs.state.State.{State}
 use Rattle.aml_frames.proofs.Lent.{leads_accessed_ok, leads_accessed_err}
 use Rattle.aml_accesses.proofs.bank_access.write_selected.Goals as goal
 

@@ -1,6 +1,6 @@
 use Rattle.std.proofs.Common.{ap, ℕ, ◌∙◌, refl, rules, arith}
 use Rattle.aml_frames.proofs.Stepping.{stepping}
-use Rattle.aml_meaning.specs.State.{State}
+use Rattle.aml_world.specs.state.State.{State}
 use Rattle.aml_frames.specs.Addresses.{bridge_known}
 use Rattle.aml_frames.proofs.Lent.{leads_accessed_ok, leads_accessed_err}
 use Rattle.aml_accesses.proofs.bridges.pass_bridge.Goals as goal

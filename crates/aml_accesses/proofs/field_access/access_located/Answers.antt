@@ -1,6 +1,6 @@
 use Rattle.std.proofs.Common.{ap, ℕ, ◌∙◌, refl, rules, arith}
 use Rattle.aml_accesses.proofs.Addressing.{reading_as}
-use Rattle.aml_meaning.specs.State.{State}
+use Rattle.aml_world.specs.state.State.{State}
 use Rattle.aml_frames.proofs.Lent.{leads_accessed_ok}
 use Rattle.aml_accesses.proofs.field_access.access_located.Goals as goal
 

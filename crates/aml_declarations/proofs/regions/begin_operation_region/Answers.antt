@@ -1,5 +1,5 @@
 use Rattle.std.proofs.Common.{◌<◌, rules, arith}
-use Rattle.aml_marked.specs.Marked.{a_name}
+use Rattle.aml_marks.specs.Marked.{a_name}
 use Rattle.aml_declarations.proofs.DeclaringFields.{byte_read, leads_operation_region}
 use Rattle.aml_declarations.proofs.regions.begin_operation_region.Goals as goal
 

@@ -1,6 +1,6 @@
 use Rattle.std.proofs.Common.{rules, ap, sym, ◌∙◌}
 use Rattle.ar_space.specs.Change.{stop}
-use Rattle.aml_meaning.specs.Invocations.{left}
+use Rattle.aml_world.specs.state.Invocations.{left}
 use Rattle.aml_meaning.specs.Meaning.{meaning}
 use Rattle.aml_frames.specs.Stack.{then_all}
 use Rattle.aml_evaluation.proofs.Machine.{popped_frame, popped_item, popped_leave}

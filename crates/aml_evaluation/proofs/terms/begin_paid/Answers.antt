@@ -1,5 +1,5 @@
 use Rattle.std.proofs.Common.{false, rules, arith}
-use Rattle.aml_marked.specs.Marked.{count_at}
+use Rattle.aml_marks.specs.Marked.{count_at}
 use Rattle.aml_frames.proofs.Stepping.{leads_begun}
 use Rattle.aml_evaluation.proofs.terms.begin_paid.Goals as goal
 

@@ -3,7 +3,7 @@ use Rattle.aml_fields.specs.Bits.{bits_of, bits_from, extended, bytes_within, pu
 use Rattle.aml_fields.proofs.Numbers.{take_whole}
 use Rattle.aml_fields.specs.Units.{units_of}
 use Rattle.aml_fields.proofs.UnitLoops.{Reading, reading_starts, reading_goes_on, reading_stops, reading_ends}
-use Rattle.aml_meaning.specs.Fields.{bank_unit}
+use Rattle.aml_world.specs.fields.Fields.{bank_unit}
 use Rattle.aml_meaning.specs.Meaning.{meaning}
 use Rattle.aml_frames.specs.Uses.{asking}
 use Rattle.aml_interp.proofs.bank_fields.bank_reads.Goals as goal

@@ -1,6 +1,6 @@
 use Rattle.std.proofs.Common.{◌≡◌}
 use Rattle.aml_fields.proofs.UnitLoops.{Reading}
-use Rattle.aml_meaning.specs.Fields.{bank_unit}
+use Rattle.aml_world.specs.fields.Fields.{bank_unit}
 use Rattle.aml_meaning.specs.Meaning.{meaning}
 use Rattle.aml_frames.specs.Uses.{asking}
 use Rattle.aml_interp.proofs.bank_fields.bank_reads.Given as goal

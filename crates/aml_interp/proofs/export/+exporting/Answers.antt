@@ -1,7 +1,7 @@
 use Rattle.std.proofs.Common.{ap, ◌∙◌, arith, map}
 use Rattle.std.proofs.lemmas.List.{map-append}
 use Rattle.ar_space.proofs.Changes.{does_same, does_seen_err, same_ok}
-use Rattle.aml_meaning.specs.Given.{given_of}
+use Rattle.aml_world.specs.state.Given.{given_of}
 use Rattle.aml_meaning.proofs.Exports.{same_each, same_more, each_end}
 use Rattle.aml_meaning.specs.Exporting.{package_exported}
 use Rattle.aml_interp.proofs.export.+exporting.Goals as goal

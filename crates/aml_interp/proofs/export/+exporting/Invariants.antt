@@ -1,6 +1,6 @@
 use Rattle.std.proofs.Common.{◌+◌, ◌*◌, [], drop, map}
 use Rattle.ar_space.specs.Change.{Same}
-use Rattle.aml_meaning.specs.Given.{given_of}
+use Rattle.aml_world.specs.state.Given.{given_of}
 use Rattle.aml_meaning.specs.Exporting.{each_exported, package_exported}
 use Rattle.aml_interp.proofs.export.+exporting.Given as goal
 

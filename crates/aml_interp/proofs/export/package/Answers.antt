@@ -1,6 +1,6 @@
 use Rattle.std.proofs.Common.{rules}
-use Rattle.aml_meaning.specs.declared.datum.Datum.{the_lemmas}
-use Rattle.aml_meaning.proofs.GivenRows.{row_is_list}
+use Rattle.aml_world.specs.declared.state.datum.Datum.{the_lemmas}
+use Rattle.aml_world.proofs.GivenRows.{row_is_list}
 use Rattle.aml_interp.proofs.export.package.Goals as goal
 
 pub returns : goal.returns

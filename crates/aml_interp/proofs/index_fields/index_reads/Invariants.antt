@@ -1,6 +1,6 @@
 use Rattle.std.proofs.Common.{◌≡◌}
 use Rattle.aml_fields.proofs.UnitLoops.{Reading}
-use Rattle.aml_meaning.specs.Fields.{index_unit}
+use Rattle.aml_world.specs.fields.Fields.{index_unit}
 use Rattle.aml_meaning.specs.Meaning.{meaning}
 use Rattle.aml_frames.specs.Uses.{asking}
 use Rattle.aml_interp.proofs.index_fields.index_reads.Given as goal

@@ -2,8 +2,8 @@ use Rattle.std.specs.Prelude.{◌≡◌, OnErr}
 use Rattle.std.proofs.Common.{subst}
 use Rattle.ar_space.specs.Outcome.{Answers, seen}
 use Rattle.aml_grammar.specs.Grammar.{table_reading_within}
-use Rattle.aml_marked.specs.Marked.{trees_by}
-use Rattle.aml_meaning.specs.declared.settings.Nesting.{Nesting}
+use Rattle.aml_marks.specs.Marked.{trees_by}
+use Rattle.aml_world.specs.declared.state.settings.Nesting.{Nesting}
 use Rattle.aml_interp.proofs.Tables.{table_read}
 use Rattle.aml_interp.proofs.readings.read_table.Goals as goal
 

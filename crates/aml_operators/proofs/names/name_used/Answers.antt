@@ -1,4 +1,4 @@
-use Rattle.aml_meaning.proofs.Uses.{does_use}
+use Rattle.aml_world.proofs.Uses.{does_use}
 use Rattle.aml_operators.proofs.names.name_used.Goals as goal
 
 pub returns-in-Some : goal.returns-in-Some

@@ -55,11 +55,11 @@ returns-in-Test g c = record {
   ends = search rules;
 }
 
-pub returns-in-LogicalNot : goal.returns-in-LogicalNot
-returns-in-LogicalNot g c = record {
+pub returns-in-LNot : goal.returns-in-LNot
+returns-in-LNot g c = record {
   spent = omega arith;
   falls = first_of (search rules, grind arith);
-  means = rw c.in-LogicalNot.is (leads_on (next.Term c.args.levels (frames.Operand monadic.LogicalNot c.args.levels)) c.args.act.now _ c.begin_monadic-in-LogicalNot.ensures.steps.means (leads_not c.args.levels));
+  means = rw c.in-LNot.is (leads_on (next.Term c.args.levels (frames.Operand monadic.LNot c.args.levels)) c.args.act.now _ c.begin_monadic-in-LNot.ensures.steps.means (leads_not c.args.levels));
   ends = search rules;
 }
 

@@ -1,5 +1,5 @@
 use Rattle.std.proofs.Common.{◌∙◌, ap, arith, sym, rules}
-use Rattle.aml_frames.specs.ShortTerms.{is_made}
+use Rattle.aml_frames.specs.at_once.ShortTerms.{is_made}
 use Rattle.aml_frames.proofs.ShortTerms.{charged_one}
 use Rattle.aml_declarations.proofs.MadeValues.{done_begun, handed_on, refused_begun}
 use Rattle.aml_operators.proofs.short_values.made_value.Goals as goal

@@ -2,8 +2,8 @@ use Rattle.std.proofs.Common.{ℕ, Ok, refl, rules, arith}
 use Rattle.ar_space.specs.Accesses.{Accesses}
 use Rattle.ar_space.specs.Change.{give, settle, go_on, ◌>>=◌}
 use Rattle.aml_objects.specs.declared.value.Value.TheVariants as value
+use Rattle.aml_world.specs.state.State.{State}
 use Rattle.aml_meaning.specs.declared.flow.Flow.TheVariants as flow
-use Rattle.aml_meaning.specs.State.{State}
 use Rattle.aml_meaning.specs.Meaning.{meaning}
 use Rattle.aml_frames.specs.declared.frames.Frame.TheVariants as frames
 use Rattle.aml_frames.specs.declared.frames.Next.TheVariants as next

@@ -1,6 +1,6 @@
 use Rattle.std.specs.Prelude.{Ok}
 use Rattle.std.proofs.Common.{◌∙◌, ap}
-use Rattle.aml_meaning.specs.declared.object_type.Referent.{Referent}
+use Rattle.aml_world.specs.declared.values.object_type.Referent.{Referent}
 use Rattle.aml_targets.proofs.references.resume_referent.Goals as goal
 
 pub returns-clause-memory : goal.returns-clause-memory

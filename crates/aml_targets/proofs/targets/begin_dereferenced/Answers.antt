@@ -1,5 +1,5 @@
 use Rattle.std.proofs.Common.{false, rules, arith}
-use Rattle.aml_marked.specs.Marked.{count_at}
+use Rattle.aml_marks.specs.Marked.{count_at}
 use Rattle.aml_frames.proofs.Targeting.{leads_deref_paid, ends_deref}
 use Rattle.aml_targets.proofs.targets.begin_dereferenced.Goals as goal
 

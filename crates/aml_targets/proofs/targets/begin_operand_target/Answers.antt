@@ -1,5 +1,5 @@
 use Rattle.std.proofs.Common.{false, ap, ◌∙◌, rules, arith}
-use Rattle.aml_marked.specs.Marked.{count_at}
+use Rattle.aml_marks.specs.Marked.{count_at}
 use Rattle.aml_frames.specs.Uses.{target_ends}
 use Rattle.aml_frames.proofs.Targeting.{leads_ref_paid, ends_ref_of}
 use Rattle.aml_targets.proofs.targets.begin_operand_target.Goals as goal

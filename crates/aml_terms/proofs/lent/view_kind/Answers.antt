@@ -1,5 +1,5 @@
 use Rattle.std.proofs.Common.{refl}
-use Rattle.aml_marked.specs.Marked.{a_name, a_text, all_left, an_operand}
+use Rattle.aml_marks.specs.Marked.{a_name, a_text, all_left, an_operand}
 use Rattle.aml_terms.proofs.lent.view_kind.Goals as goal
 
 pub returns-in-NameString : goal.returns-in-NameString

@@ -1,5 +1,5 @@
 use Rattle.std.proofs.Common.{rules}
-use Rattle.aml_marked.specs.Marked.{a_name}
+use Rattle.aml_marks.specs.Marked.{a_name}
 use Rattle.aml_terms.proofs.lent.view_name_or_term.Goals as goal
 
 pub returns-then-starts_name : goal.returns-then-starts_name

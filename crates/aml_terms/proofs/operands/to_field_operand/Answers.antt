@@ -1,7 +1,7 @@
 use Rattle.std.proofs.Common.{◌∙◌, sym, ap}
 use Rattle.aml_grammar.specs.Tree.{Tree}
 use Rattle.aml_grammar.specs.Apart.{operand_of}
-use Rattle.aml_marked.specs.Marked.{Place, a_term, after, gives, a_reserved_field}
+use Rattle.aml_marks.specs.Marked.{Place, a_term, after, gives, a_reserved_field}
 use Rattle.aml_terms.proofs.FieldElements.{reserved, access, extended_access, named}
 use Rattle.aml_terms.proofs.operands.to_field_operand.Goals as goal
 

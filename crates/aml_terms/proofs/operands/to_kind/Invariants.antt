@@ -1,7 +1,7 @@
 use Rattle.std.proofs.Common.{◌≡◌, drop}
 use Rattle.aml_grammar.specs.Shape.{parts_of}
 use Rattle.aml_grammar.specs.Apart.{part_at}
-use Rattle.aml_marked.specs.Marked.{count_at, a_term, all_operands}
+use Rattle.aml_marks.specs.Marked.{count_at, a_term, all_operands}
 use Rattle.aml_terms.proofs.operands.to_kind.Given as goal
 
 abbrev pub invariant-operands : goal.invariant-operands

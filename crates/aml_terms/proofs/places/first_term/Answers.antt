@@ -2,9 +2,9 @@ use Rattle.std.specs.Prelude.{◌≡◌, ◌<◌, ◌≤◌, ◌-◌, ◌∷◌,
 use Rattle.std.proofs.Common.{◌∙◌, sym, ap, length-drop, arith}
 use Rattle.std.proofs.Math.Seq.{take-length}
 use Rattle.aml_grammar.specs.Tree.{Tree}
-use Rattle.aml_marked.specs.Marked.{Place, a_term, count_at, to_end, walk_levels}
-use Rattle.aml_marked.proofs.Walking.{one_more}
-use Rattle.aml_marked.proofs.Onward.{moves_on_term, takes_a_byte, place_in, next_place, ends_within}
+use Rattle.aml_marks.specs.Marked.{Place, a_term, count_at, to_end, walk_levels}
+use Rattle.aml_marks.proofs.Walking.{one_more}
+use Rattle.aml_marks.proofs.Onward.{moves_on_term, takes_a_byte, place_in, next_place, ends_within}
 use Rattle.aml_terms.specs.AtTree.{behind_of, place_at}
 use Rattle.aml_terms.proofs.places.first_term.Goals as goal
 

@@ -1,6 +1,6 @@
 use Rattle.std.proofs.Common.{◌≡◌, ◌+◌, ◌*◌, length, drop}
 use Rattle.std.specs.Prelude.{false}
-use Rattle.aml_marked.specs.Marked.{count_at, a_term, a_field, turns_of, to_end, all_operands}
+use Rattle.aml_marks.specs.Marked.{count_at, a_term, a_field, turns_of, to_end, all_operands}
 use Rattle.aml_terms.proofs.skip.+skip.Given as goal
 
 abbrev pub decreases-skip_long_term : goal.decreases-skip_long_term

@@ -2,7 +2,7 @@ use Rattle.std.specs.Prelude.{◌≡◌, ℕ, List, map}
 use Rattle.std.proofs.Common.{◌∙◌, ap, sym, Vec, Global}
 use Rattle.ar_tables.specs.declared.tables.Tables.{Tables}
 use Rattle.ar_space.specs.Outcome.{seen}
-use Rattle.aml_meaning.specs.Given.{given_of}
+use Rattle.aml_world.specs.state.Given.{given_of}
 use Rattle.recorded_space.specs.Recordings.{Recording, begun, recorded}
 use Rattle.recorded_route.specs.Runs.{Description}
 use Rattle.recorded_route.specs.Evaluations.{evaluation}

@@ -1,6 +1,6 @@
 use Rattle.std.proofs.Common.{sym, ap, inr, ◌∙◌}
 use Rattle.std.specs.Prelude.{◌≡◌, true, false}
-use Rattle.aml_meaning.specs.Given.{given_of}
+use Rattle.aml_world.specs.state.Given.{given_of}
 use Rattle.acpi_machine.specs.Calls.{evaluated_object}
 use Rattle.acpi_machine.proofs.Stopping.{made}
 use Rattle.acpi_machine.specs.MachineStates.{MachineState}

@@ -1,5 +1,5 @@
 use Rattle.std.proofs.Common.{◌∙◌, ap, sym, ◌-◌}
-use Rattle.aml_marked.specs.Marked.{a_term, with_row}
+use Rattle.aml_marks.specs.Marked.{a_term, with_row}
 use Rattle.aml_scan.specs.RowsAt.{row_at}
 use Rattle.aml_frames.specs.Places.{Site}
 use Rattle.aml_frames.proofs.Between.{term_taken}

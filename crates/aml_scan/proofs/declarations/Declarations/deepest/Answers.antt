@@ -1,6 +1,6 @@
 use Rattle.std.proofs.Common.{◌∙◌, ◌++◌, ap, length, List}
-use Rattle.aml_grammar.specs.declared.arities.Arity.{Arity}
-use Rattle.aml_grammar.specs.Arities.{greatest, is_known_below}
+use Rattle.aml_arities.specs.declared.arities.Arity.{Arity}
+use Rattle.aml_arities.specs.Arities.{greatest, is_known_below}
 use Rattle.aml_scan.proofs.Searches.{deepest_in_both}
 use Rattle.aml_scan.proofs.declarations.Declarations.deepest.Goals as goal
 

@@ -1,7 +1,7 @@
 use Rattle.std.proofs.Common.{◌≡◌, ◌∙◌, ◌++◌, ap, sym, length, take, List, Some, Ok}
 use Rattle.std.specs.Prelude.{option_map}
 use Rattle.aml_path.specs.declared.segment.Seg.{Seg}
-use Rattle.aml_grammar.specs.Arities.{is_known_below}
+use Rattle.aml_arities.specs.Arities.{is_known_below}
 use Rattle.aml_scan.proofs.Searches.{greatest_within, search_is}
 use Rattle.aml_scan.proofs.declarations.Declarations.search.Goals as goal
 

@@ -1,6 +1,0 @@
-use Rattle.std.proofs.Common.{◌≡◌, ◌++◌, drop, map, option_map}
-use Rattle.acpiroute_words.specs.Values.{arguments}
-use Rattle.acpiroute_words.proofs.values.arguments.Given as goal
-
-abbrev pub invariant-loop-text : goal.invariant-loop-text
-invariant-loop-text l = arguments (map (λ s. s.now) l.texts) ≡ option_map (λ ns. l.list.items ++ ns) (arguments (map (λ s. s.now) (drop l.text-index l.texts)))

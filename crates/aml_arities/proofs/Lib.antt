@@ -1,0 +1,3 @@
+pub mod PathTrees
+pub mod Counted
+pub mod Deepest

@@ -1,0 +1,3 @@
+pub mod Arities
+pub mod Counts
+pub mod PathTree

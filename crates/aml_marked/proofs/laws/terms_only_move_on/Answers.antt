@@ -1,5 +1,0 @@
-use Rattle.aml_marked.proofs.Onward.{moves_on_term, takes_a_byte}
-use Rattle.aml_marked.proofs.laws.terms_only_move_on.Goals as goal
-
-pub returns : goal.returns
-returns c = record { on = moves_on_term; byte = takes_a_byte }
