@@ -98,13 +98,7 @@ fn accesses(asked: &mut Exchange, machine: &Option<TracedMachine>) {
 
 /// The byte of a port.
 fn say_byte(asked: &mut Exchange, machine: &TracedMachine, port: u16) {
-    match machine
-        .world()
-        .space()
-        .inner()
-        .inner()
-        .byte(Place::Io(port))
-    {
+    match machine.space().inner().inner().byte(Place::Io(port)) {
         Some(byte) => asked.say_bytes(&[byte]),
         None => asked.say("none"),
     }
